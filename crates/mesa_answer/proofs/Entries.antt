@@ -24,7 +24,7 @@ use Rattle.mesa_schema.specs.Folded.{row_combined}
 use Rattle.mesa_schema.specs.Laws.{AreFull}
 use Rattle.mesa_schema.specs.Put.{put_row}
 use Rattle.mesa_answer.specs.Held.{ArePlaced, Entry, HasPlace, IsNotBehind, StandsAt, is_key, key_cmp, key_in, no_row, row_in, rows_in, value_at, values_in, with_values}
-use Rattle.mesa_answer.proofs.ColumnCuts.{take-front}
+use Rattle.mesa_answer.proofs.ColumnsAt.{take-front}
 
 -- ---- keys
 

@@ -8,7 +8,7 @@ use Rattle.mesa_schema.specs.declared.rows.Row.{Row}
 use Rattle.mesa_schema.specs.Folded.{row_combined}
 use Rattle.mesa_schema.specs.Put.{put_row}
 
-take-again : (n : ℕ) (rows : List Row) → take n (take n rows) ≡ take n rows
+pub take-again : (n : ℕ) (rows : List Row) → take n (take n rows) ≡ take n rows
 take-again zero rows = refl
 take-again (suc n) [] = refl
 take-again (suc n) (x ∷ xs) = ap (λ ys. x ∷ ys) (take-again n xs)

@@ -1,9 +1,10 @@
 pub mod Bounds
-pub mod ColumnCuts
-pub mod Cuts
+pub mod ColumnsAt
 pub mod Entries
 pub mod Firsts
 pub mod Forms
+pub mod Joined
+pub mod Joining
 pub mod Leaving
 pub mod Paging
 pub mod Parts
@@ -14,3 +15,4 @@ pub mod Results
 pub mod Seeking
 pub mod Steps
 pub mod ViewColumns
+pub mod Windows

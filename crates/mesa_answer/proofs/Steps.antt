@@ -38,7 +38,7 @@ after_before closed None rows row e = cc
 after_before closed (Some key) rows row e = filter-append (λ (r : Row). is_behind closed (Some key) r.key) rows (row ∷ []) ∙ ap (λ b. rows_behind closed (Some key) rows ++ cond b (row ∷ []) []) e ∙ append-nil _
 
 -- The groups behind a resume key are the groups of the rows whose group key is.
-after_folded : (closed : Bool) (resume : Option (List ℕ)) (aggs : List Agg) (rows : List Row) → rows_behind closed resume (folded aggs (rows ∷ [])) ≡ folded aggs (rows_behind closed resume rows ∷ [])
+pub after_folded : (closed : Bool) (resume : Option (List ℕ)) (aggs : List Agg) (rows : List Row) → rows_behind closed resume (folded aggs (rows ∷ [])) ≡ folded aggs (rows_behind closed resume rows ∷ [])
 after_folded closed None aggs rows = refl
 after_folded closed (Some key) aggs rows = filtered_folds (is_behind closed (Some key)) aggs (rows ∷ [])
 

@@ -5,7 +5,7 @@ use Rattle.mesa_schema.specs.declared.rows.Row.{Row}
 use Rattle.mesa_schema.specs.Columns.{aggs_of, chosen, kinds_of}
 use Rattle.mesa_schema.specs.Rows.{AreRowsOf}
 use Rattle.mesa_filter.specs.Query.{are_places}
-use Rattle.mesa_answer.specs.Cut.{IsCut}
+use Rattle.mesa_answer.specs.Window.{IsWindow}
 use Rattle.mesa_answer.specs.Gathering.{Wanted, first_groups}
 use Rattle.mesa_answer.specs.declared.groups.Groups.{Groups}
 
@@ -23,6 +23,6 @@ pub record HasPut (g : Groups) (given : List Row) : Type 0 where
   pub values : IsTrue (are_places g.schema.now.values g.values.now)
   pub form : AreRowsOf g.schema.now given
   pub kinds : g.kinds.items ≡ kinds_of g.schema.now
-  pub cut : IfSome g.cut (IsCut (kinds_of g.schema.now) g.columns.now g.values.now)
+  pub window : IfSome g.window (IsWindow (kinds_of g.schema.now) g.columns.now g.values.now)
   pub aggs : g.aggs.items ≡ chosen g.values.now (aggs_of g.schema.now)
   pub held : g.held ≡ first_groups (wanted_of g) given

@@ -1,8 +1,9 @@
 -- The first groups of rows.
-use Rattle.std.specs.Prelude.{ℕ, ◌+◌, Bool, false, true, List, [], Option, None, Some, filter, take}
+use Rattle.std.specs.Prelude.{◌≡◌, ℕ, ◌+◌, ◌++◌, Bool, false, true, List, [], Option, None, Some, filter, take}
 use Rattle.mesa_schema.specs.declared.rows.Row.{Row}
-use Rattle.mesa_schema.specs.Columns.{Columns}
+use Rattle.mesa_schema.specs.Columns.{Columns, aggs_of, chosen}
 use Rattle.mesa_schema.specs.Folded.{grouped}
+use Rattle.mesa_schema.specs.Put.{put_rows}
 use Rattle.mesa_filter.specs.Query.{BuiltQuery}
 use Rattle.mesa_answer.specs.Held.{is_behind}
 
@@ -31,3 +32,7 @@ rows_behind inclusive (Some key) rows = filter (λ row. is_behind inclusive (Som
 -- FirstGroups: of the groups of rows behind the resume key, the first.
 abbrev pub first_groups : Wanted → List Row → List Row
 first_groups w rows = take w.most (rows_behind w.inclusive w.resume (grouped w.schema w.columns w.values rows))
+
+-- The first groups of a whole are those of its parts' first groups, where those of the newer part are put behind those of the older one.
+abbrev pub JoinsFirst : Type 0
+JoinsFirst = (w : Wanted) (older newer : List Row) → first_groups w (older ++ newer) ≡ take w.most (put_rows (chosen w.values (aggs_of w.schema)) (first_groups w older) (first_groups w newer))

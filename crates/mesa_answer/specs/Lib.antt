@@ -1,7 +1,7 @@
 pub mod Answering
-pub mod Cut
 pub mod Gathered
 pub mod Gathering
 pub mod Held
 pub mod Regrouping
 pub mod Sums
+pub mod Window

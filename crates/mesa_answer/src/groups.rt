@@ -15,11 +15,11 @@ ghost use Rattle.mesa_answer.specs.Gathering.{first_groups, group_from, wanted_b
 ghost use Rattle.mesa_answer.specs.Held.{is_behind as comes_after};
 ghost use Rattle.mesa_answer.specs.Sums.{HasGroup, SumLeaves};
 
-use crate::cut::Cut;
 use crate::error::GroupError;
 use crate::hand::Hand;
 use crate::held::Held;
 use crate::page::page;
+use crate::window::Window;
 use mesa_filter::Query;
 use mesa_key::KeyType;
 use mesa_model::Page;
@@ -40,7 +40,7 @@ pub struct Groups<'a> {
     kinds: Vec<KeyType>,
     aggs: Vec<Agg>,
     // Where a group's key and values stand in one piece in each row. Then the row lends them, and no column is looked for.
-    cut: Option<Cut>,
+    window: Option<Window>,
     held: Held,
     hand: Hand,
 }
@@ -57,7 +57,7 @@ impl Drop for Groups<'_> {
             most: _,
             kinds: _,
             aggs: _,
-            cut: _,
+            window: _,
             held: _,
             hand: _,
         } = self;
@@ -108,7 +108,7 @@ impl<'a> Groups<'a> {
     {
         let kinds = kinds_in(alloc, schema.keys())?;
         let aggs = chosen_aggs(alloc, schema, values)?;
-        let cut = Cut::of(&kinds, columns, values);
+        let window = Window::of(&kinds, columns, values);
         Ok(Groups {
             schema,
             columns,
@@ -118,7 +118,7 @@ impl<'a> Groups<'a> {
             most,
             kinds,
             aggs,
-            cut,
+            window,
             held: Held::new(alloc),
             hand: Hand::new(alloc),
         })
@@ -136,8 +136,8 @@ impl<'a> Groups<'a> {
         // and only where the absolute values of the rows may add up to more than it holds.
         ensures cause { IfErr result (λ e. e ≡ GroupError.Sum → (given : List AnyRow) → HasPut self.old given → KeepsSums (wanted_of self.old).schema (given ++ lent row.entry ∷ []) → ⊥) }
     {
-        if let Some(cut) = self.cut
-            && let Some(part) = cut.row(row)
+        if let Some(window) = self.window
+            && let Some(part) = window.row(row)
         {
             return self.put_part(row, part);
         }
@@ -184,6 +184,35 @@ impl<'a> Groups<'a> {
             .put(&self.aggs, self.most, self.hand.key(), self.hand.values())
     }
 
+    /// For the same groups, into which nothing was put.
+    pub fn anew(&self) -> Result<Groups<'a>, AllocError>
+        requires gathering { (given : List AnyRow) × HasPut self.now given }
+        ensures none { IfOk result (λ g. HasPut g []) }
+        ensures wanted { IfOk result (λ g. wanted_of g ≡ wanted_of self.now) }
+    {
+        Groups::new(
+            *self.aggs.allocator(),
+            self.schema,
+            self.columns,
+            self.values,
+            self.inclusive,
+            self.resume,
+            self.most,
+        )
+    }
+
+    /// Puts in the rows of newer groups, which are for the same: as if they were put in one by one, but only their groups are looked at.
+    pub fn join(&mut self, newer: Groups) -> Result<(), GroupError>
+        requires gathering { (given : List AnyRow) × HasPut self.old given }
+        requires newer { (given : List AnyRow) × HasPut newer given }
+        requires same { wanted_of newer ≡ wanted_of self.old }
+        ensures put { OnOk result ((given more : List AnyRow) → HasPut self.old given → HasPut newer.entry more → HasPut self.new (given ++ more)) }
+        ensures wanted { wanted_of self.new ≡ wanted_of self.old }
+    {
+        let rows = newer.into_rows()?;
+        self.held.put_all(&self.aggs, self.most, rows.as_slice())
+    }
+
     /// The group key of the row that was refused last.
     pub fn key_at_hand(&self) -> &[u8]
         ensures { result.now ≡ key_at_hand self.now }
@@ -227,7 +256,7 @@ impl<'a> Groups<'a> {
             most: _,
             kinds: _,
             aggs: _,
-            cut: _,
+            window: _,
             held,
             hand: _,
         } = self;

@@ -3,7 +3,7 @@ ghost use Rattle.std.specs.Prelude.{◌≡◌, ◌<◌, ◌≤◌, ◌^◌, ◌-
 ghost use Rattle.std.specs.Map.{lookup};
 ghost use Rattle.mesa_schema.specs.Folded.{AllCombine, row_combined};
 ghost use Rattle.mesa_schema.specs.Laws.{AreFull};
-ghost use Rattle.mesa_schema.specs.Put.{put_row};
+ghost use Rattle.mesa_schema.specs.Put.{put_row, put_rows};
 ghost use Rattle.mesa_answer.specs.Held.{ArePlaced, IsNotBehind, StandsAt, is_key, rows_in, value_at, values_in, with_values};
 
 use crate::error::GroupError;
@@ -92,6 +92,24 @@ impl Held {
             add(&mut self.groups, &mut self.places, own, row)?;
         } else {
             replace_last(&mut self.groups, &mut self.places, own, row)?;
+        }
+        Ok(())
+    }
+
+    /// Puts rows among the first groups, one after the other.
+    pub(crate) fn put_all(
+        &mut self,
+        aggs: &[Agg],
+        most: usize,
+        rows: &[Row],
+    ) -> Result<(), GroupError>
+        requires short { length self.old ≤ most }
+        requires full { AreFull aggs.now self.old }
+        requires rows_full { AreFull aggs.now rows.now }
+        ensures put { OnOk result (self.new ≡ take most (put_rows aggs.now self.old rows.now)) }
+    {
+        'each_row: for row in rows {
+            self.put(aggs, most, row.key.as_slice(), row.values.as_slice())?;
         }
         Ok(())
     }

@@ -2,7 +2,6 @@
 #![tactic(auto)]
 
 mod answering;
-mod cut;
 mod error;
 mod grouping;
 mod groups;
@@ -13,12 +12,13 @@ mod laws;
 mod page;
 mod regrouping;
 mod views;
+mod window;
 
 pub use answering::answer;
 pub use error::GroupError;
 pub use grouping::group;
 pub use groups::Groups;
 pub use hand::Hand;
-pub use laws::answer_over_parts;
+pub use laws::{answer_over_parts, first_groups_join};
 pub use regrouping::Regrouping;
 pub use views::{recast_rows, view_rows};

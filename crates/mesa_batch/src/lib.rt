@@ -19,7 +19,7 @@ pub use batch::Batch;
 pub use builder::BatchBuilder;
 pub use glance::{Glance, Glanced};
 pub use laws::{goes_row_by_row, keeps_forms, totals_last};
-pub use loading::{LoadRows, RowView, Words};
+pub use loading::{LoadRows, RowView};
 pub use recasting::{row_totals, sums_among, totals_recast};
 pub use totals::{OVER_BOUND, fits};
 pub use words::{BatchError, RowWords};

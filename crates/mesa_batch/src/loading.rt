@@ -1,40 +1,11 @@
 // The rows of a load, kept in one buffer.
-ghost use Rattle.std.specs.Prelude.{◌≡◌, ◌<◌, ◌≤◌, ◌↔◌, IsTrue, Some, [], ◌∷◌, ◌++◌, length, take, ℕ, List, OnErr, OnOk, slice_get, slice_index_or};
+ghost use Rattle.std.specs.Prelude.{◌≡◌, ◌<◌, ◌≤◌, ◌↔◌, IsTrue, Some, [], ◌∷◌, ◌++◌, length, OnErr, OnOk, slice_get};
 ghost use Rattle.mesa_batch.specs.Load.{row_from};
 
 use crate::flat::begin_of;
-use mesa_list::{Fields, FieldsView, TryCopy};
+use mesa_list::{Fields, FieldsView, TryCopy, Words};
 use std::alloc::{AllocError, Global};
 use std::marker::Model;
-
-/// The words of a row where they were read: its table's name, and then its fields.
-pub trait Words {
-    ghost words: { Self → List (List ℕ) };
-
-    /// How many there are.
-    fn count(&self) -> usize
-        ensures { result ≡ length (words self.now) };
-
-    /// The word at a place, counted from 0.
-    fn word(&self, place: usize) -> &[u8]
-        requires { place < length (words self.now) }
-        ensures { result.now ≡ slice_index_or (words self.now) place [] };
-}
-
-impl Words for Fields {
-    ghost words = { λ fields. fields };
-
-    fn count(&self) -> usize {
-        self.len()
-    }
-
-    fn word(&self, place: usize) -> &[u8] {
-        match self.get(place) {
-            Some(word) => word,
-            None => unreachable!(),
-        }
-    }
-}
 
 /// The rows of a load, as a script has them. Their words stand in one buffer, so that a row takes no list of its own: it costs four bytes, and four for each word beside the word's own.
 #[derive(Drop)]
@@ -81,19 +52,17 @@ impl LoadRows {
         self.ends.as_slice().is_empty()
     }
 
-    /// Adds a row at the end: its table's name, and then its fields. They are copied into the buffer, and nowhere else.
+    /// Adds a row at the end: its table's name, and then its fields. They are copied into the buffer, at once and nowhere else.
     pub fn push<W: Words>(&mut self, words: &W) -> Result<(), AllocError>
         ensures ok { OnOk result (self.new ≡ self.old ++ row_from (W.words words.now) ∷ []) }
         ensures err { OnErr result (self.new ≡ self.old) }
     {
-        let start = self.words.len();
-        let end = start.saturating_add(words.count());
+        let end = self.words.len().saturating_add(words.count());
         if end > u32::MAX as usize {
             return Err(AllocError);
         }
         self.ends.push(end as u32)?;
-        if let Err(error) = push_all(&mut self.words, words) {
-            self.words.truncate(start);
+        if let Err(error) = self.words.push_all(words) {
             let _ = self.ends.pop();
             return Err(error);
         }
@@ -118,17 +87,6 @@ impl TryCopy for LoadRows {
             ends: Vec::from_slice(self.words.allocator(), &self.ends)?,
         })
     }
-}
-
-// Adds fields behind others; without memory a part of them may stand there.
-fn push_all<W: Words>(to: &mut Fields, words: &W) -> Result<(), AllocError>
-    ensures ok { OnOk result (to.new ≡ to.old ++ W.words words.now) }
-    ensures kept { take (length to.old) to.new ≡ to.old }
-{
-    'words: for place in 0..words.count() {
-        to.push(words.word(place))?;
-    }
-    Ok(())
 }
 
 /// A row of a load, lent.

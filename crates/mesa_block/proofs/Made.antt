@@ -1,7 +1,9 @@
 -- Rows that are made of columns, their keys and their values in two lists.
-use Rattle.std.proofs.Common.{◌≡◌, ℕ, zero, suc, ◌+◌, ◌-◌, ◌*◌, ◌<◌, ◌≤◌, ℤ, List, [], ◌∷◌, ◌++◌, length, map, take, drop, get_or, true, false, refl, sym, ap, subst, ◌∙◌, arith, cond}
+use Rattle.std.proofs.Common.{◌≡◌, ℕ, zero, suc, ◌+◌, ◌-◌, ◌*◌, ◌^◌, ◌<◌, ◌≤◌, ℤ, List, [], ◌∷◌, ◌++◌, length, map, take, drop, get_or, true, false, refl, sym, ap, subst, ◌∙◌, arith, cond}
 use Rattle.std.specs.Prelude.{Option, Some, None, slice_get}
-use Rattle.std.proofs.lemmas.List.{length-map, length-drop, drop-drop}
+use Rattle.std.proofs.lemmas.List.{length-append, length-map, length-drop, drop-drop}
+use Rattle.mesa_list.specs.Pieces.{Rise as EndsRise, last_end, pieces}
+use Rattle.mesa_list.proofs.Pieces.{last_end_push, pieces_push, rise_push}
 use Rattle.mesa_key.specs.declared.KeyType.{KeyType}
 use Rattle.mesa_key.specs.Order.{byte_cmp}
 use Rattle.mesa_schema.specs.declared.rows.Row.{Row}
@@ -125,3 +127,24 @@ row_there n i keys values part rows key is over lt at cut =
 
 pub not_none : (keys : List (List ℕ)) (i : ℕ) → i < length keys → None ≡ slice_get keys i → ⊥
 not_none keys i lt none = let there = slice_get-get_or keys i [] lt in let both : None ≡ Some (get_or keys i []) = none ∙ there in cc
+
+-- What stands in three lists are the rows of the columns up to the row i: the bytes of their keys, where each key ends, and their values, so many each.
+pub record IsLaid (n : ℕ) (kinds : List KeyType) (ws : List Width) (keys values : List (List (List ℕ))) (i : ℕ) (bytes ends : List ℕ) (numbers : List ℤ) : Type 0 where
+  pub rise : EndsRise 0 ends
+  pub last : last_end 0 ends ≡ length bytes
+  pub few : length bytes < 2 ^ 32
+  pub made : IsMade n kinds ws keys values i (pieces bytes 0 ends) numbers
+
+pub laid_more : (n : ℕ) (kinds : List KeyType) (ws : List Width) (keys values : List (List (List ℕ))) (i : ℕ) (bytes new ends more : List ℕ) (end : ℕ) (numbers found : List ℤ) → IsLaid n kinds ws keys values i bytes ends numbers
+    → ((i : ℕ) → length (values_at ws values i) ≡ n) → new ≡ bytes ++ key_at kinds keys i → (end ≡ length new) × (length new < 2 ^ 32) → more ≡ ends ++ end ∷ [] → found ≡ numbers ++ values_at ws values i
+    → IsLaid n kinds ws keys values (i + 1) new more found
+laid_more n kinds ws keys values i bytes new ends more end numbers found h size put is add values_put =
+    let key = key_at kinds keys i in
+    let long : end ≡ length bytes + length key = omega (arith, is.0, ap length put, length-append bytes key) in
+    let one : pieces new 0 more ≡ pieces bytes 0 ends ++ key ∷ [] = (λ j. pieces (put j) 0 (add j)) ∙ pieces_push bytes key 0 ends end h.rise h.last long in
+    record {
+      rise = subst (EndsRise 0) (sym add) (rise_push 0 ends end h.rise (omega (arith, h.last, long)));
+      last = ap (last_end 0) add ∙ last_end_push 0 ends end ∙ is.0;
+      few = is.1;
+      made = made_more n kinds ws keys values i (pieces bytes 0 ends) (pieces new 0 more) numbers found key h.made size refl one values_put;
+    }

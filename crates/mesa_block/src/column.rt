@@ -1,11 +1,11 @@
 // The columns of a block, as they were cut.
-ghost use Rattle.std.specs.Prelude.{◌≡◌, ◌*◌, ◌<◌, [], length, map, get_or};
+ghost use Rattle.std.specs.Prelude.{◌≡◌, ◌*◌, ◌<◌, ◌++◌, [], length, map, get_or, OnOk};
 ghost use Rattle.mesa_block.specs.Cells.{pieces};
 ghost use Rattle.mesa_block.specs.Layout.{size_of};
 
 use crate::Width;
 use mesa_key::KeyType;
-use std::alloc::Global;
+use std::alloc::{AllocError, Global};
 use std::marker::Model;
 
 /// The cells of a key column, in the order of the rows. Ints stand one behind the other, eight bytes each, and none of them is looked for; texts are found one by one.
@@ -61,6 +61,24 @@ impl<'a> Column<'a> {
         match self.kind {
             KeyType::Int => self.count,
             KeyType::Text => self.texts.len(),
+        }
+    }
+
+    // How many bytes its cells take in keys, at least.
+    pub(crate) fn least_size(&self) -> usize {
+        match self.kind {
+            KeyType::Int => self.bytes.len(),
+            KeyType::Text => self.texts.len(),
+        }
+    }
+
+    // Adds the cell of the row i behind other bytes.
+    pub(crate) fn put(&self, i: usize, to: &mut Vec<u8>) -> Result<(), AllocError>
+        ensures { OnOk result (to.new.items ≡ to.old.items ++ get_or self.now i []) }
+    {
+        match self.kind {
+            KeyType::Int => put_int(to, self.bytes, self.count, i),
+            KeyType::Text => to.extend_from_slice(text_at(&self.texts, i)),
         }
     }
 
@@ -129,6 +147,18 @@ fn int_at(bytes: &[u8], count: usize, i: usize) -> &[u8]
     } else {
         &[]
     }
+}
+
+// Adds the int of the row i behind other bytes. That they are eight is seen here, so that the compiler copies them at once.
+fn put_int(to: &mut Vec<u8>, bytes: &[u8], count: usize, i: usize) -> Result<(), AllocError>
+    requires { length bytes.now ≡ 8 * count }
+    ensures { OnOk result (to.new.items ≡ to.old.items ++ get_or (pieces 8 count bytes.now) i []) }
+{
+    if i >= count {
+        return Ok(());
+    }
+    to.extend_from_slice(&bytes[8 * i..8 * i + 8])?;
+    Ok(())
 }
 
 // The number of sixteen bytes of the row i.

@@ -1,5 +1,5 @@
 // The rows of a block, held flat.
-ghost use Rattle.std.specs.Prelude.{◌≡◌, ◌<◌, ◌≤◌, ◌+◌, ◌*◌, ℕ, ◌++◌, [], List, length, map, take, drop, get_or, slice_get, Some, IfOk, OnOk};
+ghost use Rattle.std.specs.Prelude.{◌≡◌, ◌<◌, ◌≤◌, ◌+◌, ◌*◌, ◌^◌, ℕ, ◌++◌, [], List, length, map, take, drop, get_or, slice_get, Some, IfOk, OnOk};
 ghost use Rattle.mesa_schema.specs.Lent.{lent};
 ghost use Rattle.mesa_schema.specs.Lifting.{lifted_with};
 ghost use Rattle.mesa_block.specs.Layout.{number};
@@ -195,32 +195,37 @@ fn byte_of(cell: &[u8], k: usize) -> u8
     if k < cell.len() { cell[k] } else { 0 }
 }
 
-fn put_sealed(key: &mut Vec<u8>, kind: KeyType, cell: &[u8]) -> Result<(), AllocError>
-    ensures { OnOk result (key.new.items ≡ key.old.items ++ sealed kind cell.now) }
+// Adds the cell of the row i as a key has it.
+fn put_sealed(
+    bytes: &mut Vec<u8>,
+    kind: KeyType,
+    column: &Column,
+    i: usize,
+) -> Result<(), AllocError>
+    ensures { OnOk result (bytes.new.items ≡ bytes.old.items ++ sealed kind (get_or column.now i [])) }
 {
-    key.extend_from_slice(cell)?;
+    column.put(i, bytes)?;
     match kind {
         KeyType::Int => {}
-        KeyType::Text => key.push(0)?,
+        KeyType::Text => bytes.push(0)?,
     }
     Ok(())
 }
 
-// Puts the key of the row i into the buffer, in place of what is there.
+// Adds the key of the row i behind those that are there.
 fn put_key(
-    key: &mut Vec<u8>,
+    bytes: &mut Vec<u8>,
     kinds: &[KeyType],
     columns: &[Column],
     i: usize,
 ) -> Result<(), AllocError>
-    ensures { OnOk result (key.new.items ≡ key_at kinds.now columns.now i) }
+    ensures { OnOk result (bytes.new.items ≡ bytes.old.items ++ key_at kinds.now columns.now i) }
 {
-    key.clear();
     for j in 0..kinds.len() {
         if j >= columns.len() {
             return Ok(());
         }
-        put_sealed(key, kinds[j], columns[j].cell(i))?;
+        put_sealed(bytes, kinds[j], &columns[j], i)?;
     }
     Ok(())
 }
@@ -254,7 +259,26 @@ fn count_of(widths: &[Width], columns: &[Numbers]) -> usize
     }
 }
 
-// The rows of columns.
+// How many bytes the keys of rows of these columns take, at least.
+fn least_bytes(columns: &[Column]) -> usize {
+    let mut least: usize = 0;
+    for column in columns {
+        least = least.saturating_add(column.least_size());
+    }
+    least
+}
+
+// Where the bytes end.
+fn end_of(bytes: &[u8]) -> Result<u32, AllocError>
+    ensures { IfOk result (λ end. (end ≡ length bytes.now) × (length bytes.now < 2 ^ 32)) }
+{
+    if bytes.len() > u32::MAX as usize {
+        return Err(AllocError);
+    }
+    Ok(bytes.len() as u32)
+}
+
+// The rows of columns. Each cell is put right where its key stands among the others.
 pub(crate) fn made_rows(
     alloc: Global,
     kinds: &[KeyType],
@@ -266,16 +290,16 @@ pub(crate) fn made_rows(
     ensures { IfOk result (λ b. b ≡ rows_of kinds.now widths.now keys.now values.now r) }
 {
     let count = count_of(widths, values);
-    let mut found_keys = Fields::new(alloc);
-    let mut found = Vec::new(alloc);
-    let mut key = Vec::new(alloc);
+    let mut bytes = Vec::with_capacity(alloc, least_bytes(keys))?;
+    let mut ends = Vec::with_capacity(alloc, r)?;
+    let mut found = Vec::with_capacity(alloc, count.saturating_mul(r))?;
     for i in 0..r {
-        put_key(&mut key, kinds, keys, i)?;
-        found_keys.push(&key)?;
+        put_key(&mut bytes, kinds, keys, i)?;
+        ends.push(end_of(&bytes)?)?;
         put_values(&mut found, widths, values, i)?;
     }
     Ok(Block {
-        keys: found_keys,
+        keys: Fields::from_parts(bytes, ends),
         values: found,
         count,
     })

@@ -18,18 +18,18 @@ use Rattle.mesa_record.specs.declared.record.Record.TheVariants as record_of
 use Rattle.mesa_record.specs.declared.record.Files.{Files}
 use Rattle.mesa_record.specs.declared.record.Part.{Part}
 use Rattle.mesa_span.specs.Ranges.{end_of}
-use Rattle.mesa_image_laws.specs.mesa_image.Catalog.{Catalog, Stock, stock_at, stock_changed, stock_viewed, with_stock}
-use Rattle.mesa_image_laws.specs.mesa_image.Fitting.{brings_new_files, files_fit_if_any, fits, has_epoch, is_new_name, is_there, kind_fits, may_be_work, part_fits, publish_fits, recast_fits, swap_fits, table_fits}
+use Rattle.mesa_image.specs.Catalog.{Catalog, Stock, stock_at, stock_changed, stock_viewed, with_stock}
+use Rattle.mesa_image.specs.Fitting.{brings_new_files, files_fit_if_any, fits, has_epoch, is_new_name, is_there, kind_fits, may_be_work, part_fits, publish_fits, recast_fits, swap_fits, table_fits}
 use Rattle.mesa_catalog.specs.declared.shelves.Shelves.{Shelves}
-use Rattle.mesa_shelf.specs.declared.table.Table.{Table}
-use Rattle.mesa_shelf.specs.declared.ready.ReadyPart.{ReadyPart}
+use Rattle.mesa_table.specs.declared.table.Table.{Table}
+use Rattle.mesa_table.specs.declared.ready.ReadyPart.{ReadyPart}
 use Rattle.mesa_catalog.specs.Meaning.{catalogue_of}
-use Rattle.mesa_shelf.specs.Meaning.{IsTable, start_of_base, stock_of, widths_of}
+use Rattle.mesa_table.specs.Meaning.{IsTable, start_of_base, stock_of, widths_of}
 use Rattle.mesa_catalog.specs.Readied.{IsMadePart, last_change, last_view}
-use Rattle.mesa_shelf.specs.Readied.{IsPartOf, IsSwapOf, part_in}
+use Rattle.mesa_table.specs.Readied.{IsPartOf, IsSwapOf, part_in}
 use Rattle.mesa_catalog.proofs.Stocks.{stock_here}
-use Rattle.mesa_shelf.proofs.Tests.{both}
-use Rattle.mesa_shelf.proofs.Works.{base_work, cumulative_work}
+use Rattle.mesa_table.proofs.Tests.{both}
+use Rattle.mesa_table.proofs.Works.{base_work, cumulative_work}
 
 pub kind_of_fits : (c : Catalog) (r : Record) → fits c r ≡ true → kind_fits c r ≡ true
 unfolding fits

@@ -1,9 +1,9 @@
 -- Versions that tables let go.
 use Rattle.std.proofs.Common.{◌≡◌, ◌∙◌, ◌<◌, ◌+◌, ◌++◌, ◌∷◌, [], ℕ, List, ap, append-nil, append_assoc, arith, drop, get_or, length, map, set, sym, take}
 use Rattle.std.proofs.lemmas.List.{drop-set-lt, drop_all, drop_more, map-append, take_all, take_more_set}
-use Rattle.mesa_image_laws.specs.mesa_image.Catalog.{Stock, stock_from}
-use Rattle.mesa_shelf.specs.declared.table.Table.{Table}
-use Rattle.mesa_shelf.specs.Meaning.{stock_of}
+use Rattle.mesa_image.specs.Catalog.{Stock, stock_from}
+use Rattle.mesa_table.specs.declared.table.Table.{Table}
+use Rattle.mesa_table.specs.Meaning.{stock_of}
 
 pub expired_step : (version next i : ℕ) (tables : List Table) (d t : Table) (whole : List Stock) → i < length tables → stock_of next t ≡ stock_from version (stock_of next (get_or tables i d))
     → map (stock_of next) (take i tables) ++ map (stock_from version) (map (stock_of next) (drop i tables)) ≡ whole

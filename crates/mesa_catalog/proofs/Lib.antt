@@ -1,6 +1,6 @@
-pub use Rattle.mesa_image_laws.proofs.mesa_history as mesa_history
-pub use Rattle.mesa_image_laws.proofs as mesa_image_laws
-pub use Rattle.mesa_shelf.proofs as mesa_shelf
+pub use Rattle.mesa_image.proofs.mesa_history as mesa_history
+pub use Rattle.mesa_image.proofs as mesa_image
+pub use Rattle.mesa_table.proofs as mesa_table
 pub mod Applies
 pub mod Counted
 pub mod Dropped

@@ -8,13 +8,13 @@ use Rattle.mesa_list.specs.Bytes.{same_bytes}
 use Rattle.mesa_schema.specs.Names.{has_name}
 use Rattle.mesa_schema.specs.Columns.{place_of}
 use Rattle.mesa_schema.proofs.Maps.{is_some_position}
-use Rattle.mesa_image_laws.specs.mesa_image.Catalog.{Stock}
-use Rattle.mesa_image_laws.specs.mesa_image.Fitting.{names_in}
-use Rattle.mesa_shelf.specs.declared.relation.Relation.{Relation}
-use Rattle.mesa_shelf.specs.declared.table.Table.{Table}
+use Rattle.mesa_image.specs.Catalog.{Stock}
+use Rattle.mesa_image.specs.Fitting.{names_in}
+use Rattle.mesa_table.specs.declared.relation.Relation.{Relation}
+use Rattle.mesa_table.specs.declared.table.Table.{Table}
 use Rattle.mesa_catalog.specs.Lookups.{relation_from}
-use Rattle.mesa_shelf.specs.Lookups.{relation_in, view_names}
-use Rattle.mesa_shelf.specs.Meaning.{stock_of}
+use Rattle.mesa_table.specs.Lookups.{relation_in, view_names}
+use Rattle.mesa_table.specs.Meaning.{stock_of}
 
 -- ---- relations
 

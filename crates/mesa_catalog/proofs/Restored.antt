@@ -5,16 +5,16 @@ use Rattle.std.specs.List.{AllByRecursion}
 use Rattle.std.proofs.lemmas.Bool.Decides.{nat_tests}
 use Rattle.std.proofs.lemmas.List.{length-map, map_push, take_more}
 use Rattle.mesa_record.specs.declared.checkpoint.Checkpoint.{Checkpoint}
-use Rattle.mesa_image_laws.specs.mesa_image.Checkpoint.{stated, stock_stated}
-use Rattle.mesa_image_laws.specs.mesa_image.CheckpointFits.{counts_fit, ids_fit, oldest_fits}
-use Rattle.mesa_image_laws.specs.mesa_image.Fitting.{max_runs, names_in}
-use Rattle.mesa_image_laws.specs.mesa_image.mesa_model.Warehouse.{max_tables, max_versions}
-use Rattle.mesa_image_laws.specs.Ids.{named}
-use Rattle.mesa_shelf.specs.declared.table.Table.{Table}
-use Rattle.mesa_shelf.specs.Meaning.{IsTable, stock_of}
-use Rattle.mesa_shelf.proofs.Named.{flat_map-map}
-use Rattle.mesa_shelf.proofs.Restored.{there}
-use Rattle.mesa_shelf.proofs.Tests.{both}
+use Rattle.mesa_image.specs.Checkpoint.{stated, stock_stated}
+use Rattle.mesa_image.specs.CheckpointFits.{counts_fit, ids_fit, oldest_fits}
+use Rattle.mesa_image.specs.Fitting.{max_runs, names_in}
+use Rattle.mesa_image.specs.mesa_model.Warehouse.{max_tables, max_versions}
+use Rattle.mesa_image.specs.Ids.{named}
+use Rattle.mesa_table.specs.declared.table.Table.{Table}
+use Rattle.mesa_table.specs.Meaning.{IsTable, stock_of}
+use Rattle.mesa_table.proofs.Named.{flat_map-map}
+use Rattle.mesa_table.proofs.Restored.{there}
+use Rattle.mesa_table.proofs.Tests.{both}
 use Rattle.mesa_catalog.specs.declared.shelves.Shelves.{Shelves}
 use Rattle.mesa_catalog.specs.Kept.{IsKept}
 use Rattle.mesa_catalog.specs.Meaning.{IsShelved, catalogue_of}

@@ -5,14 +5,14 @@ use Rattle.std.specs.List.Sorted.{IsNonDecreasingBy}
 use Rattle.std.proofs.lemmas.Bool.Decides.{nat_tests}
 use Rattle.std.proofs.lemmas.List.Sorted.{IsPermutation-map, sum_by-IsPermutation}
 use Rattle.std.proofs.lemmas.Simd.{map-map}
-use Rattle.mesa_image_laws.specs.mesa_image.Catalog.{Catalog}
-use Rattle.mesa_image_laws.specs.mesa_image.Fitting.{shelved, stock_shelved}
-use Rattle.mesa_image_laws.specs.Ids.{named, times}
-use Rattle.mesa_shelf.specs.declared.recorded.Recorded.{Recorded}
-use Rattle.mesa_shelf.specs.declared.table.Table.{Table}
-use Rattle.mesa_shelf.specs.Files.{AreRecorded, RiseFrom, recorded_id, recorded_of}
-use Rattle.mesa_shelf.specs.Meaning.{stock_of}
-use Rattle.mesa_shelf.proofs.Named.{flat_map-map, map-flat_map}
+use Rattle.mesa_image.specs.Catalog.{Catalog}
+use Rattle.mesa_image.specs.Fitting.{shelved, stock_shelved}
+use Rattle.mesa_image.specs.Ids.{named, times}
+use Rattle.mesa_table.specs.declared.recorded.Recorded.{Recorded}
+use Rattle.mesa_table.specs.declared.table.Table.{Table}
+use Rattle.mesa_table.specs.Files.{AreRecorded, RiseFrom, recorded_id, recorded_of}
+use Rattle.mesa_table.specs.Meaning.{stock_of}
+use Rattle.mesa_table.proofs.Named.{flat_map-map, map-flat_map}
 use Rattle.mesa_catalog.specs.declared.shelves.Shelves.{Shelves}
 use Rattle.mesa_catalog.specs.Meaning.{catalogue_of}
 use Rattle.mesa_catalog.proofs.Ids.{times_cons}

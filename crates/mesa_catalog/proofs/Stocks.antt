@@ -3,12 +3,12 @@ use Rattle.std.proofs.Common.{◌≡◌, ℕ, zero, suc, ◌≤◌, ◌<◌, Lis
 use Rattle.std.specs.List.{AllByRecursion}
 use Rattle.std.proofs.lemmas.Bool.Decides.{nat_tests}
 use Rattle.std.proofs.lemmas.List.{length-map, get_or-map, map-set}
-use Rattle.mesa_image_laws.specs.mesa_image.Catalog.{no_stock, stock_at, with_stock}
-use Rattle.mesa_image_laws.specs.mesa_image.Fitting.{is_there}
-use Rattle.mesa_shelf.specs.declared.table.Table.{Table}
+use Rattle.mesa_image.specs.Catalog.{no_stock, stock_at, with_stock}
+use Rattle.mesa_image.specs.Fitting.{is_there}
+use Rattle.mesa_table.specs.declared.table.Table.{Table}
 use Rattle.mesa_catalog.specs.declared.shelves.Shelves.{Shelves}
 use Rattle.mesa_catalog.specs.Meaning.{catalogue_of}
-use Rattle.mesa_shelf.specs.Meaning.{stock_of}
+use Rattle.mesa_table.specs.Meaning.{stock_of}
 
 -- a table that is there
 pub there : (s : Shelves) (i : ℕ) → i < length s.tables.items → is_there (catalogue_of s) i ≡ true

@@ -1,7 +1,6 @@
-pub use Rattle.mesa_image_laws.specs.mesa_history as mesa_history
-pub use Rattle.mesa_image_laws.specs.mesa_image as mesa_image
-pub use Rattle.mesa_image_laws.specs as mesa_image_laws
-pub use Rattle.mesa_shelf.specs as mesa_shelf
+pub use Rattle.mesa_image.specs.mesa_history as mesa_history
+pub use Rattle.mesa_image.specs as mesa_image
+pub use Rattle.mesa_table.specs as mesa_table
 pub mod Meaning
 pub mod Lookups
 pub mod Named

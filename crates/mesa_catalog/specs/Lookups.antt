@@ -5,10 +5,10 @@ use Rattle.mesa_schema.specs.Changes.{epoch_of}
 use Rattle.mesa_batch.specs.Glance.{Known, Sight}
 use Rattle.mesa_record.specs.declared.record.Record.{Record}
 use Rattle.mesa_record.specs.declared.record.Record.TheVariants as record_of
-use Rattle.mesa_image_laws.specs.mesa_image.Catalog.{Catalog, Stock}
-use Rattle.mesa_shelf.specs.declared.relation.Relation.{Relation}
-use Rattle.mesa_shelf.specs.Lookups.{relation_in}
-use Rattle.mesa_shelf.specs.declared.table.Table.{Table}
+use Rattle.mesa_image.specs.Catalog.{Catalog, Stock}
+use Rattle.mesa_table.specs.declared.relation.Relation.{Relation}
+use Rattle.mesa_table.specs.Lookups.{relation_in}
+use Rattle.mesa_table.specs.declared.table.Table.{Table}
 
 -- ---- relations
 

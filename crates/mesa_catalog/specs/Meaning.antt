@@ -1,8 +1,8 @@
 -- What all the tables that are held stand for.
 use Rattle.std.specs.Prelude.{◌-◌, ◌^◌, ◌≤◌, map, length}
 use Rattle.std.specs.List.{AllByRecursion}
-use Rattle.mesa_image_laws.specs.mesa_image.Catalog.{Catalog}
-use Rattle.mesa_shelf.specs.Meaning.{IsTable, stock_of}
+use Rattle.mesa_image.specs.Catalog.{Catalog}
+use Rattle.mesa_table.specs.Meaning.{IsTable, stock_of}
 use Rattle.mesa_catalog.specs.declared.shelves.Shelves.{Shelves}
 
 -- What all that is held stands for.

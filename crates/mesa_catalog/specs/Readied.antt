@@ -9,15 +9,15 @@ use Rattle.mesa_schema.specs.Views.{with_view}
 use Rattle.mesa_batch.specs.Totals.{totals_after, totals_with}
 use Rattle.mesa_record.specs.declared.record.Record.{Record}
 use Rattle.mesa_record.specs.declared.record.Record.TheVariants as record_of
-use Rattle.mesa_image_laws.specs.mesa_image.Catalog.{Catalog, new_stock, part_delta, stock_at}
-use Rattle.mesa_image_laws.specs.mesa_image.Fitting.{fits}
-use Rattle.mesa_shelf.specs.declared.table.Table.{Table}
+use Rattle.mesa_image.specs.Catalog.{Catalog, new_stock, part_delta, stock_at}
+use Rattle.mesa_image.specs.Fitting.{fits}
+use Rattle.mesa_table.specs.declared.table.Table.{Table}
 use Rattle.mesa_catalog.specs.declared.shelves.Shelves.{Shelves}
 use Rattle.mesa_catalog.specs.declared.ready.Ready.{Ready}
 use Rattle.mesa_catalog.specs.declared.ready.Ready.TheVariants as ready_of
-use Rattle.mesa_shelf.specs.declared.ready.ReadyPart.{ReadyPart}
-use Rattle.mesa_shelf.specs.Readied.{HasSpare, IsRecast, IsRoomier, part_in, recasting_in}
-use Rattle.mesa_shelf.specs.Meaning.{IsTable, stock_of, widths_of}
+use Rattle.mesa_table.specs.declared.ready.ReadyPart.{ReadyPart}
+use Rattle.mesa_table.specs.Readied.{HasSpare, IsRecast, IsRoomier, part_in, recasting_in}
+use Rattle.mesa_table.specs.Meaning.{IsTable, stock_of, widths_of}
 use Rattle.mesa_catalog.specs.Meaning.{catalogue_of}
 
 -- the last of a list, or this one where it is empty

@@ -1,11 +1,11 @@
 // Taking a record in, without memory.
 ghost use Rattle.std.specs.Prelude.{◌≡◌, ◌<◌, ℕ, map};
 ghost use Rattle.std.specs.List.{AllByRecursion};
-ghost use Rattle.mesa_image_laws.specs.mesa_image.Catalog.{applied, stock_from};
+ghost use Rattle.mesa_image.specs.Catalog.{applied, stock_from};
 ghost use Rattle.mesa_catalog.specs.declared.ready.Ready.TheVariants as ready_of;
 ghost use Rattle.mesa_catalog.specs.Meaning.{IsShelved, catalogue_of};
 ghost use Rattle.mesa_catalog.specs.Readied.{IsReady, record_in};
-ghost use Rattle.mesa_shelf.specs.Meaning.{IsTable, stock_of};
+ghost use Rattle.mesa_table.specs.Meaning.{IsTable, stock_of};
 
 mod loading;
 
@@ -14,7 +14,7 @@ use crate::shelves::Shelves;
 use loading::load;
 use mesa_list::Items;
 use mesa_schema::{Evolving, Totals};
-use mesa_shelf::{Delta, ReadyPart, ReadyRecast, Table, recast, swap};
+use mesa_table::{Delta, ReadyPart, ReadyRecast, Table, recast, swap};
 use std::sync::Arc;
 
 impl Shelves {

@@ -1,8 +1,8 @@
 // The catalogue.
 ghost use Rattle.std.specs.Prelude.{◌≡◌, ◌+◌, None, Some, OnOk, OnErr, IsTrue, IfOk};
 ghost use Rattle.mesa_span.specs.Ranges.{base_before};
-ghost use Rattle.mesa_image_laws.specs.mesa_image.Catalog.{applied, empty_catalog};
-ghost use Rattle.mesa_image_laws.specs.mesa_image.Fitting.{brings_new_files, fits as fits_catalog, kind_fits};
+ghost use Rattle.mesa_image.specs.Catalog.{applied, empty_catalog};
+ghost use Rattle.mesa_image.specs.Fitting.{brings_new_files, fits as fits_catalog, kind_fits};
 ghost use Rattle.mesa_catalog.specs.Lookups.{generation_of, turns_generation};
 
 use crate::copying::share_tables;
@@ -11,7 +11,7 @@ use crate::ready::Ready;
 use crate::readying::make_room;
 use crate::shelves::Shelves;
 use mesa_record::Record;
-use mesa_shelf::NoRows;
+use mesa_table::NoRows;
 use std::alloc::{AllocError, Global};
 use std::marker::Model;
 

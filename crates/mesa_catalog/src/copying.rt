@@ -1,9 +1,9 @@
 // Copies of all tables, which share their deltas.
 ghost use Rattle.std.specs.Prelude.{◌≡◌, ℕ, IfOk, map};
 ghost use Rattle.std.specs.List.{AllByRecursion};
-ghost use Rattle.mesa_shelf.specs.Meaning.{IsTable, stock_of};
+ghost use Rattle.mesa_table.specs.Meaning.{IsTable, stock_of};
 
-use mesa_shelf::{Table, share_table};
+use mesa_table::{Table, share_table};
 use std::alloc::{AllocError, Global};
 
 // The same tables. Their deltas aren't copied: a copy is a list of pointers to them.

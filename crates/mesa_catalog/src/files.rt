@@ -1,20 +1,20 @@
 // The files that a catalogue names.
 ghost use Rattle.std.specs.Prelude.{◌≡◌, ◌++◌, ◌≤◌, ◌^◌, ℕ, flat_map, map, true, IfOk, IsTrue, OnOk};
 ghost use Rattle.std.specs.List.{AllByRecursion};
-ghost use Rattle.mesa_image_laws.specs.mesa_image.Catalog.{stock_at};
-ghost use Rattle.mesa_image_laws.specs.mesa_image.Fitting.{fits as fits_catalog, is_there, kind_fits, stock_shelved};
-ghost use Rattle.mesa_image_laws.specs.Ids.{dropped_ids, named, recast_dropped};
-ghost use Rattle.mesa_shelf.specs.declared.table.Table.{Table as Held};
-ghost use Rattle.mesa_shelf.specs.Files.{AreRecorded, recorded_of};
-ghost use Rattle.mesa_shelf.specs.Meaning.{IsTable, stock_of};
-ghost use Rattle.mesa_shelf.specs.Named.{table_ids};
+ghost use Rattle.mesa_image.specs.Catalog.{stock_at};
+ghost use Rattle.mesa_image.specs.Fitting.{fits as fits_catalog, is_there, kind_fits, stock_shelved};
+ghost use Rattle.mesa_image.specs.Ids.{dropped_ids, named, recast_dropped};
+ghost use Rattle.mesa_table.specs.declared.table.Table.{Table as Held};
+ghost use Rattle.mesa_table.specs.Files.{AreRecorded, recorded_of};
+ghost use Rattle.mesa_table.specs.Meaning.{IsTable, stock_of};
+ghost use Rattle.mesa_table.specs.Named.{table_ids};
 ghost use Rattle.mesa_catalog.specs.Meaning.{IsShelved, catalogue_of};
 
 use crate::Catalog;
 use crate::shelves::Shelves;
 use mesa_file::FileId;
 use mesa_record::Record;
-use mesa_shelf::{Recorded, Table};
+use mesa_table::{Recorded, Table};
 use std::alloc::{AllocError, Global};
 
 impl Catalog {

@@ -5,7 +5,7 @@ ghost use Rattle.mesa_catalog.specs.Meaning.{catalogue_of};
 
 use crate::shelves::Shelves;
 use mesa_schema::Name;
-use mesa_shelf::Relation;
+use mesa_table::Relation;
 
 impl Shelves {
     // The table or the view of a name.

@@ -1,15 +1,15 @@
 // Which records keep the rules of their kind. Takes no memory.
 ghost use Rattle.std.specs.Prelude.{◌≡◌, ◌&&◌};
 ghost use Rattle.std.specs.List.{list_all};
-ghost use Rattle.mesa_image_laws.specs.mesa_image.Catalog.{stock_at};
-ghost use Rattle.mesa_image_laws.specs.mesa_image.Fitting.{alter_fits, expire_fits, is_new_name, is_there, kind_fits, may_be_work, part_fits, publish_fits, recast_fits, run_fits, swap_fits, table_fits, view_fits};
+ghost use Rattle.mesa_image.specs.Catalog.{stock_at};
+ghost use Rattle.mesa_image.specs.Fitting.{alter_fits, expire_fits, is_new_name, is_there, kind_fits, may_be_work, part_fits, publish_fits, recast_fits, run_fits, swap_fits, table_fits, view_fits};
 ghost use Rattle.mesa_catalog.specs.Meaning.{IsShelved, catalogue_of};
-ghost use Rattle.mesa_shelf.specs.Meaning.{IsTable, stock_of};
+ghost use Rattle.mesa_table.specs.Meaning.{IsTable, stock_of};
 
 use crate::shelves::{MAX_TABLES, Shelves};
 use mesa_record::{Files, Part, Recasting, Record};
 use mesa_schema::{Change, KeyColumn, MAX_VIEWS, Name, Schema, ValueColumn};
-use mesa_shelf::{
+use mesa_table::{
     Table, allows_recast, counts_files, counts_files_if_any, counts_totals, keeps_bound,
     may_be_base, may_be_cumulative,
 };

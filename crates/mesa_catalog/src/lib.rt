@@ -20,4 +20,4 @@ mod stating;
 
 pub use begun::Begun;
 pub use catalog::Catalog;
-pub use mesa_shelf::{Delta, Recorded, Relation};
+pub use mesa_table::{Delta, Recorded, Relation};

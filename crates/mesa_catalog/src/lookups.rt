@@ -3,17 +3,17 @@ ghost use Rattle.std.specs.Prelude.{◌≡◌, ◌<◌, ◌≤◌, ◌^◌, IfOk
 ghost use Rattle.std.specs.Option.{option_copied};
 ghost use Rattle.mesa_span.specs.Ranges.{IsInOrder};
 ghost use Rattle.mesa_batch.specs.Numbers.{known_of};
-ghost use Rattle.mesa_image_laws.specs.mesa_image.Catalog.{ranges_of, stock_at};
-ghost use Rattle.mesa_shelf.specs.Meaning.{IsTable, stock_of};
-ghost use Rattle.mesa_shelf.specs.Ranged.{delta_at};
+ghost use Rattle.mesa_image.specs.Catalog.{ranges_of, stock_at};
+ghost use Rattle.mesa_table.specs.Meaning.{IsTable, stock_of};
+ghost use Rattle.mesa_table.specs.Ranged.{delta_at};
 ghost use Rattle.mesa_catalog.specs.Lookups.{changes_of, generation_of, known_in, relation_of, sight_of};
 
 use crate::Catalog;
 use mesa_batch::{Glance, Glanced};
 use mesa_list::TryCopy;
 use mesa_schema::{Evolving, Name, Totals};
-use mesa_shelf::{Delta, Relation, Table, ranges};
 use mesa_span::Ranges;
+use mesa_table::{Delta, Relation, Table, ranges};
 use std::alloc::{AllocError, Global};
 use std::sync::Arc;
 

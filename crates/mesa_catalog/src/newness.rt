@@ -3,16 +3,16 @@ ghost use Rattle.std.specs.Prelude.{◌≡◌, ◌==◌, ◌^◌, ◌-◌, ◌�
 ghost use Rattle.std.specs.List.{list_all, list_any, AllByRecursion};
 ghost use Rattle.mesa_record.specs.declared.checkpoint.StatedSingle.{StatedSingle as Told};
 ghost use Rattle.mesa_record.specs.declared.record.ViewRef.{ViewRef as Seen};
-ghost use Rattle.mesa_image_laws.specs.mesa_image.Fitting.{are_new_ids, has_number};
-ghost use Rattle.mesa_image_laws.specs.Ids.{times as times_of};
-ghost use Rattle.mesa_shelf.specs.declared.table.Table.{Table as Held};
-ghost use Rattle.mesa_shelf.specs.Named.{file_ids, own_if_any, table_ids, view_id};
+ghost use Rattle.mesa_image.specs.Fitting.{are_new_ids, has_number};
+ghost use Rattle.mesa_image.specs.Ids.{times as times_of};
+ghost use Rattle.mesa_table.specs.declared.table.Table.{Table as Held};
+ghost use Rattle.mesa_table.specs.Named.{file_ids, own_if_any, table_ids, view_id};
 ghost use Rattle.mesa_catalog.specs.Named.{RiseTo, held_ids, ids_brought, is_once_new, part_ids, recast_base_ids, recast_ids, told_id};
 
 use crate::shelves::Shelves;
 use mesa_file::FileId;
 use mesa_record::{Files, Part, RecastBase, Recasting, Record, StatedSingle, ViewRef};
-use mesa_shelf::Table;
+use mesa_table::Table;
 
 // How many ids of files a run has.
 pub(crate) const IDS_OF_RUN: u64 = 1 << 40;

@@ -4,12 +4,12 @@ ghost use Rattle.std.specs.List.{AllByRecursion, list_all};
 ghost use Rattle.mesa_record.specs.declared.record.Part.{Part as PartOf};
 ghost use Rattle.mesa_span.specs.Ranges.{base_before};
 ghost use Rattle.mesa_record.specs.declared.record.Record.TheVariants as record_of;
-ghost use Rattle.mesa_image_laws.specs.mesa_image.Catalog.{empty_base, merged_delta, stock_at};
-ghost use Rattle.mesa_image_laws.specs.mesa_image.Fitting.{alter_fits, is_there, kind_fits, part_fits, recast_fits, table_fits, view_fits};
+ghost use Rattle.mesa_image.specs.Catalog.{empty_base, merged_delta, stock_at};
+ghost use Rattle.mesa_image.specs.Fitting.{alter_fits, is_there, kind_fits, part_fits, recast_fits, table_fits, view_fits};
 ghost use Rattle.mesa_catalog.specs.Meaning.{IsShelved, catalogue_of};
-ghost use Rattle.mesa_shelf.specs.Meaning.{ending_of};
+ghost use Rattle.mesa_table.specs.Meaning.{ending_of};
 ghost use Rattle.mesa_catalog.specs.Readied.{AreRoomier, HasRoom, IsMade, IsMadePart, record_in};
-ghost use Rattle.mesa_shelf.specs.Readied.{HasSpare, part_in};
+ghost use Rattle.mesa_table.specs.Readied.{HasSpare, part_in};
 
 use crate::lineages::{lineage_with_change, lineage_with_view, new_lineage, widths_with};
 use crate::ready::Ready;
@@ -17,7 +17,7 @@ use crate::shelves::Shelves;
 use mesa_list::{Items, TryCopy};
 use mesa_record::{Files, Part, Recasting, Record};
 use mesa_schema::{Change, KeyColumn, Name, ValueColumn};
-use mesa_shelf::{
+use mesa_table::{
     Base, Delta, ReadyPart, Table, make_recast, make_spare, no_totals, totals_changed, totals_with,
     width_of,
 };

@@ -1,11 +1,11 @@
 // The catalogue that a checkpoint states. Names, columns, files and totals are moved, not copied.
 ghost use Rattle.std.specs.Prelude.{◌≡◌, ◌≢◌, ◌++◌, false, flat_map, map, option_map, IfErr, IfOk, IsTrue, OnOk};
 ghost use Rattle.std.specs.List.{AllByRecursion, list_all};
-ghost use Rattle.mesa_image_laws.specs.mesa_image.Checkpoint.{stated, stock_stated};
-ghost use Rattle.mesa_image_laws.specs.mesa_image.CheckpointFits.{checkpoint_fits, counts_fit as counts_are_right, names_differ as all_differ, number_fits as number_is_right, table_fits, tables_fit};
-ghost use Rattle.mesa_image_laws.specs.mesa_image.Journaled.{stated_if};
-ghost use Rattle.mesa_shelf.specs.declared.restoring.RestoreError.TheVariants as RestoreError;
-ghost use Rattle.mesa_shelf.specs.Meaning.{IsTable, stock_of};
+ghost use Rattle.mesa_image.specs.Checkpoint.{stated, stock_stated};
+ghost use Rattle.mesa_image.specs.CheckpointFits.{checkpoint_fits, counts_fit as counts_are_right, names_differ as all_differ, number_fits as number_is_right, table_fits, tables_fit};
+ghost use Rattle.mesa_image.specs.Journaled.{stated_if};
+ghost use Rattle.mesa_table.specs.declared.restoring.RestoreError.TheVariants as RestoreError;
+ghost use Rattle.mesa_table.specs.Meaning.{IsTable, stock_of};
 ghost use Rattle.mesa_catalog.specs.Kept.{unreserved};
 ghost use Rattle.mesa_catalog.specs.Meaning.{catalogue_of};
 ghost use Rattle.mesa_catalog.specs.Restored.{table_names};
@@ -18,7 +18,7 @@ use mesa_disk::Area;
 use mesa_list::{Items, TryCopy};
 use mesa_record::{Checkpoint, StatedTable};
 use mesa_schema::{Name, repeated_place};
-use mesa_shelf::{NoRows, RestoreError, Table, restore};
+use mesa_table::{NoRows, RestoreError, Table, restore};
 use std::alloc::{AllocError, Global};
 use std::collections::VecDeque;
 

@@ -1,11 +1,11 @@
 // All that the catalogue holds.
 ghost use Rattle.std.specs.Prelude.{◌≡◌, is_some, true, IfSome};
-ghost use Rattle.mesa_image_laws.specs.mesa_image.Catalog.{stock_at};
-ghost use Rattle.mesa_image_laws.specs.mesa_image.Fitting.{is_there};
+ghost use Rattle.mesa_image.specs.Catalog.{stock_at};
+ghost use Rattle.mesa_image.specs.Fitting.{is_there};
 ghost use Rattle.mesa_catalog.specs.Meaning.{IsShelved, catalogue_of};
-ghost use Rattle.mesa_shelf.specs.Meaning.{IsTable, stock_of};
+ghost use Rattle.mesa_table.specs.Meaning.{IsTable, stock_of};
 
-use mesa_shelf::Table;
+use mesa_table::Table;
 
 // How many tables there may be.
 pub(crate) const MAX_TABLES: usize = 32;

@@ -2,13 +2,13 @@
 ghost use Rattle.std.specs.Prelude.{◌≡◌, ◌<◌, ◌^◌, ℕ, IfOk, map};
 ghost use Rattle.std.specs.List.{AllByRecursion};
 ghost use Rattle.mesa_record.specs.declared.record.Record.TheVariants as record_of;
-ghost use Rattle.mesa_image_laws.specs.mesa_image.Checkpoint.{checkpoint_of, stating_table};
-ghost use Rattle.mesa_shelf.specs.Meaning.{IsTable, stock_of};
+ghost use Rattle.mesa_image.specs.Checkpoint.{checkpoint_of, stating_table};
+ghost use Rattle.mesa_table.specs.Meaning.{IsTable, stock_of};
 
 use crate::Catalog;
 use mesa_list::Items;
 use mesa_record::{Checkpoint, Record, StatedTable};
-use mesa_shelf::Table;
+use mesa_table::Table;
 use std::alloc::{AllocError, Global};
 
 impl Catalog {

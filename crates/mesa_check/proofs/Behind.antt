@@ -7,16 +7,16 @@ use Rattle.std.proofs.lemmas.Bool.Decides.{nat_tests}
 use Rattle.std.proofs.lemmas.List.{append_cancel_left, map-append, take-append-drop, take-take}
 use Rattle.std.proofs.lemmas.List.Elements.{filter-append}
 use Rattle.mesa_schema.proofs.Lists.{all_drop}
-use Rattle.mesa_image_laws.specs.mesa_image.Catalog.{Delta, Stock, start_in}
-use Rattle.mesa_image_laws.specs.mesa_image.Fitting.{deltas_of}
-use Rattle.mesa_shelf.specs.declared.table.Loaded.{Loaded}
-use Rattle.mesa_shelf.specs.declared.table.Table.{Table}
-use Rattle.mesa_shelf.specs.Meaning.{AreLoaded, IsTable, start_of_base, stock_of}
-use Rattle.mesa_shelf.specs.Named.{through}
+use Rattle.mesa_image.specs.Catalog.{Delta, Stock, start_in}
+use Rattle.mesa_image.specs.Fitting.{deltas_of}
+use Rattle.mesa_table.specs.declared.table.Loaded.{Loaded}
+use Rattle.mesa_table.specs.declared.table.Table.{Table}
+use Rattle.mesa_table.specs.Meaning.{AreLoaded, IsTable, start_of_base, stock_of}
+use Rattle.mesa_table.specs.Named.{through}
 use Rattle.mesa_plans.specs.Lent.{lent_if_any, single_delta, with_rows}
 use Rattle.mesa_plans.proofs.Among.{all_merged}
 use Rattle.mesa_plans.proofs.Lending.{singles_taken, start_held}
-use Rattle.mesa_verdict.specs.Faults.{merged_singles}
+use Rattle.mesa_check.specs.Faults.{merged_singles}
 use Rattle.mesa_check.specs.Held.{delta_of, lent_delta}
 use Rattle.mesa_check.specs.Parts.{parts_of}
 use Rattle.mesa_check.specs.declared.testing.Test.{Test}

@@ -4,11 +4,11 @@ use Rattle.std.specs.Prelude.{flat_map, IfSome, Option, None, Some}
 use Rattle.std.specs.List.{AllByRecursion}
 use Rattle.mesa_disk.specs.Image.{Image}
 use Rattle.mesa_schema.specs.Changes.{epoch_of}
-use Rattle.mesa_image_laws.specs.mesa_image.Catalog.{Stock}
-use Rattle.mesa_shelf.specs.declared.table.Table.{Table}
-use Rattle.mesa_verdict.specs.Found.{Found}
-use Rattle.mesa_verdict.specs.Faults.{fails, fault_of, keys_shown, merged_key, merged_keys, range_faults, view_keys}
-use Rattle.mesa_verdict.specs.Ranges.{Range}
+use Rattle.mesa_image.specs.Catalog.{Stock}
+use Rattle.mesa_table.specs.declared.table.Table.{Table}
+use Rattle.mesa_check.specs.Found.{Found}
+use Rattle.mesa_check.specs.Faults.{fails, fault_of, keys_shown, merged_key, merged_keys, range_faults, view_keys}
+use Rattle.mesa_check.specs.Ranges.{Range}
 use Rattle.mesa_check.specs.Held.{delta_of, held_ranges, range_in}
 use Rattle.mesa_check.specs.Parts.{Agrees}
 use Rattle.mesa_check.specs.Shown.{is_found_in, is_merged, tested_range}

@@ -7,14 +7,14 @@ use Rattle.std.proofs.lemmas.List.Sums.{sum_by-cons}
 use Rattle.mesa_disk.specs.Image.{Image}
 use Rattle.mesa_disk.specs.Story.{Story}
 use Rattle.mesa_schema.specs.declared.rows.Row.{Row}
-use Rattle.mesa_image_laws.specs.mesa_image.Catalog.{Catalog}
-use Rattle.mesa_image_laws.specs.mesa_image.Fitting.{Shelved, shelved, shelved_id}
-use Rattle.mesa_image_laws.specs.mesa_image.Shape.{IsCatalog}
-use Rattle.mesa_image_laws.specs.Ids.{HasOwnIds, times}
-use Rattle.mesa_verdict.specs.Found.{AreFound, Found, IsFoundAs, all_found}
-use Rattle.mesa_verdict.specs.Faults.{Fault, first_fault}
-use Rattle.mesa_verdict.specs.Laws.{NoFaultIsSound, SoundHasNoFault, SoundIsFound}
-use Rattle.mesa_verdict.specs.Verdict.{IsFirstFault}
+use Rattle.mesa_image.specs.Catalog.{Catalog}
+use Rattle.mesa_image.specs.Fitting.{Shelved, shelved, shelved_id}
+use Rattle.mesa_image.specs.Shape.{IsCatalog}
+use Rattle.mesa_image.specs.Ids.{HasOwnIds, times}
+use Rattle.mesa_check.specs.Found.{AreFound, Found, IsFoundAs, all_found}
+use Rattle.mesa_check.specs.Faults.{Fault, first_fault}
+use Rattle.mesa_check.specs.Laws.{NoFaultIsSound, SoundHasNoFault, SoundIsFound}
+use Rattle.mesa_check.specs.Verdict.{IsFirstFault}
 use Rattle.mesa_check.specs.Tested.{HasRows}
 
 -- ---- files by their ids

@@ -9,21 +9,21 @@ use Rattle.mesa_schema.specs.Changes.{Lineage}
 use Rattle.mesa_schema.specs.declared.rows.Row.{Row}
 use Rattle.mesa_schema.specs.Folded.{rows_of}
 use Rattle.mesa_schema.proofs.Lists.{all_append, all_drop, all_map}
-use Rattle.mesa_image_laws.specs.mesa_image.Catalog.{Delta, Ending, empty_delta, start_in}
-use Rattle.mesa_image_laws.specs.mesa_image.Contents.{present}
-use Rattle.mesa_image_laws.specs.mesa_image.Fitting.{Shelved, base_deltas, delta_in, delta_shelved, deltas_of, stock_shelved}
-use Rattle.mesa_image_laws.proofs.Lists.{all_back, all_flat, all_front, all_take, all_unflat, all_unmap}
-use Rattle.mesa_shelf.specs.declared.table.Loaded.{Loaded}
-use Rattle.mesa_shelf.specs.declared.table.Table.{Table}
-use Rattle.mesa_shelf.specs.Meaning.{IsTable, ending_of, singles_from, start_of_base, stock_of, tens_from}
-use Rattle.mesa_shelf.specs.Named.{through}
-use Rattle.mesa_shelf.proofs.Named.{flat_map-map, flat_map-same, singles_through}
-use Rattle.mesa_shelf.proofs.Singles.{flat_map-append, singles_give}
+use Rattle.mesa_image.specs.Catalog.{Delta, Ending, empty_delta, start_in}
+use Rattle.mesa_image.specs.Contents.{present}
+use Rattle.mesa_image.specs.Fitting.{Shelved, base_deltas, delta_in, delta_shelved, deltas_of, stock_shelved}
+use Rattle.mesa_image.proofs.Lists.{all_back, all_flat, all_front, all_take, all_unflat, all_unmap}
+use Rattle.mesa_table.specs.declared.table.Loaded.{Loaded}
+use Rattle.mesa_table.specs.declared.table.Table.{Table}
+use Rattle.mesa_table.specs.Meaning.{IsTable, ending_of, singles_from, start_of_base, stock_of, tens_from}
+use Rattle.mesa_table.specs.Named.{through}
+use Rattle.mesa_table.proofs.Named.{flat_map-map, flat_map-same, singles_through}
+use Rattle.mesa_table.proofs.Singles.{flat_map-append, singles_give}
 use Rattle.mesa_plans.proofs.Lending.{start_held}
-use Rattle.mesa_verdict.specs.Found.{Found, rows_found}
-use Rattle.mesa_verdict.specs.Faults.{is_found, is_true, merged_singles}
-use Rattle.mesa_verdict.specs.Ranges.{Range, base_range, cumulative_range, single_ranges, totals_range}
-use Rattle.mesa_verdict.specs.Ranges.{Base, Single, Cumulative}
+use Rattle.mesa_check.specs.Found.{Found, rows_found}
+use Rattle.mesa_check.specs.Faults.{is_found, is_true, merged_singles}
+use Rattle.mesa_check.specs.Ranges.{Range, base_range, cumulative_range, single_ranges, totals_range}
+use Rattle.mesa_check.specs.Ranges.{Base, Single, Cumulative}
 use Rattle.mesa_check.specs.Counted.{is_counted, is_single, rows_where, tells_of}
 use Rattle.mesa_check.specs.Held.{firsts, held_ranges, loaded_range}
 use Rattle.mesa_check.proofs.Walked.{held_give, ranges_give}

@@ -1,3 +1,16 @@
+pub use Rattle.mesa_catalog.proofs as mesa_catalog
+pub use Rattle.mesa_delta.proofs as mesa_delta
+pub use Rattle.mesa_image.proofs.mesa_history as mesa_history
+pub use Rattle.mesa_recover.proofs as mesa_recover
+pub use Rattle.mesa_schema.proofs as mesa_schema
+mod KeyLists
+mod Vectors
+mod Silent
+mod Bounds
+mod Sounding
+mod Faultless
+mod Stores
+mod InOrder
 pub mod Lists
 pub mod Walked
 pub mod Held

@@ -3,20 +3,20 @@ use Rattle.std.proofs.Common.{◌≡◌, ℕ, List, [], map, sym, ◌∙◌, sub
 use Rattle.std.specs.Prelude.{flat_map, Option, None}
 use Rattle.std.specs.List.{AllByRecursion}
 use Rattle.mesa_disk.specs.Image.{Image}
-use Rattle.mesa_fold.specs.Bound.{KeepsBound}
+use Rattle.mesa_plans.specs.mesa_fold.Bound.{KeepsBound}
 use Rattle.mesa_schema.specs.Changes.{Lineage, columns_of}
 use Rattle.mesa_schema.specs.Columns.{aggs_of}
 use Rattle.mesa_schema.specs.Folded.{folded, rows_of}
 use Rattle.mesa_schema.specs.declared.rows.Row.{Row}
-use Rattle.mesa_image_laws.specs.mesa_image.Catalog.{Delta, Stock}
-use Rattle.mesa_image_laws.specs.mesa_image.Contents.{present}
+use Rattle.mesa_image.specs.Catalog.{Delta, Stock}
+use Rattle.mesa_image.specs.Contents.{present}
 use Rattle.mesa_tasks.specs.declared.opening.Wanted.{Wanted}
 use Rattle.mesa_plans.specs.Files.{table_wanted, want_of}
 use Rattle.mesa_plans.specs.Lent.{with_rows}
-use Rattle.mesa_difference.specs.Difference.{first_difference}
+use Rattle.mesa_compare.specs.Difference.{first_difference}
 use Rattle.mesa_compare.specs.Compared.{HaveFiles, IsLiftedTo, present_parts}
-use Rattle.mesa_verdict.specs.Found.{Found, rows_found}
-use Rattle.mesa_verdict.specs.Faults.{is_asked, merged_key, merged_singles}
+use Rattle.mesa_check.specs.Found.{Found, rows_found}
+use Rattle.mesa_check.specs.Faults.{is_asked, merged_key, merged_singles}
 use Rattle.mesa_check.specs.Shown.{key_list}
 use Rattle.mesa_check.proofs.Rows.{all_lifted, key_shown, no_key, same_fold, same_wanted, singles_rows, singles_there}
 use Rattle.mesa_check.proofs.Standing.{MayReplace}

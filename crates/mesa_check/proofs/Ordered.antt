@@ -6,12 +6,12 @@ use Rattle.std.specs.declared.alloc.Global.{Global}
 use Rattle.std.specs.declared.sync.Arc.{Arc}
 use Rattle.std.proofs.lemmas.List.{map-append, take-append-drop}
 use Rattle.mesa_schema.proofs.Lists.{all_append}
-use Rattle.mesa_image_laws.specs.mesa_image.Catalog.{Delta, Ending}
-use Rattle.mesa_image_laws.proofs.Lists.{all_back, all_front}
-use Rattle.mesa_shelf.specs.declared.table.Loaded.{Loaded}
-use Rattle.mesa_shelf.specs.declared.table.Table.{Table}
-use Rattle.mesa_shelf.specs.Meaning.{AreLoaded, IsTable, ending_of, start_of_base, tens_from}
-use Rattle.mesa_verdict.specs.Ranges.{Range, base_range, cumulative_range}
+use Rattle.mesa_image.specs.Catalog.{Delta, Ending}
+use Rattle.mesa_image.proofs.Lists.{all_back, all_front}
+use Rattle.mesa_table.specs.declared.table.Loaded.{Loaded}
+use Rattle.mesa_table.specs.declared.table.Table.{Table}
+use Rattle.mesa_table.specs.Meaning.{AreLoaded, IsTable, ending_of, start_of_base, tens_from}
+use Rattle.mesa_check.specs.Ranges.{Range, base_range, cumulative_range}
 use Rattle.mesa_check.specs.Counted.{is_single}
 use Rattle.mesa_check.specs.Held.{firsts, held_ranges, loaded_range, range_in}
 use Rattle.mesa_check.specs.Shown.{is_merged, tested_range}

@@ -18,24 +18,24 @@ use Rattle.mesa_schema.proofs.Folds.{folded-folded, rows_of-append}
 use Rattle.mesa_schema.proofs.Lists.{all_drop, all_so}
 use Rattle.mesa_schema.proofs.PresentRows.{present_rise}
 use Rattle.mesa_schema.proofs.RisingRows.{folded_rise}
-use Rattle.mesa_fold.specs.Bound.{KeepsBound}
-use Rattle.mesa_fold.proofs.Merged.{folds_totals}
+use Rattle.mesa_plans.specs.mesa_fold.Bound.{KeepsBound}
+use Rattle.mesa_plans.proofs.mesa_fold.Merged.{folds_totals}
 use Rattle.mesa_disk.specs.Image.{Image}
 use Rattle.mesa_delta.specs.Summary.{file_layout}
 use Rattle.mesa_record.specs.declared.record.Files.{Files}
-use Rattle.mesa_difference.specs.Difference.{first_difference}
-use Rattle.mesa_difference.proofs.Differing.{same_where_none}
-use Rattle.mesa_image_laws.specs.mesa_history.mesa_batch.Totals.{abs_total, sum_bound, sum_places}
-use Rattle.mesa_image_laws.specs.mesa_image.Catalog.{Delta, Stock, start_in}
-use Rattle.mesa_image_laws.specs.mesa_image.Contents.{Rows, present, rows_if_any}
-use Rattle.mesa_image_laws.specs.mesa_image.Fitting.{delta_shelved, files_shelved}
-use Rattle.mesa_image_laws.specs.mesa_image.Sound.{IsTold}
-use Rattle.mesa_image_laws.specs.mesa_image.mesa_block.Rows.{IsRow}
-use Rattle.mesa_image_laws.proofs.Formed.{all_formed, rows_formed}
-use Rattle.mesa_image_laws.proofs.Lists.{all_front, both_true}
-use Rattle.mesa_image_laws.proofs.Rising.{rising}
-use Rattle.mesa_verdict.specs.Found.{AreFound, Found, rows_found}
-use Rattle.mesa_verdict.specs.Faults.{is_asked, is_found, keep_bound, key_if, merged_key, merged_singles}
+use Rattle.mesa_compare.specs.Difference.{first_difference}
+use Rattle.mesa_compare.proofs.Differences.{same_where_none}
+use Rattle.mesa_image.specs.mesa_history.mesa_batch.Totals.{abs_total, sum_bound, sum_places}
+use Rattle.mesa_image.specs.Catalog.{Delta, Stock, start_in}
+use Rattle.mesa_image.specs.Contents.{Rows, present, rows_if_any}
+use Rattle.mesa_image.specs.Fitting.{delta_shelved, files_shelved}
+use Rattle.mesa_image.specs.Sound.{IsTold}
+use Rattle.mesa_image.specs.mesa_block.Rows.{IsRow}
+use Rattle.mesa_image.proofs.Formed.{all_formed, rows_formed}
+use Rattle.mesa_image.proofs.Lists.{all_front, both_true}
+use Rattle.mesa_image.proofs.Rising.{rising}
+use Rattle.mesa_check.specs.Found.{AreFound, Found, rows_found}
+use Rattle.mesa_check.specs.Faults.{is_asked, is_found, keep_bound, key_if, merged_key, merged_singles}
 use Rattle.mesa_check.specs.Held.{delta_of}
 use Rattle.mesa_check.specs.Parts.{Agrees, parts_of}
 use Rattle.mesa_check.specs.Tested.{AreThere, IsThere}

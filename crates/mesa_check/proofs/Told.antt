@@ -8,23 +8,23 @@ use Rattle.mesa_schema.specs.Changes.{Lineage, columns_of, epoch_of}
 use Rattle.mesa_schema.specs.declared.rows.Row.{Row}
 use Rattle.mesa_schema.specs.Folded.{rows_of}
 use Rattle.mesa_schema.proofs.Lists.{all_both, all_map, all_so}
-use Rattle.mesa_image_laws.specs.mesa_history.mesa_batch.Totals.{abs_totals}
-use Rattle.mesa_image_laws.specs.mesa_image.Catalog.{Delta, Stock, empty_delta, start_in}
-use Rattle.mesa_image_laws.specs.mesa_image.Contents.{present}
-use Rattle.mesa_image_laws.specs.mesa_image.Shape.{IsWithinBound}
-use Rattle.mesa_image_laws.specs.mesa_image.Sound.{all_parts}
-use Rattle.mesa_image_laws.specs.mesa_image.Fitting.{Shelved, base_deltas, delta_in, delta_shelved, deltas_of, stock_shelved}
-use Rattle.mesa_image_laws.proofs.Lists.{all_back, all_take, all_unflat, all_unmap}
-use Rattle.mesa_shelf.specs.declared.table.Base.{Base as HeldBase}
-use Rattle.mesa_shelf.specs.declared.table.Loaded.{Loaded}
-use Rattle.mesa_shelf.specs.declared.table.Table.{Table}
-use Rattle.mesa_shelf.specs.Meaning.{IsTable, ending_of, start_of_base, stock_of}
-use Rattle.mesa_shelf.proofs.Named.{flat_map-map}
+use Rattle.mesa_image.specs.mesa_history.mesa_batch.Totals.{abs_totals}
+use Rattle.mesa_image.specs.Catalog.{Delta, Stock, empty_delta, start_in}
+use Rattle.mesa_image.specs.Contents.{present}
+use Rattle.mesa_image.specs.Shape.{IsWithinBound}
+use Rattle.mesa_image.specs.Sound.{all_parts}
+use Rattle.mesa_image.specs.Fitting.{Shelved, base_deltas, delta_in, delta_shelved, deltas_of, stock_shelved}
+use Rattle.mesa_image.proofs.Lists.{all_back, all_take, all_unflat, all_unmap}
+use Rattle.mesa_table.specs.declared.table.Base.{Base as HeldBase}
+use Rattle.mesa_table.specs.declared.table.Loaded.{Loaded}
+use Rattle.mesa_table.specs.declared.table.Table.{Table}
+use Rattle.mesa_table.specs.Meaning.{IsTable, ending_of, start_of_base, stock_of}
+use Rattle.mesa_table.proofs.Named.{flat_map-map}
 use Rattle.mesa_examine.specs.Sums.{counted}
-use Rattle.mesa_verdict.specs.Found.{AreFound, Found, IsFoundAs, rows_found}
-use Rattle.mesa_verdict.specs.Faults.{exceeds_totals, fails, fault_of, has_false_totals, is_found, is_totalled, is_true, keys_shown, merged_key, merged_keys, merged_singles, range_faults, table_faults}
-use Rattle.mesa_verdict.specs.Ranges.{Kind, Range, base_range, is_range, totals_range}
-use Rattle.mesa_verdict.specs.Ranges.{Base, Single, Cumulative}
+use Rattle.mesa_check.specs.Found.{AreFound, Found, IsFoundAs, rows_found}
+use Rattle.mesa_check.specs.Faults.{exceeds_totals, fails, fault_of, has_false_totals, is_found, is_totalled, is_true, keys_shown, merged_key, merged_keys, merged_singles, range_faults, table_faults}
+use Rattle.mesa_check.specs.Ranges.{Kind, Range, base_range, is_range, totals_range}
+use Rattle.mesa_check.specs.Ranges.{Base, Single, Cumulative}
 use Rattle.mesa_check.specs.Counted.{is_counted, rows_where, tells_of}
 use Rattle.mesa_check.specs.Held.{IsHeld, delta_of, held_ranges, kind_in, loaded_range, range_in}
 use Rattle.mesa_check.specs.Shown.{has_false_of, is_found_in, is_merged, is_sure, stands_of, tells_excess, tells_totals, tested_range}

@@ -10,14 +10,14 @@ use Rattle.mesa_schema.specs.declared.rows.Row.{Row}
 use Rattle.mesa_schema.specs.Changes.{Lineage, columns_of}
 use Rattle.mesa_schema.specs.Columns.{Columns, aggs_of}
 use Rattle.mesa_schema.proofs.Lists.{all_so}
-use Rattle.mesa_image_laws.specs.mesa_history.mesa_batch.Totals.{abs_total, sum_bound, sum_places}
-use Rattle.mesa_image_laws.specs.mesa_image.Contents.{present}
-use Rattle.mesa_image_laws.proofs.Lists.{both_true}
-use Rattle.mesa_shelf.specs.declared.table.Table.{Table}
-use Rattle.mesa_shelf.specs.Meaning.{IsTable, stock_of}
-use Rattle.mesa_shelf.proofs.Singles.{flat_map-append}
-use Rattle.mesa_verdict.specs.Found.{Found, rows_found}
-use Rattle.mesa_verdict.specs.Faults.{is_asked, is_found, keep_bound}
+use Rattle.mesa_image.specs.mesa_history.mesa_batch.Totals.{abs_total, sum_bound, sum_places}
+use Rattle.mesa_image.specs.Contents.{present}
+use Rattle.mesa_image.proofs.Lists.{both_true}
+use Rattle.mesa_table.specs.declared.table.Table.{Table}
+use Rattle.mesa_table.specs.Meaning.{IsTable, stock_of}
+use Rattle.mesa_table.proofs.Singles.{flat_map-append}
+use Rattle.mesa_check.specs.Found.{Found, rows_found}
+use Rattle.mesa_check.specs.Faults.{is_asked, is_found, keep_bound}
 use Rattle.mesa_check.specs.Counted.{is_single, rows_where}
 use Rattle.mesa_check.specs.Held.{delta_of, held_ranges, range_in}
 use Rattle.mesa_check.specs.Parts.{IsAskedBelow}

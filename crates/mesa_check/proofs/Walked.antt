@@ -4,15 +4,15 @@ use Rattle.std.specs.List.{AllByRecursion}
 use Rattle.std.specs.Prelude.{flat_map, option_map, replicate, ◌==◌}
 use Rattle.std.proofs.lemmas.Bool.Decides.{nat_tests}
 use Rattle.std.proofs.lemmas.List.{append-nil, take-append-drop}
-use Rattle.mesa_image_laws.specs.mesa_image.Catalog.{Delta, Ending, empty_delta, start_in}
-use Rattle.mesa_shelf.specs.declared.table.Loaded.{Loaded}
-use Rattle.mesa_shelf.specs.declared.table.Table.{Table}
-use Rattle.mesa_shelf.specs.Meaning.{AreLoaded, IsTable, ending_of, singles_from, start_of_base, stock_of, tens_from}
-use Rattle.mesa_shelf.proofs.Named.{flat_map-map}
-use Rattle.mesa_shelf.proofs.Singles.{flat_map-append}
+use Rattle.mesa_image.specs.Catalog.{Delta, Ending, empty_delta, start_in}
+use Rattle.mesa_table.specs.declared.table.Loaded.{Loaded}
+use Rattle.mesa_table.specs.declared.table.Table.{Table}
+use Rattle.mesa_table.specs.Meaning.{AreLoaded, IsTable, ending_of, singles_from, start_of_base, stock_of, tens_from}
+use Rattle.mesa_table.proofs.Named.{flat_map-map}
+use Rattle.mesa_table.proofs.Singles.{flat_map-append}
 use Rattle.mesa_plans.proofs.Lending.{start_held}
-use Rattle.mesa_verdict.specs.Ranges.{Range, base_range, checked_ranges, cumulative_range, single_ranges}
-use Rattle.mesa_verdict.specs.Ranges.{Single}
+use Rattle.mesa_check.specs.Ranges.{Range, base_range, checked_ranges, cumulative_range, single_ranges}
+use Rattle.mesa_check.specs.Ranges.{Single}
 use Rattle.mesa_check.specs.Held.{firsts, held_ranges, loaded_range}
 
 -- the range of a singleton

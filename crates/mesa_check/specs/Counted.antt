@@ -2,10 +2,10 @@
 use Rattle.std.specs.Prelude.{List, [], Bool, true, false, if◌then◌else◌, is_some}
 use Rattle.mesa_schema.specs.Changes.{Lineage}
 use Rattle.mesa_schema.specs.declared.rows.Row.{Row}
-use Rattle.mesa_image_laws.specs.mesa_image.Contents.{present}
-use Rattle.mesa_verdict.specs.Found.{Found, rows_found}
-use Rattle.mesa_verdict.specs.Ranges.{Range}
-use Rattle.mesa_verdict.specs.Ranges.{Base, Single, Cumulative}
+use Rattle.mesa_image.specs.Contents.{present}
+use Rattle.mesa_check.specs.Found.{Found, rows_found}
+use Rattle.mesa_check.specs.Ranges.{Range}
+use Rattle.mesa_check.specs.Ranges.{Base, Single, Cumulative}
 
 -- a range may tell of a table's totals: the base, or a singleton with rows
 abbrev pub tells_of : Range → Bool

@@ -1,10 +1,10 @@
 -- Which faults of a range are told, by the tests of a table's ranges.
 use Rattle.std.specs.Prelude.{ℕ, List, [], ◌∷◌, Bool, true, false, not, ◌&&◌, ◌||◌, Option, Some, None}
-use Rattle.mesa_image_laws.specs.mesa_image.Catalog.{Stock}
-use Rattle.mesa_verdict.specs.Found.{Found}
-use Rattle.mesa_verdict.specs.Faults.{Fault, exceeds_totals}
-use Rattle.mesa_verdict.specs.Ranges.{Range, is_range, totals_range}
-use Rattle.mesa_verdict.specs.Ranges.{Base, Single, Cumulative}
+use Rattle.mesa_image.specs.Catalog.{Stock}
+use Rattle.mesa_check.specs.Found.{Found}
+use Rattle.mesa_check.specs.Faults.{Fault, exceeds_totals}
+use Rattle.mesa_check.specs.Ranges.{Range, is_range, totals_range}
+use Rattle.mesa_check.specs.Ranges.{Base, Single, Cumulative}
 use Rattle.mesa_check.specs.Counted.{tells_of}
 use Rattle.mesa_check.specs.Held.{kind_in, range_in}
 use Rattle.mesa_check.specs.declared.faults.Shown.{Shown}

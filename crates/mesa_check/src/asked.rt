@@ -2,14 +2,14 @@
 ghost use Rattle.std.specs.Prelude.{◌≡◌, ◌++◌, ◌&&◌, ◌||◌, not, ℕ, List, map, is_some, IfOk, IfSome};
 ghost use Rattle.std.specs.List.{AllByRecursion};
 ghost use Rattle.mesa_disk.specs.Image.{Image};
-ghost use Rattle.mesa_image_laws.specs.mesa_history.mesa_batch.Totals.{abs_totals};
-ghost use Rattle.mesa_image_laws.specs.mesa_image.Contents.{present as present_of};
+ghost use Rattle.mesa_image.specs.mesa_history.mesa_batch.Totals.{abs_totals};
+ghost use Rattle.mesa_image.specs.Contents.{present as present_of};
 ghost use Rattle.mesa_schema.specs.Changes.{Lineage, columns_of};
 ghost use Rattle.mesa_schema.specs.declared.rows.Row.{Row as AnyRow};
-ghost use Rattle.mesa_shelf.specs.Meaning.{stock_of};
+ghost use Rattle.mesa_table.specs.Meaning.{stock_of};
 ghost use Rattle.mesa_examine.specs.Sums.{counted as counted_of};
-ghost use Rattle.mesa_verdict.specs.Found.{Found, rows_found};
-ghost use Rattle.mesa_verdict.specs.Faults.{is_found, keep_bound as keeps_bound};
+ghost use Rattle.mesa_check.specs.Found.{Found, rows_found};
+ghost use Rattle.mesa_check.specs.Faults.{is_found, keep_bound as keeps_bound};
 ghost use Rattle.mesa_check.specs.Counted.{is_single as is_single_of, rows_where};
 ghost use Rattle.mesa_check.specs.Held.{IsHeld, delta_of, held_ranges, range_in};
 ghost use Rattle.mesa_check.specs.Parts.{IsAskedBelow, is_below as is_below_of};
@@ -18,7 +18,7 @@ ghost use Rattle.mesa_check.specs.Tested.{IsRead, IsTested, range_of};
 use crate::range::{Held, Kind};
 use crate::testing::Test;
 use crate::totals::{added, keep_bound, no_sums};
-use mesa_shelf::Table;
+use mesa_table::Table;
 use std::alloc::{AllocError, Global};
 
 /// The version below which cumulatives are compared: the first up to which the files of singletons aren't all the recorded ones, or their rows at present don't keep the bound. None where there is no such version.

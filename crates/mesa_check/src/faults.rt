@@ -3,16 +3,16 @@ ghost use Rattle.std.specs.Prelude.{◌≡◌, ◌<◌, ◌≤◌, ◌&&◌, ℕ
 ghost use Rattle.std.specs.List.{AllByRecursion, list_all};
 ghost use Rattle.mesa_disk.specs.Image.{Image};
 ghost use Rattle.mesa_disk.specs.Story.{Unmoved};
-ghost use Rattle.mesa_image_laws.specs.mesa_history.mesa_batch.Totals.{sum_bound};
-ghost use Rattle.mesa_image_laws.specs.mesa_image.Fitting.{stock_shelved};
+ghost use Rattle.mesa_image.specs.mesa_history.mesa_batch.Totals.{sum_bound};
+ghost use Rattle.mesa_image.specs.Fitting.{stock_shelved};
 ghost use Rattle.mesa_plans.specs.Lent.{now_if_any};
 ghost use Rattle.mesa_schema.specs.Changes.{epoch_of};
-ghost use Rattle.mesa_shelf.specs.Meaning.{stock_of};
+ghost use Rattle.mesa_table.specs.Meaning.{stock_of};
 ghost use Rattle.mesa_tasks.specs.Opening.{Counted};
 ghost use Rattle.mesa_examine.specs.Examined.{is_read_failure};
-ghost use Rattle.mesa_verdict.specs.Found.{AreFound, Found};
-ghost use Rattle.mesa_verdict.specs.Faults.{exceeds_totals as exceeds_them, fault_of, keys_shown, range_faults, table_faults};
-ghost use Rattle.mesa_verdict.specs.Ranges.{is_range as is_range_of};
+ghost use Rattle.mesa_check.specs.Found.{AreFound, Found};
+ghost use Rattle.mesa_check.specs.Faults.{exceeds_totals as exceeds_them, fault_of, keys_shown, range_faults, table_faults};
+ghost use Rattle.mesa_check.specs.Ranges.{is_range as is_range_of};
 ghost use Rattle.mesa_check.specs.Counted.{tells_of};
 ghost use Rattle.mesa_check.specs.Held.{IsHeld, delta_of, held_ranges as ranges_held, range_in};
 ghost use Rattle.mesa_check.specs.Parts.{Agrees, IsAskedBelow};
@@ -28,7 +28,7 @@ use crate::totals::{add_up, are_at_most};
 use mesa_disk::{Disk, Made};
 use mesa_examine::CheckError;
 use mesa_key::KeyBytes;
-use mesa_shelf::Table;
+use mesa_table::Table;
 use std::alloc::{AllocError, Global};
 
 /// A table's fault: its range of versions, and the key that shows it, if a single one does.

@@ -1,16 +1,16 @@
 // What a cumulative is compared with.
 ghost use Rattle.std.specs.Prelude.{◌≡◌, ◌++◌, ◌≤◌, ℕ, IfSome};
 ghost use Rattle.std.specs.List.{AllByRecursion};
-ghost use Rattle.mesa_image_laws.specs.mesa_image.Fitting.{deltas_of};
-ghost use Rattle.mesa_shelf.specs.Meaning.{AreLoaded, IsTable, stock_of};
-ghost use Rattle.mesa_shelf.specs.Named.{through};
+ghost use Rattle.mesa_image.specs.Fitting.{deltas_of};
+ghost use Rattle.mesa_table.specs.Meaning.{AreLoaded, IsTable, stock_of};
+ghost use Rattle.mesa_table.specs.Named.{through};
 ghost use Rattle.mesa_plans.specs.Lent.{AreOfEpochs, lent_in, now_if_any, with_rows};
 ghost use Rattle.mesa_check.specs.Held.{delta_of};
 ghost use Rattle.mesa_check.specs.Parts.{parts_of};
 
 use crate::testing::Test;
 use mesa_plans::{Deltas, merged};
-use mesa_shelf::{Loaded, Table};
+use mesa_table::{Loaded, Table};
 
 /// The deltas whose fold the cumulative that ends at a version is to have: the singletons of its range; or the cumulative before it, where one is told, and the singletons since then. Takes no memory.
 pub(crate) fn parts<'a>(table: &'a Table, before: Option<&Test<'a>>, to: u32) -> Deltas<'a>

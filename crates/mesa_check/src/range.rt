@@ -5,7 +5,7 @@ ghost use Rattle.mesa_check.specs.Held.{delta_of};
 
 use mesa_record::Files;
 use mesa_schema::Totals;
-use mesa_shelf::Delta;
+use mesa_table::Delta;
 
 /// What a range is.
 #[derive(Clone, Copy)]

@@ -3,27 +3,27 @@ ghost use Rattle.std.specs.Prelude.{◌≡◌, ℕ, IfOk, None, Some};
 ghost use Rattle.std.specs.List.{AllByRecursion};
 ghost use Rattle.mesa_disk.specs.Image.{Image};
 ghost use Rattle.mesa_disk.specs.Story.{Unmoved};
-ghost use Rattle.mesa_image_laws.specs.mesa_image.Fitting.{shelved};
-ghost use Rattle.mesa_image_laws.specs.mesa_image.Shape.{IsCatalog};
+ghost use Rattle.mesa_image.specs.Fitting.{shelved};
+ghost use Rattle.mesa_image.specs.Shape.{IsCatalog};
 ghost use Rattle.mesa_recover.specs.Opened.{IsOpened};
 ghost use Rattle.mesa_tasks.specs.Opening.{Counted};
 ghost use Rattle.mesa_examine.specs.Examined.{is_read_failure};
-ghost use Rattle.mesa_verdict.specs.Found.{AreFound, Found};
-ghost use Rattle.mesa_verdict.specs.Faults.{first_fault};
-ghost use Rattle.mesa_verdict.specs.Verdict.{IsFirstFault, fault_told};
-ghost use Rattle.mesa_shelf.specs.Meaning.{stock_of};
+ghost use Rattle.mesa_check.specs.Found.{AreFound, Found};
+ghost use Rattle.mesa_check.specs.Faults.{first_fault};
+ghost use Rattle.mesa_check.specs.Verdict.{IsFirstFault, fault_told};
+ghost use Rattle.mesa_table.specs.Meaning.{stock_of};
 ghost use Rattle.mesa_check.specs.Shown.{shown_fault};
 ghost use Rattle.mesa_check.specs.Tested.{HasRows};
 
 use crate::faults::{Shown, table_fault};
+use crate::{Verdict, sound_where_no_fault};
 use mesa_catalog::Catalog;
 use mesa_disk::{Disk, Made};
 use mesa_examine::CheckError;
-use mesa_image_laws::{catalogs_are_shaped, catalogs_own_ids};
+use mesa_image::{catalogs_are_shaped, catalogs_own_ids};
 use mesa_list::TryCopy;
 use mesa_recover::Opened;
-use mesa_shelf::Table;
-use mesa_verdict::{Verdict, sound_where_no_fault};
+use mesa_table::Table;
 use std::alloc::{AllocError, Global};
 
 /// Whether a store that was read is sound, and else its first fault. Each file that the catalogue names is read once, and once more for each comparison that it is in: a singleton's with one cumulative, a cumulative's with its singletons and with the next cumulative, and a table's file with each of its views'. A block of each file that is open is held, and of a view's file the groups of its table's rows. Nothing is written.

@@ -3,7 +3,7 @@ ghost use Rattle.std.specs.Prelude.{◌≡◌, ◌≤◌, map, false, IfOk, None
 ghost use Rattle.std.specs.List.{AllByRecursion};
 ghost use Rattle.mesa_disk.specs.Image.{Image};
 ghost use Rattle.mesa_disk.specs.Story.{Unmoved};
-ghost use Rattle.mesa_image_laws.specs.mesa_image.Shape.{IsWithinBound};
+ghost use Rattle.mesa_image.specs.Shape.{IsWithinBound};
 ghost use Rattle.mesa_schema.specs.Changes.{epoch_of};
 ghost use Rattle.mesa_tasks.specs.Opening.{Counted};
 ghost use Rattle.mesa_examine.specs.Examined.{is_read_failure};

@@ -12,7 +12,7 @@ use Rattle.mesa_delta.specs.Reading.{IsIndexed, index_of}
 use Rattle.mesa_delta.specs.declared.input.Input.{Input}
 use Rattle.mesa_cursor.specs.Cursors.{IsAllOf, IsSameInput, lift_by, reader_in}
 use Rattle.mesa_merge.specs.Inputs.{AreAll, AreTold, Known, lifted_parts}
-use Rattle.mesa_difference.specs.Difference.{first_difference, next_of}
+use Rattle.mesa_compare.specs.Difference.{first_difference, next_of}
 use Rattle.mesa_compare.specs.Compared.{Shows}
 
 -- a row that comes next, and those behind it; behind an end there is none

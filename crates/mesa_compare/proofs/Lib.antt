@@ -1,3 +1,7 @@
+pub mod Same
+pub mod Least
+pub mod Beside
+pub mod Differences
 pub mod Stepping
 pub mod Counting
 pub mod Differing

@@ -11,7 +11,7 @@ use Rattle.mesa_delta.specs.declared.error.FileError.{FileError}
 use Rattle.mesa_delta.specs.declared.error.FileError.TheVariants as file_error
 use Rattle.mesa_tasks.specs.Opening.{wanted_layout}
 use Rattle.mesa_tasks.specs.declared.opening.Wanted.{Wanted}
-use Rattle.mesa_difference.specs.Difference.{first_difference, next_of}
+use Rattle.mesa_compare.specs.Difference.{first_difference, next_of}
 use Rattle.mesa_examine.specs.declared.error.CheckError.{CheckError}
 use Rattle.mesa_examine.specs.declared.error.CheckError.TheVariants as check_error
 

@@ -14,7 +14,7 @@ ghost use Rattle.mesa_cursor.specs.Cursors.{IsInput, lift_by, reader_in};
 ghost use Rattle.mesa_merge.specs.Inputs.{AreInputs, AreTold, knowns_of, lifted_parts};
 ghost use Rattle.mesa_merge.specs.Merged.{HasMerged, inputs_of};
 ghost use Rattle.mesa_tasks.specs.Opening.{Counted, HasEpoch};
-ghost use Rattle.mesa_difference.specs.Difference.{first_difference};
+ghost use Rattle.mesa_compare.specs.Difference.{first_difference};
 ghost use Rattle.mesa_examine.specs.Examined.{is_read_failure};
 ghost use Rattle.mesa_compare.specs.Compared.{HasFile, HasFileIfAny, HaveFiles, IsLiftedTo, present_if_any, present_parts, present_rows};
 

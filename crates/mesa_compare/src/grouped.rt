@@ -11,13 +11,13 @@ ghost use Rattle.mesa_delta.specs.Reading.{IsIndexed, index_of};
 ghost use Rattle.mesa_delta.specs.declared.error.FileError.TheVariants as file_error;
 ghost use Rattle.mesa_cursor.specs.Cursors.{HasGiven, IsInput, IsSameInput, lift_by, low_of, reader_in};
 ghost use Rattle.mesa_merge.specs.Faults.{HaveFaultCause};
-ghost use Rattle.mesa_difference.specs.Difference.{first_difference};
+ghost use Rattle.mesa_compare.specs.Difference.{first_difference};
 
 use crate::finishing::finish_input;
 use crate::keys::difference_at;
+use crate::same_rows_differ_nowhere;
 use mesa_cursor::Cursor;
 use mesa_delta::{FileError, Input};
-use mesa_difference::same_rows_differ_nowhere;
 use mesa_disk::FileReader;
 use mesa_examine::next_row;
 use mesa_key::KeyBytes;

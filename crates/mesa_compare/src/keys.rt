@@ -3,7 +3,7 @@ ghost use Rattle.std.specs.Prelude.{◌≡◌, IfNone, IfOk, IfSome, option_map}
 ghost use Rattle.mesa_schema.specs.Lent.{lent};
 ghost use Rattle.mesa_compare.specs.Compared.{Shows};
 
-use mesa_difference::differing_key;
+use crate::differing_key;
 use mesa_key::KeyBytes;
 use mesa_schema::LentRow;
 use std::alloc::{AllocError, Global};

@@ -12,13 +12,13 @@ ghost use Rattle.mesa_cursor.specs.Cursors.{IsInput, IsSameInput, lift_by, reade
 ghost use Rattle.mesa_merge.specs.Faults.{HaveFaultCause, faults_of};
 ghost use Rattle.mesa_merge.specs.Inputs.{AreTold, knowns_of, lifted_parts};
 ghost use Rattle.mesa_merge.specs.Merged.{HasMerged, inputs_of};
-ghost use Rattle.mesa_difference.specs.Difference.{first_difference};
+ghost use Rattle.mesa_compare.specs.Difference.{first_difference};
 
 use crate::finishing::{finish_both, finish_merge};
 use crate::keys::difference_at;
+use crate::same_rows_differ_nowhere;
 use mesa_cursor::Cursor;
 use mesa_delta::{FileError, Input};
-use mesa_difference::same_rows_differ_nowhere;
 use mesa_disk::FileReader;
 use mesa_examine::next_row;
 use mesa_key::KeyBytes;

@@ -10,7 +10,7 @@ ghost use Rattle.mesa_answer.specs.Answering.{KeepsSums};
 ghost use Rattle.mesa_delta.specs.Reading.{IsIndexed, index_of};
 ghost use Rattle.mesa_cursor.specs.Cursors.{IsInput, lift_by, reader_in};
 ghost use Rattle.mesa_tasks.specs.Opening.{Counted, HasEpoch};
-ghost use Rattle.mesa_difference.specs.Difference.{first_difference};
+ghost use Rattle.mesa_compare.specs.Difference.{first_difference};
 ghost use Rattle.mesa_examine.specs.Examined.{is_read_failure};
 ghost use Rattle.mesa_compare.specs.Compared.{HasFile, present_rows};
 

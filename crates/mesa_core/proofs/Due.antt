@@ -4,8 +4,8 @@ use Rattle.mesa_history.specs.Run.{Run, Stage, command_at}
 use Rattle.mesa_history.specs.Turns.{IsDue}
 use Rattle.mesa_model.specs.declared.commands.Command.{Command}
 use Rattle.mesa_model.specs.declared.commands.Script.{Script}
-use Rattle.mesa_passes.specs.Passes.{HasSort}
-use Rattle.mesa_walk.specs.Turns.{Asks}
+use Rattle.mesa_session_laws.specs.Passes.{HasSort}
+use Rattle.mesa_engine.specs.mesa_invariant.Turns.{Asks}
 
 some_same : {X : Type 0} (x y : X) → Some x ≡ Some y → x ≡ y
 some_same {X = X} x y is = ap (λ (o : Option X). elim o [ None ↦ x | Some z ↦ z ]) is

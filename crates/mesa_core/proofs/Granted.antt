@@ -1,32 +1,32 @@
 -- What a work is granted, by the history at the end of its first turn.
 use Rattle.std.proofs.Common.{◌≡◌, ℕ, ◌<◌, List, length, Bool, true, not, sym, ap, subst, ◌∙◌, Option, None, Some}
 use Rattle.std.specs.Prelude.{IfSome, OnSome}
-use Rattle.mesa_granted.specs.mesa_compact.Bounded.{AreBounded, IsBounded}
-use Rattle.mesa_granted.specs.mesa_gather.Gathered.{unread_views}
-use Rattle.mesa_granted.proofs.Merged.{grant_known}
-use Rattle.mesa_granted.proofs.Same.{range_known}
+use Rattle.mesa_session_laws.specs.mesa_compact.Bounded.{AreBounded, IsBounded}
+use Rattle.mesa_session_laws.specs.mesa_plans.Gathered.{unread_views}
+use Rattle.mesa_session_laws.proofs.Merged.{grant_known}
+use Rattle.mesa_session_laws.proofs.Same.{range_known}
 use Rattle.mesa_history.specs.Claims.{HasClaim, HasClaimAt}
 use Rattle.mesa_history.specs.Run.{Granted, Place, State}
 use Rattle.mesa_history.specs.Turns.{place_then}
-use Rattle.mesa_image.specs.Catalog.{Catalog, stock_at}
-use Rattle.mesa_image_laws.specs.Moves.{last_of}
-use Rattle.mesa_engine.specs.mesa_ledger.Vault.{Origin}
-use Rattle.mesa_granted.specs.mesa_merge.Inputs.{knowns_of}
+use Rattle.mesa_engine.specs.mesa_image.Catalog.{Catalog, stock_at}
+use Rattle.mesa_engine.specs.mesa_image.Moves.{last_of}
+use Rattle.mesa_engine.specs.mesa_engine_state.Vault.{Origin}
+use Rattle.mesa_session_laws.specs.mesa_merge.Inputs.{knowns_of}
 use Rattle.mesa_model.specs.declared.commands.Script.{Script}
 use Rattle.mesa_model.specs.declared.entries.Entry.{Entry}
 use Rattle.mesa_model.specs.Warehouse.{max_tables}
-use Rattle.mesa_schema.specs.Changes.{Lineage, columns_of}
-use Rattle.mesa_schema.specs.Lineages.{IsLineage}
-use Rattle.mesa_granted.specs.mesa_service.Works.{CanBeMerged, known_task}
-use Rattle.mesa_skeleton.specs.Rows.{Rows, no_rows}
-use Rattle.mesa_granted.specs.mesa_swapping.Finished.{HasRange}
+use Rattle.mesa_model.specs.mesa_schema.Changes.{Lineage, columns_of}
+use Rattle.mesa_model.specs.mesa_schema.Lineages.{IsLineage}
+use Rattle.mesa_session_laws.specs.Works.{CanBeMerged, known_task}
+use Rattle.mesa_engine.specs.mesa_projection.Rows.{Rows, no_rows}
+use Rattle.mesa_session_laws.specs.mesa_publishing.Finished.{HasRange}
 use Rattle.mesa_tasks.specs.Errors.{Differs}
 use Rattle.mesa_tasks.specs.Spares.{HasSpares}
 use Rattle.mesa_tasks.specs.Tasks.{IsTask, claim_in}
 use Rattle.mesa_tasks.specs.declared.merging.Task.{Task}
-use Rattle.mesa_walk.specs.Walk.{run_at}
-use Rattle.mesa_walk.specs.Works.{stage_if}
-use Rattle.mesa_engine.specs.mesa_ledger.Written.{written_at}
+use Rattle.mesa_engine.specs.mesa_invariant.Walk.{run_at}
+use Rattle.mesa_engine.specs.mesa_invariant.Works.{stage_if}
+use Rattle.mesa_engine.specs.mesa_engine_state.Written.{written_at}
 use Rattle.mesa_core.specs.Handing.{IsGranted, store_after}
 use Rattle.mesa_core.specs.Standing.{IsCatalogAfter}
 use Rattle.mesa_core.proofs.Sights.{counted_is, lineage_is}

@@ -1,4 +1,5 @@
-pub use Rattle.mesa_passes.proofs as mesa_passes
+pub use Rattle.mesa_history.proofs as mesa_history
+pub use Rattle.mesa_session_laws.proofs as mesa_session_laws
 pub mod Rooms
 pub mod Due
 pub mod Sights

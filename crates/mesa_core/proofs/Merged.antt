@@ -1,26 +1,26 @@
 -- What a work is closed with, as its last turn asks for it.
 use Rattle.std.proofs.Common.{◌≡◌, ℕ, ◌<◌, List, ◌++◌, length, true, false, refl, sym, ap, subst, ◌∙◌, Option, None, Ok}
-use Rattle.mesa_granted.specs.mesa_compact.Bounded.{IsBounded}
-use Rattle.mesa_recasting.specs.mesa_completing.Unmerged.{MergeDiffered, cause_of}
+use Rattle.mesa_session_laws.specs.mesa_compact.Bounded.{IsBounded}
+use Rattle.mesa_recast_turns.specs.mesa_close_turns.Unmerged.{MergeDiffered, cause_of}
 use Rattle.mesa_delta.specs.declared.error.FileError.TheVariants as file_error
-use Rattle.mesa_granted.specs.Known.{IsKnownOf, lineage_in}
+use Rattle.mesa_session_laws.specs.Known.{IsKnownOf, lineage_in}
 use Rattle.mesa_history.proofs.More.{runs-append}
 use Rattle.mesa_history.specs.Claims.{HasClaim, HasRanges, is_live}
 use Rattle.mesa_history.specs.Law.{begun_at}
 use Rattle.mesa_history.specs.Machine.{Claim}
 use Rattle.mesa_history.specs.Replay.{runs}
 use Rattle.mesa_history.specs.Run.{Run, State, begins}
-use Rattle.mesa_image.specs.Catalog.{Catalog, stock_at}
-use Rattle.mesa_image_laws.specs.Moves.{last_of}
-use Rattle.mesa_engine.specs.mesa_ledger.Vault.{Origin}
+use Rattle.mesa_engine.specs.mesa_image.Catalog.{Catalog, stock_at}
+use Rattle.mesa_engine.specs.mesa_image.Moves.{last_of}
+use Rattle.mesa_engine.specs.mesa_engine_state.Vault.{Origin}
 use Rattle.mesa_model.specs.declared.commands.Script.{Script}
 use Rattle.mesa_model.specs.declared.entries.Entry.{Entry}
-use Rattle.mesa_schema.specs.Changes.{Lineage}
-use Rattle.mesa_schema.specs.Lineages.{IsLineage}
-use Rattle.mesa_granted.specs.mesa_service.Works.{HasMerged, IsUnmerged, WasGranted, known_task}
-use Rattle.mesa_skeleton.specs.Rows.{Rows, no_rows}
-use Rattle.mesa_granted.specs.mesa_swapping.Finished.{HasRange, IsFinished}
-use Rattle.mesa_granted.specs.mesa_swapping.Grown.{GrowsWhereItBegins, HasBecome}
+use Rattle.mesa_model.specs.mesa_schema.Changes.{Lineage}
+use Rattle.mesa_model.specs.mesa_schema.Lineages.{IsLineage}
+use Rattle.mesa_session_laws.specs.Works.{HasMerged, IsUnmerged, WasGranted, known_task}
+use Rattle.mesa_engine.specs.mesa_projection.Rows.{Rows, no_rows}
+use Rattle.mesa_session_laws.specs.mesa_publishing.Finished.{HasRange, IsFinished}
+use Rattle.mesa_session_laws.specs.mesa_publishing.Grown.{GrowsWhereItBegins, HasBecome}
 use Rattle.mesa_tasks.specs.GivingBack.{SomeFailed, task_inputs}
 use Rattle.mesa_history.specs.mesa_span.declared.works.Work.{Work}
 use Rattle.mesa_tasks.specs.Tasks.{IsMerged, IsTask, claim_in}
@@ -28,11 +28,11 @@ use Rattle.mesa_tasks.specs.declared.merging.CompactError.{CompactError}
 use Rattle.mesa_tasks.specs.declared.merging.CompactError.TheVariants as compact
 use Rattle.mesa_tasks.specs.declared.merging.NewDelta.{NewDelta}
 use Rattle.mesa_tasks.specs.declared.merging.Task.{Task}
-use Rattle.mesa_walk.specs.Causes.{is_read_fault, outcome_of}
-use Rattle.mesa_walk.specs.Turns.{AnswersDraft, Shown}
-use Rattle.mesa_walk.specs.Undamaged.{is_damaged}
-use Rattle.mesa_walk.specs.Walk.{run_at}
-use Rattle.mesa_engine.specs.mesa_ledger.Written.{written_at}
+use Rattle.mesa_engine.specs.mesa_invariant.Causes.{is_read_fault, outcome_of}
+use Rattle.mesa_engine.specs.mesa_invariant.Turns.{AnswersDraft, Shown}
+use Rattle.mesa_engine.specs.mesa_invariant.Undamaged.{is_damaged}
+use Rattle.mesa_engine.specs.mesa_invariant.Walk.{run_at}
+use Rattle.mesa_engine.specs.mesa_engine_state.Written.{written_at}
 use Rattle.mesa_core.specs.Handing.{IsGranted, store_after}
 use Rattle.mesa_core.specs.Standing.{IsCatalogAfter}
 use Rattle.mesa_core.proofs.Sights.{lineage_is}

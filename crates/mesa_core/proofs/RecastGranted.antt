@@ -1,23 +1,23 @@
 -- What a recast is granted, by the history at the end of its first turn, and what holds of it later.
 use Rattle.std.proofs.Common.{◌≡◌, ℕ, ◌<◌, List, [], ◌∷◌, length, sym, subst, ◌∙◌, Option, None}
 use Rattle.std.specs.List.{AllByRecursion}
-use Rattle.mesa_granted.specs.Known.{AllAreBounded, AllHaveRanges}
-use Rattle.mesa_granted.specs.mesa_service.Recasts.{known_recast}
-use Rattle.mesa_granted.specs.mesa_service.mesa_copy.Copying.{IsRecastBounded, KnownRange, known_ranges}
-use Rattle.mesa_granted.specs.mesa_swapping.Recasts.{HasItsRanges}
+use Rattle.mesa_session_laws.specs.Known.{AllAreBounded, AllHaveRanges}
+use Rattle.mesa_session_laws.specs.Recasts.{known_recast}
+use Rattle.mesa_session_laws.specs.mesa_copy.Copying.{IsRecastBounded, KnownRange, known_ranges}
+use Rattle.mesa_session_laws.specs.mesa_publishing.Recasts.{HasItsRanges}
 use Rattle.mesa_history.specs.Run.{State}
-use Rattle.mesa_image.specs.Catalog.{Catalog, stock_at}
-use Rattle.mesa_engine.specs.mesa_ledger.Vault.{Origin}
-use Rattle.mesa_engine.specs.mesa_ledger.Written.{written_at}
+use Rattle.mesa_engine.specs.mesa_image.Catalog.{Catalog, stock_at}
+use Rattle.mesa_engine.specs.mesa_engine_state.Vault.{Origin}
+use Rattle.mesa_engine.specs.mesa_engine_state.Written.{written_at}
 use Rattle.mesa_model.specs.declared.commands.Script.{Script}
 use Rattle.mesa_model.specs.declared.entries.Entry.{Entry}
 use Rattle.mesa_model.specs.Warehouse.{max_tables}
-use Rattle.mesa_schema.specs.Lineages.{IsLineage}
-use Rattle.mesa_skeleton.specs.Rows.{Rows, no_rows}
+use Rattle.mesa_model.specs.mesa_schema.Lineages.{IsLineage}
+use Rattle.mesa_engine.specs.mesa_projection.Rows.{Rows, no_rows}
 use Rattle.mesa_tasks.specs.Recasts.{recast_table}
 use Rattle.mesa_tasks.specs.declared.recasting.Recast.{Recast}
 use Rattle.mesa_tasks.specs.declared.recasting.RecastRange.{RecastRange}
-use Rattle.mesa_walk.specs.Walk.{run_at}
+use Rattle.mesa_engine.specs.mesa_invariant.Walk.{run_at}
 use Rattle.mesa_core.specs.Handing.{IsRecastGranted, store_after}
 use Rattle.mesa_core.specs.Standing.{IsCatalogAfter}
 use Rattle.mesa_core.proofs.Sights.{counted_is, lineage_is}

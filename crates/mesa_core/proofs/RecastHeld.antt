@@ -1,33 +1,33 @@
 -- What holds of a recast's files by a later history.
 use Rattle.std.proofs.Common.{◌≡◌, ℕ, ◌<◌, ◌++◌, List, length, refl, sym, ap, subst, ◌∙◌, Option, None}
 use Rattle.std.specs.List.{AllByRecursion}
-use Rattle.mesa_granted.specs.Known.{AllAreBounded, AllHaveRanges, lineage_in}
-use Rattle.mesa_granted.specs.mesa_gather.Ranges.{HoldsAll}
-use Rattle.mesa_granted.specs.mesa_service.Recasts.{KnownRecast, known_recast}
-use Rattle.mesa_granted.specs.mesa_service.Works.{WasGranted}
-use Rattle.mesa_granted.specs.mesa_service.mesa_copy.Copying.{IsRecastBounded}
-use Rattle.mesa_granted.specs.mesa_swapping.Grown.{HasBecome, HasSameColumns, StaysWithItsEpoch}
-use Rattle.mesa_granted.specs.mesa_swapping.Recasts.{HasItsRanges, stock_of_recast}
+use Rattle.mesa_session_laws.specs.Known.{AllAreBounded, AllHaveRanges, lineage_in}
+use Rattle.mesa_session_laws.specs.mesa_plans.Ranges.{HoldsAll}
+use Rattle.mesa_session_laws.specs.Recasts.{KnownRecast, known_recast}
+use Rattle.mesa_session_laws.specs.Works.{WasGranted}
+use Rattle.mesa_session_laws.specs.mesa_copy.Copying.{IsRecastBounded}
+use Rattle.mesa_session_laws.specs.mesa_publishing.Grown.{HasBecome, HasSameColumns, StaysWithItsEpoch}
+use Rattle.mesa_session_laws.specs.mesa_publishing.Recasts.{HasItsRanges, stock_of_recast}
 use Rattle.mesa_history.proofs.More.{runs-append}
 use Rattle.mesa_history.specs.Law.{begun_at}
 use Rattle.mesa_history.specs.Replay.{runs}
 use Rattle.mesa_history.specs.Run.{Run, State, begins}
 use Rattle.mesa_history.specs.Sources.{Written}
-use Rattle.mesa_image.specs.Catalog.{Stock, stock_at}
-use Rattle.mesa_engine.specs.mesa_ledger.Ledger.{Ledger}
-use Rattle.mesa_engine.specs.mesa_ledger.Vault.{Origin}
-use Rattle.mesa_engine.specs.mesa_ledger.Written.{written_at}
+use Rattle.mesa_engine.specs.mesa_image.Catalog.{Stock, stock_at}
+use Rattle.mesa_engine.specs.mesa_engine_state.EngineState.{EngineState}
+use Rattle.mesa_engine.specs.mesa_engine_state.Vault.{Origin}
+use Rattle.mesa_engine.specs.mesa_engine_state.Written.{written_at}
 use Rattle.mesa_model.specs.Warehouse.{max_tables}
 use Rattle.mesa_model.specs.declared.commands.Script.{Script}
 use Rattle.mesa_model.specs.declared.entries.Entry.{Entry}
-use Rattle.mesa_recasting.specs.Rested.{IsLonger}
-use Rattle.mesa_schema.specs.Changes.{Lineage, epoch_of}
-use Rattle.mesa_schema.specs.Lineages.{IsLineage}
-use Rattle.mesa_skeleton.specs.Rows.{Rows, no_rows}
+use Rattle.mesa_recast_turns.specs.Rested.{IsLonger}
+use Rattle.mesa_model.specs.mesa_schema.Changes.{Lineage, epoch_of}
+use Rattle.mesa_model.specs.mesa_schema.Lineages.{IsLineage}
+use Rattle.mesa_engine.specs.mesa_projection.Rows.{Rows, no_rows}
 use Rattle.mesa_tasks.specs.Recasts.{IsRecastTask, recast_table}
 use Rattle.mesa_tasks.specs.declared.recasting.Recast.{Recast}
 use Rattle.mesa_tasks.specs.declared.recasting.RecastRange.{RecastRange}
-use Rattle.mesa_walk.specs.Walk.{run_at}
+use Rattle.mesa_engine.specs.mesa_invariant.Walk.{run_at}
 use Rattle.mesa_core.proofs.RecastGranted.{ends_known}
 use Rattle.mesa_core.specs.Handing.{AllAreRested, IsRecastGranted, IsRecastHeld, store_after}
 
@@ -100,7 +100,7 @@ module _ {R : Type 0} (read : R → Option (List ℕ)) (script : Script) (start 
 
 module _ {R : Type 0} (read : R → Option (List ℕ)) where
   -- So each of which the same is known has all of them.
-  pub rested_known : (l : Ledger) (old new : Recast R) → IsLonger read old new → HasBecome (recast_table old) (stock_of_recast l old).lineage
+  pub rested_known : (l : EngineState) (old new : Recast R) → IsLonger read old new → HasBecome (recast_table old) (stock_of_recast l old).lineage
       → (l.closed ≡ None → epoch_of (stock_of_recast l old).lineage ≡ old.epoch → HoldsAll new.ranges.items (stock_of_recast l old))
       → ((other : Recast R) (s : Stock) → known_recast read other ≡ known_recast read new → HoldsAll new.ranges.items s → HoldsAll other.ranges.items s)
       → AllAreRested read l (known_recast read new)

@@ -8,21 +8,21 @@ use Rattle.mesa_engine.specs.mesa_catalog.Lookups.{generation_of, known_as}
 use Rattle.mesa_core.specs.Handing.{store_after}
 use Rattle.mesa_core.specs.Standing.{IsCatalogAfter}
 use Rattle.mesa_disk.specs.Story.{Story}
-use Rattle.mesa_granted.specs.Known.{lineage_in}
+use Rattle.mesa_session_laws.specs.Known.{lineage_in}
 use Rattle.mesa_history.specs.Run.{State}
-use Rattle.mesa_image.specs.Catalog.{Catalog, no_stock, stock_at}
+use Rattle.mesa_engine.specs.mesa_image.Catalog.{Catalog, no_stock, stock_at}
 use Rattle.mesa_engine.proofs.mesa_catalog.Stocks.{all_at}
-use Rattle.mesa_image.specs.Shape.{IsShaped}
-use Rattle.mesa_engine.specs.mesa_ledger.Ledger.{Ledger, skeletons}
-use Rattle.mesa_engine.specs.mesa_ledger.Vault.{Starts, IsVault, IsVaultAt, outset_of}
+use Rattle.mesa_engine.specs.mesa_image.Shape.{IsShaped}
+use Rattle.mesa_engine.specs.mesa_engine_state.EngineState.{EngineState, skeletons}
+use Rattle.mesa_engine.specs.mesa_engine_state.Vault.{Starts, IsVault, IsVaultAt, outset_of}
 use Rattle.mesa_model.specs.declared.commands.Script.{Script}
 use Rattle.mesa_model.specs.declared.entries.Entry.{Entry}
 use Rattle.mesa_model.specs.Warehouse.{Store, Table, Warehouse, no_table}
-use Rattle.mesa_granted.specs.mesa_service.Sight.{tables_known}
-use Rattle.mesa_skeleton.proofs.Lists.{at_same}
-use Rattle.mesa_skeleton.specs.Bare.{bare_store}
-use Rattle.mesa_skeleton.specs.Rows.{Rows, no_rows}
-use Rattle.mesa_walk.specs.Walk.{run_of}
+use Rattle.mesa_session_laws.specs.Sight.{tables_known}
+use Rattle.mesa_engine.proofs.mesa_projection.Lists.{at_same}
+use Rattle.mesa_engine.specs.mesa_projection.Bare.{bare_store}
+use Rattle.mesa_engine.specs.mesa_projection.Rows.{Rows, no_rows}
+use Rattle.mesa_engine.specs.mesa_invariant.Walk.{run_of}
 
 -- names and columns hang on no rows
 bare_known : (s : Store) → tables_known (bare_store s) ≡ tables_known s
@@ -31,7 +31,7 @@ bare_known s = map-map _ _ s.tables
 skeletons_known : (c : Catalog) → tables_known (skeletons c) ≡ map known_as c.tables
 skeletons_known c = map-map _ _ c.tables
 
-pub catalogue_is : (n : Starts) (l : Ledger) (story : Story) (held : Option (List ℕ)) (h : List Entry) (running refused : Bool) → IsVaultAt n l story held h running refused → generation_of l.catalogue ≡ l.generation
+pub catalogue_is : (n : Starts) (l : EngineState) (story : Story) (held : Option (List ℕ)) (h : List Entry) (running refused : Bool) → IsVaultAt n l story held h running refused → generation_of l.catalogue ≡ l.generation
     → IsCatalogAfter n.script n.start (n.origin no_rows).generation h l.catalogue
 catalogue_is n l story held h running refused v same = record {
   sight = λ i. record { generation = (same ∙ first.counts.generation) i; tables = tables i };

@@ -1,18 +1,18 @@
 -- What a recast is closed with, as its last turn asks for it.
 use Rattle.std.proofs.Common.{◌≡◌, ◌⊎◌, inl, inr, List, ℕ, true, false, refl, sym, ap, subst, Option, None, Ok, Err}
 use Rattle.std.specs.Prelude.{IfErr, IfOk, OnOk, Result}
-use Rattle.mesa_recasting.specs.mesa_completing.Unmerged.{MergeDiffered, cause_of}
+use Rattle.mesa_recast_turns.specs.mesa_close_turns.Unmerged.{MergeDiffered, cause_of}
 use Rattle.mesa_delta.specs.declared.error.FileError.TheVariants as file_error
-use Rattle.mesa_granted.specs.mesa_service.Recasts.{HasRegrouped, IsUnmade}
-use Rattle.mesa_granted.specs.mesa_service.mesa_copy.Copying.{IsRecastBounded}
+use Rattle.mesa_session_laws.specs.Recasts.{HasRegrouped, IsUnmade}
+use Rattle.mesa_session_laws.specs.mesa_copy.Copying.{IsRecastBounded}
 use Rattle.mesa_tasks.specs.GivingBack.{SomeFailed}
 use Rattle.mesa_tasks.specs.Recasts.{IsRecasted, recast_inputs}
 use Rattle.mesa_tasks.specs.declared.merging.CompactError.{CompactError}
 use Rattle.mesa_tasks.specs.declared.merging.CompactError.TheVariants as compact
 use Rattle.mesa_tasks.specs.declared.recasting.Recast.{Recast}
 use Rattle.mesa_tasks.specs.declared.recasting.Recasted.{Recasted}
-use Rattle.mesa_walk.specs.Causes.{is_read_fault, outcome_of}
-use Rattle.mesa_walk.specs.Undamaged.{is_damaged}
+use Rattle.mesa_engine.specs.mesa_invariant.Causes.{is_read_fault, outcome_of}
+use Rattle.mesa_engine.specs.mesa_invariant.Undamaged.{is_damaged}
 
 -- ---- why ranges weren't rewritten
 

@@ -1,31 +1,31 @@
 -- What files that are handed out tell.
 use Rattle.std.specs.Prelude.{◌≡◌, ℕ, ◌<◌, List, Option, None, length, Result, Ok, Err}
 use Rattle.std.specs.List.{AllByRecursion}
-use Rattle.mesa_granted.specs.mesa_compact.Bounded.{AreBounded}
+use Rattle.mesa_session_laws.specs.mesa_compact.Bounded.{AreBounded}
 use Rattle.mesa_history.specs.Claims.{HasClaim}
 use Rattle.mesa_history.specs.Machine.{Claim, Merges}
 use Rattle.mesa_history.specs.Run.{State}
-use Rattle.mesa_image_laws.specs.Moves.{last_of}
-use Rattle.mesa_engine.specs.mesa_ledger.Ledger.{Ledger}
-use Rattle.mesa_engine.specs.mesa_ledger.Vault.{Origin}
+use Rattle.mesa_engine.specs.mesa_image.Moves.{last_of}
+use Rattle.mesa_engine.specs.mesa_engine_state.EngineState.{EngineState}
+use Rattle.mesa_engine.specs.mesa_engine_state.Vault.{Origin}
 use Rattle.mesa_model.specs.declared.commands.Script.{Script}
 use Rattle.mesa_model.specs.declared.entries.Entry.{Entry}
 use Rattle.mesa_model.specs.Query.{Answer}
 use Rattle.mesa_model.specs.Warehouse.{Store, max_tables}
-use Rattle.mesa_walk.specs.Walk.{run_at}
-use Rattle.mesa_engine.specs.mesa_ledger.Written.{written_at}
-use Rattle.mesa_granted.specs.Known.{AllAreBounded, AllHaveRange, AllHaveRanges, IsKnownOf, lineage_in}
-use Rattle.mesa_granted.specs.mesa_swapping.Grown.{HasBecome}
-use Rattle.mesa_recasting.specs.Rested.{HasRested}
-use Rattle.mesa_schema.specs.Changes.{columns_of, epoch_of}
-use Rattle.mesa_schema.specs.Lineages.{IsLineage}
-use Rattle.mesa_skeleton.specs.Rows.{Rows, no_rows}
-use Rattle.mesa_recasting.specs.mesa_completing.mesa_asking.Opening.{IsHeaded}
-use Rattle.mesa_recasting.specs.mesa_completing.mesa_pinning.Told.{TellAnswer}
-use Rattle.mesa_granted.specs.mesa_service.Pins.{KnownPin}
-use Rattle.mesa_granted.specs.mesa_service.mesa_copy.Copying.{KnownRange}
-use Rattle.mesa_granted.specs.mesa_service.Recasts.{KnownRecast, known_recast}
-use Rattle.mesa_granted.specs.mesa_service.Works.{KnownTask}
+use Rattle.mesa_engine.specs.mesa_invariant.Walk.{run_at}
+use Rattle.mesa_engine.specs.mesa_engine_state.Written.{written_at}
+use Rattle.mesa_session_laws.specs.Known.{AllAreBounded, AllHaveRange, AllHaveRanges, IsKnownOf, lineage_in}
+use Rattle.mesa_session_laws.specs.mesa_publishing.Grown.{HasBecome}
+use Rattle.mesa_recast_turns.specs.Rested.{HasRested}
+use Rattle.mesa_model.specs.mesa_schema.Changes.{columns_of, epoch_of}
+use Rattle.mesa_model.specs.mesa_schema.Lineages.{IsLineage}
+use Rattle.mesa_engine.specs.mesa_projection.Rows.{Rows, no_rows}
+use Rattle.mesa_recast_turns.specs.mesa_close_turns.mesa_query_turns.Opening.{IsHeaded}
+use Rattle.mesa_recast_turns.specs.mesa_close_turns.mesa_plans.Told.{TellAnswer}
+use Rattle.mesa_session_laws.specs.Pins.{KnownPin}
+use Rattle.mesa_session_laws.specs.mesa_copy.Copying.{KnownRange}
+use Rattle.mesa_session_laws.specs.Recasts.{KnownRecast, known_recast}
+use Rattle.mesa_session_laws.specs.Works.{KnownTask}
 use Rattle.mesa_tasks.specs.Recasts.{IsRecastTask}
 use Rattle.mesa_tasks.specs.declared.recasting.Recast.{Recast}
 
@@ -76,7 +76,7 @@ pub record IsRecastHeld {R : Type 0} (read : R → Option (List ℕ)) (script : 
   pub ranges : (w : Rows) → sound w → epoch_of (lineage_in (store_after script start h) k.table) ≡ k.epoch → AllHaveRanges read k (written_at script (start w) (origin w) h k.table)
 
 -- Each recast of which this is known has all ranges of its table.
-abbrev pub AllAreRested : {R : Type 0} → (R → Option (List ℕ)) → Ledger → KnownRecast → Type 0
+abbrev pub AllAreRested : {R : Type 0} → (R → Option (List ℕ)) → EngineState → KnownRecast → Type 0
 AllAreRested {R = R} read l k = (t : Recast R) → known_recast read t ≡ k → IsRecastTask read t → HasRested read l t
 
 -- the recast that comes back, whatever came of it

@@ -1,7 +1,8 @@
 pub use Rattle.mesa_engine.specs as mesa_engine
+pub use Rattle.mesa_history.specs as mesa_history
 pub use Rattle.mesa_engine.specs.mesa_metadata as mesa_metadata
-pub use Rattle.mesa_passes.specs as mesa_passes
-pub use Rattle.mesa_recasting.specs as mesa_recasting
+pub use Rattle.mesa_recast_turns.specs as mesa_recast_turns
+pub use Rattle.mesa_session_laws.specs as mesa_session_laws
 pub mod Vault
 pub mod Asked
 pub mod Standing

@@ -1,16 +1,16 @@
 -- What is seen of a vault, and what it keeps.
 use Rattle.std.specs.Prelude.{◌≡◌, ℕ, List, Option, Some}
 use Rattle.mesa_disk.specs.Image.{Image}
-use Rattle.mesa_engine.specs.mesa_ledger.Ledger.{Ledger}
+use Rattle.mesa_engine.specs.mesa_engine_state.EngineState.{EngineState}
 use Rattle.mesa_model.specs.declared.commands.Script.{Script}
-use Rattle.mesa_skeleton.specs.Rows.{Rows}
-use Rattle.mesa_walk.specs.Turns.{Faults, Shown}
+use Rattle.mesa_engine.specs.mesa_projection.Rows.{Rows}
+use Rattle.mesa_engine.specs.mesa_invariant.Turns.{Faults, Shown}
 
--- What a caller sees of a vault between turns, and the run's number; and, by which it is said what becomes of files, the ledger, and what a read of the disk gives, where that is told; both counts of the disk's faults, and what the sink has been given, where that is known.
+-- What a caller sees of a vault between turns, and the run's number; and, by which it is said what becomes of files, the state, and what a read of the disk gives, where that is told; both counts of the disk's faults, and what the sink has been given, where that is known.
 pub record Stand : Type 0 where
   pub shown : Shown
   pub run : ℕ
-  pub ledger : Ledger
+  pub state : EngineState
   pub told : Option Image
   pub faults : Faults
   pub sink : Option (List ℕ)

@@ -4,8 +4,8 @@ ghost use Rattle.mesa_core.specs.Asked.{lent_command};
 ghost use Rattle.mesa_history.specs.Run.{command_at};
 ghost use Rattle.mesa_model.specs.declared.commands.Command.TheVariants as command;
 ghost use Rattle.mesa_history.specs.Legal.{is_query};
-ghost use Rattle.mesa_passes.specs.Passes.{HasSort};
-ghost use Rattle.mesa_walk.specs.Turns.{is_load, is_merge, is_recast};
+ghost use Rattle.mesa_session_laws.specs.Passes.{HasSort};
+ghost use Rattle.mesa_engine.specs.mesa_invariant.Turns.{is_load, is_merge, is_recast};
 
 use mesa_batch::LoadRows;
 use mesa_engine::Who;

@@ -1,18 +1,18 @@
 // The turns of a query.
 ghost use Rattle.std.specs.Prelude.{◌≡◌, ◌<◌, ◌++◌, ◌∷◌, [], true, length, IfSome, Some};
-ghost use Rattle.mesa_recasting.specs.mesa_completing.mesa_asking.Closing.{closing_entry, closing_text};
-ghost use Rattle.mesa_recasting.specs.mesa_completing.mesa_asking.Opening.{HasItsFiles};
+ghost use Rattle.mesa_recast_turns.specs.mesa_close_turns.mesa_query_turns.Closing.{closing_entry, closing_text};
+ghost use Rattle.mesa_recast_turns.specs.mesa_close_turns.mesa_query_turns.Opening.{HasItsFiles};
 ghost use Rattle.mesa_core.specs.Handing.{Tells};
 ghost use Rattle.mesa_history.specs.Legal.{is_query};
 ghost use Rattle.mesa_filter.specs.declared.words.QueryWords.{QueryWords};
 ghost use Rattle.mesa_history.specs.Run.{Finished, First, command_at};
 ghost use Rattle.mesa_model.specs.declared.commands.Command.TheVariants as command;
 ghost use Rattle.mesa_model.specs.declared.entries.Kind.TheVariants as kind;
-ghost use Rattle.mesa_granted.specs.mesa_service.Pins.{HasAnswered, IsOpenQuery, TakesQuery, known_pin};
-ghost use Rattle.mesa_skeleton.specs.Rows.{no_rows};
-ghost use Rattle.mesa_walk.specs.Printing.{IsPut};
-ghost use Rattle.mesa_walk.specs.Turns.{AnswersDisk, Asks, SomeRose, Takes};
-ghost use Rattle.mesa_walk.specs.Walk.{run_at};
+ghost use Rattle.mesa_session_laws.specs.Pins.{HasAnswered, IsOpenQuery, TakesQuery, known_pin};
+ghost use Rattle.mesa_engine.specs.mesa_projection.Rows.{no_rows};
+ghost use Rattle.mesa_engine.specs.mesa_invariant.Printing.{IsPut};
+ghost use Rattle.mesa_engine.specs.mesa_invariant.Turns.{AnswersDisk, Asks, SomeRose, Takes};
+ghost use Rattle.mesa_engine.specs.mesa_invariant.Walk.{run_at};
 
 use crate::Vault;
 use crate::asked::words_of;
@@ -20,7 +20,7 @@ use mesa_delta::FileError;
 use mesa_disk::{Disk, Made};
 use mesa_engine::{Naming, Who};
 use mesa_io::Sink;
-use mesa_recasting::{close_query, pin_query};
+use mesa_recast_turns::{close_query, pin_query};
 use mesa_script::Rendered;
 use mesa_tasks::Pinned;
 
@@ -32,7 +32,7 @@ impl<'s, N: Naming, M: Made, D: Disk<M>, K: Sink> Vault<'s, N, M, D, K> {
         ensures turn { TakesQuery D.Reader.bytes N.script N.start (λ past. Tells N.sound) self.old.shown self.new.shown who.session who.command result }
         ensures disk { AnswersDisk N.script (N.start no_rows) self.old.shown self.new.shown (SomeRose self.old.faults self.new.faults) }
         // They are those of the plan at the version asked, by the tables that the query saw before the turn.
-        ensures files { (words : QueryWords) → command_at N.script who.session who.command ≡ Some (command.Query words) → IfSome result (HasItsFiles D.Reader.bytes D.Reader.faults self.old.told self.old.ledger who.session words) }
+        ensures files { (words : QueryWords) → command_at N.script who.session who.command ≡ Some (command.Query words) → IfSome result (HasItsFiles D.Reader.bytes D.Reader.faults self.old.told self.old.state who.session words) }
     {
         let words = words_of(self.script, who);
         pin_query(&mut self.engine, who, words)

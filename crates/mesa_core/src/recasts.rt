@@ -1,26 +1,26 @@
 // The turns of a recast, and what it does between its renewal and its close.
 ghost use Rattle.std.specs.Prelude.{◌≡◌, ◌⊎◌, ◌<◌, ◌++◌, ◌∷◌, [], Bool, true, Ok, Err, IfErr, IfOk, IfSome, OnSome, OnOk, None, Some, length};
-ghost use Rattle.mesa_recasting.specs.mesa_completing.Swept.{ClaimHolds, HasStood, IsSwept};
-ghost use Rattle.mesa_recasting.specs.mesa_completing.Unmerged.{closing_cause};
+ghost use Rattle.mesa_recast_turns.specs.mesa_close_turns.Swept.{ClaimHolds, HasStood, IsSwept};
+ghost use Rattle.mesa_recast_turns.specs.mesa_close_turns.Unmerged.{closing_cause};
 ghost use Rattle.mesa_core.specs.Handing.{AllAreRested, IsRecastGranted, IsRecastHeld, rested};
 ghost use Rattle.mesa_delta.specs.declared.error.FileError.TheVariants as file_error;
-ghost use Rattle.mesa_granted.specs.mesa_service.Recasts.{CanBeRegrouped, HasRegrouped, known_recast};
-ghost use Rattle.mesa_granted.specs.mesa_service.Works.{WasGranted};
-ghost use Rattle.mesa_granted.specs.mesa_swapping.Recasts.{stock_of_recast};
+ghost use Rattle.mesa_session_laws.specs.Recasts.{CanBeRegrouped, HasRegrouped, known_recast};
+ghost use Rattle.mesa_session_laws.specs.Works.{WasGranted};
+ghost use Rattle.mesa_session_laws.specs.mesa_publishing.Recasts.{stock_of_recast};
 ghost use Rattle.mesa_history.specs.Machine.{still_checked};
 ghost use Rattle.mesa_history.specs.Run.{Finished, First, Granted, Renewed};
 ghost use Rattle.mesa_model.specs.declared.entries.Kind.TheVariants as kind;
-ghost use Rattle.mesa_recasting.specs.Rested.{HasUnpaid, IsLonger, MayRest};
-ghost use Rattle.mesa_skeleton.specs.Rows.{no_rows};
+ghost use Rattle.mesa_recast_turns.specs.Rested.{HasUnpaid, IsLonger, MayRest};
+ghost use Rattle.mesa_engine.specs.mesa_projection.Rows.{no_rows};
 ghost use Rattle.mesa_tasks.specs.Recasts.{IsRecastTask, IsRecasted, IsRecastedSoFar, claim_of_recast, recast_in};
 ghost use Rattle.mesa_tasks.specs.declared.merging.CompactError.TheVariants as compact;
 ghost use Rattle.mesa_tasks.specs.declared.recasting.Recasted.{Recasted as AnyRecasted};
-ghost use Rattle.mesa_walk.specs.mesa_output.Output.{block};
-ghost use Rattle.mesa_walk.specs.Causes.{outcome_of, reply_of, told_at};
-ghost use Rattle.mesa_walk.specs.Printing.{IsPut};
-ghost use Rattle.mesa_walk.specs.Turns.{AnswersDisk, AnswersDraft, Asks, NoneFell, SomeRose, Takes, entry, is_recast};
-ghost use Rattle.mesa_walk.specs.Walk.{run_at};
-ghost use Rattle.mesa_walk.specs.Works.{closing_stage, stage_if};
+ghost use Rattle.mesa_engine.specs.mesa_invariant.mesa_output.Output.{block};
+ghost use Rattle.mesa_engine.specs.mesa_invariant.Causes.{outcome_of, reply_of, told_at};
+ghost use Rattle.mesa_engine.specs.mesa_invariant.Printing.{IsPut};
+ghost use Rattle.mesa_engine.specs.mesa_invariant.Turns.{AnswersDisk, AnswersDraft, Asks, NoneFell, SomeRose, Takes, entry, is_recast};
+ghost use Rattle.mesa_engine.specs.mesa_invariant.Walk.{run_at};
+ghost use Rattle.mesa_engine.specs.mesa_invariant.Works.{closing_stage, stage_if};
 
 use crate::Vault;
 use crate::asked::recast_of;
@@ -28,9 +28,9 @@ use crate::standing::{allocator, catalogue};
 use mesa_delta::FileError;
 use mesa_disk::{Disk, Made};
 use mesa_engine::{Engine, Naming, Who};
-use mesa_granted::{recasts_are_known, recasts_go_on, tables_go_on};
 use mesa_io::Sink;
-use mesa_recasting::{grant_recast, recast, renew_recast, rest, tables_become};
+use mesa_recast_turns::{grant_recast, recast, renew_recast, rest, tables_become};
+use mesa_session_laws::{recasts_are_known, recasts_go_on, tables_go_on};
 use mesa_tasks::{CompactError, Recast, Recasted};
 
 // What holds of a recast's files between turns, by what was so at its grant.
@@ -93,7 +93,7 @@ impl<'s, N: Naming, M: Made, D: Disk<M>, K: Sink> Vault<'s, N, M, D, K> {
         requires task { CanBeRegrouped D.Reader.bytes task }
         ensures shown { self.new.shown ≡ self.old.shown }
         ensures run { self.new.run ≡ self.old.run }
-        ensures ledger { self.new.ledger ≡ self.old.ledger }
+        ensures state { self.new.state ≡ self.old.state }
         ensures told { self.new.told ≡ self.old.told }
         ensures sink { self.new.sink ≡ self.old.sink }
         ensures faults { NoneFell self.old.faults self.new.faults }
@@ -104,14 +104,14 @@ impl<'s, N: Naming, M: Made, D: Disk<M>, K: Sink> Vault<'s, N, M, D, K> {
         ensures unpaid { IfErr result (λ x. x.0 ≡ file_error.Read → HasUnpaid N.script N.start N.counted self.new.shown self.new.faults) }
 
         // Where further ranges may not be opened, the recast comes back as it was, and no fault is counted: the sink has failed, the vault has closed, a file of the recast was damaged, or its table has another epoch.
-        ensures stays { (self.old.shown.running ≡ true → MayRest self.old.ledger task → ⊥) → (result ≡ Ok task) × (self.new.faults ≡ self.old.faults) }
+        ensures stays { (self.old.shown.running ≡ true → MayRest self.old.state task → ⊥) → (result ≡ Ok task) × (self.new.faults ≡ self.old.faults) }
 
         // The recast is the one that it was, with further ranges behind, and what is known of it holds.
         ensures longer { IsLonger D.Reader.bytes task (rested result) }
         ensures begun { (made : AnyRecasted M) → IsRecasted M.bytes M.id_of D.Reader.bytes task made → IsRecastedSoFar M.bytes M.id_of D.Reader.bytes (rested result) made }
         ensures task { CanBeRegrouped D.Reader.bytes (rested result) }
         ensures held { IsRecastHeld D.Reader.bytes N.script N.start N.origin N.sound self.new.shown.history (known_recast D.Reader.bytes (rested result)) }
-        ensures rested { IfOk result (λ t. self.new.shown.running ≡ true → t.damage ≡ None → AllAreRested D.Reader.bytes self.new.ledger (known_recast D.Reader.bytes t)) }
+        ensures rested { IfOk result (λ t. self.new.shown.running ≡ true → t.damage ≡ None → AllAreRested D.Reader.bytes self.new.state (known_recast D.Reader.bytes t)) }
     {
         let mut task = task;
         catalogue(&self.engine);
@@ -139,7 +139,7 @@ impl<'s, N: Naming, M: Made, D: Disk<M>, K: Sink> Vault<'s, N, M, D, K> {
         requires task { CanBeRegrouped D.Reader.bytes task }
 
         // Where its ranges are rewritten, they are all that its table has.
-        requires rested { OnOk made (self.old.shown.running ≡ true → AllAreRested D.Reader.bytes self.old.ledger (known_recast D.Reader.bytes task)) }
+        requires rested { OnOk made (self.old.shown.running ≡ true → AllAreRested D.Reader.bytes self.old.state (known_recast D.Reader.bytes task)) }
         requires made { HasRegrouped M.bytes M.id_of D.Reader.bytes D.Reader.faults task made ⊎ ((made ≡ Err (compact.File file_error.Read)) × HasUnpaid N.script N.start N.counted self.old.shown self.old.faults) }
         requires room { length self.old.shown.history < N.room }
         ensures turn { Takes N.script (N.start no_rows) self.old.shown self.new.shown who.session who.command kind.Close Finished }
@@ -147,11 +147,11 @@ impl<'s, N: Naming, M: Made, D: Disk<M>, K: Sink> Vault<'s, N, M, D, K> {
         ensures draft { AnswersDraft N.script (N.start no_rows) self.old.shown self.new.shown who.session (made ≡ Err compact.Draft) }
 
         // Where its ranges weren't rewritten it ends so, unless the vault has closed, and that is what it prints: no other cause, and no other damage.
-        ensures outcome { IfErr made (λ e. self.old.shown.running ≡ true → self.new.shown.history ≡ self.old.shown.history ++ entry who.session who.command kind.Close (outcome_of (closing_cause self.old.ledger.closed e)) self.new.shown.clock ∷ []) }
-        ensures prints { IfErr made (λ e. self.old.shown.running ≡ true → IsPut (block (entry who.session who.command kind.Close (outcome_of (closing_cause self.old.ledger.closed e)) self.new.shown.clock) (Some (told_at (length self.old.shown.history) (reply_of (closing_cause self.old.ledger.closed e))))) self.new.shown.running self.old.sink self.new.sink) }
+        ensures outcome { IfErr made (λ e. self.old.shown.running ≡ true → self.new.shown.history ≡ self.old.shown.history ++ entry who.session who.command kind.Close (outcome_of (closing_cause self.old.state.closed e)) self.new.shown.clock ∷ []) }
+        ensures prints { IfErr made (λ e. self.old.shown.running ≡ true → IsPut (block (entry who.session who.command kind.Close (outcome_of (closing_cause self.old.state.closed e)) self.new.shown.clock) (Some (told_at (length self.old.shown.history) (reply_of (closing_cause self.old.state.closed e))))) self.new.shown.running self.old.sink self.new.sink) }
 
         // Where its ranges are rewritten, its claim holds, the rules allow it still and its turn stands, the table is recast: then each file that is there is one that the catalogue, a held pin or an open query names.
-        ensures swept { OnOk made (HasStood self.old.shown self.new.shown who.session who.command → ClaimHolds self.old.ledger (length self.old.shown.history) (claim_of_recast task) → still_checked (stock_of_recast self.old.ledger task).lineage task.epoch (recast_in task) ≡ Ok tt → IsSwept self.new.told self.new.ledger self.new.shown.history) }
+        ensures swept { OnOk made (HasStood self.old.shown self.new.shown who.session who.command → ClaimHolds self.old.state (length self.old.shown.history) (claim_of_recast task) → still_checked (stock_of_recast self.old.state task).lineage task.epoch (recast_in task) ≡ Ok tt → IsSwept self.new.told self.new.state self.new.shown.history) }
     {
         catalogue(&self.engine);
         let alloc = allocator(&self.engine);

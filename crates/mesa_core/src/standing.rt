@@ -3,9 +3,9 @@ ghost use Rattle.std.specs.Prelude.{◌≡◌, ℕ};
 ghost use Rattle.mesa_core.specs.Standing.{IsCatalogAfter};
 ghost use Rattle.mesa_history.specs.Claims.{HasClaimAt, HasRanges};
 ghost use Rattle.mesa_history.specs.Run.{place_of};
-ghost use Rattle.mesa_skeleton.specs.Rows.{no_rows};
-ghost use Rattle.mesa_walk.specs.Turns.{IsSeen};
-ghost use Rattle.mesa_walk.specs.Walk.{run_at};
+ghost use Rattle.mesa_engine.specs.mesa_projection.Rows.{no_rows};
+ghost use Rattle.mesa_engine.specs.mesa_invariant.Turns.{IsSeen};
+ghost use Rattle.mesa_engine.specs.mesa_invariant.Walk.{run_at};
 
 use mesa_disk::{Disk, Made};
 use mesa_engine::{Engine, Naming};
@@ -21,14 +21,14 @@ pub(crate) fn standing<N: Naming, M: Made, D: Disk<M>, K: Sink>(engine: &Engine<
 
 // The catalogue is what the history says.
 pub(crate) fn catalogue<N: Naming, M: Made, D: Disk<M>, K: Sink>(engine: &Engine<N, M, D, K>)
-    ensures { IsCatalogAfter N.script N.start (N.origin no_rows).generation engine.now.shown.history engine.now.ledger.catalogue }
+    ensures { IsCatalogAfter N.script N.start (N.origin no_rows).generation engine.now.shown.history engine.now.state.catalogue }
 {
     engine.metadata.generation();
 }
 
 // The leases are what the history says, and so is what each session's work or recast was granted.
 pub(crate) fn claims<N: Naming, M: Made, D: Disk<M>, K: Sink>(engine: &Engine<N, M, D, K>)
-    ensures leases { engine.now.ledger.leases ≡ (run_at N.script (N.start no_rows) engine.now.shown.history).state.machine.leases }
+    ensures leases { engine.now.state.leases ≡ (run_at N.script (N.start no_rows) engine.now.shown.history).state.machine.leases }
     ensures claims { (session : ℕ) → HasClaimAt (run_at N.script (N.start no_rows) engine.now.shown.history).state (place_of (run_at N.script (N.start no_rows) engine.now.shown.history) session).stage }
     ensures ranges { HasRanges (N.start no_rows) }
 {

@@ -5,17 +5,17 @@ ghost use Rattle.mesa_core.specs.Vault.{AllTold};
 ghost use Rattle.mesa_engine.specs.Beginning.{IsBegun};
 ghost use Rattle.mesa_engine.specs.Ending.{ReadsState};
 ghost use Rattle.mesa_engine.specs.Engine.{most_turns, starts_of};
-ghost use Rattle.mesa_fault.specs.Causes.{last, Rose};
+ghost use Rattle.mesa_disk.specs.mesa_fault.Causes.{last, Rose};
 ghost use Rattle.mesa_history.specs.Legal.{AllFit, fits_sink};
 ghost use Rattle.mesa_history.specs.Run.{begins};
-ghost use Rattle.mesa_engine.specs.mesa_ledger.Vault.{outset_of};
-ghost use Rattle.mesa_engine.specs.mesa_metadata.Memory.{opened_ledger};
-ghost use Rattle.mesa_passes.specs.Passes.{turns_of as turns_in};
-ghost use Rattle.mesa_skeleton.specs.Rows.{Rows};
-ghost use Rattle.mesa_walk.specs.Printing.{IsPrinted, IsPrintedButRows};
-ghost use Rattle.mesa_walk.specs.Turns.{faults_of};
-ghost use Rattle.mesa_walk.specs.Undamaged.{NoneDamaged};
-ghost use Rattle.mesa_walk.specs.Walk.{AllFound, HasCounted, faults_in, run_at};
+ghost use Rattle.mesa_engine.specs.mesa_engine_state.Vault.{outset_of};
+ghost use Rattle.mesa_engine.specs.mesa_metadata.Memory.{opened_state};
+ghost use Rattle.mesa_session_laws.specs.Passes.{turns_of as turns_in};
+ghost use Rattle.mesa_engine.specs.mesa_projection.Rows.{Rows};
+ghost use Rattle.mesa_engine.specs.mesa_invariant.Printing.{IsPrinted, IsPrintedButRows};
+ghost use Rattle.mesa_engine.specs.mesa_invariant.Turns.{faults_of};
+ghost use Rattle.mesa_engine.specs.mesa_invariant.Undamaged.{NoneDamaged};
+ghost use Rattle.mesa_engine.specs.mesa_invariant.Walk.{AllFound, HasCounted, faults_in, run_at};
 
 use crate::{Vault, turns_of};
 use mesa_disk::{Disk, Made};
@@ -44,7 +44,7 @@ impl<'s, N: Naming, M: Made, D: Disk<M>, K: Sink> Vault<'s, N, M, D, K> {
         ensures started { IfOk result (λ v. v ≡ record {
           shown = record { history = []; running = true; clock = (D.story begun.disk).moment };
           run = begun.catalog.catalogue.run;
-          ledger = opened_ledger begun.catalog.catalogue begun.area begun.end script.now.lease;
+          state = opened_state begun.catalog.catalogue begun.area begun.end script.now.lease;
           told = (D.story begun.disk).told;
           faults = faults_of (D.story begun.disk);
           sink = K.held out;

@@ -2,9 +2,9 @@
 ghost use Rattle.std.specs.Prelude.{◌≡◌, ◌<◌, ◌^◌, IfOk};
 ghost use Rattle.mesa_history.specs.Refused.{some_refused};
 ghost use Rattle.mesa_history.specs.Run.{begins};
-ghost use Rattle.mesa_granted.specs.mesa_service.Sight.{sight_after};
-ghost use Rattle.mesa_skeleton.specs.Rows.{Rows, no_rows};
-ghost use Rattle.mesa_walk.specs.Turns.{IsSeen};
+ghost use Rattle.mesa_session_laws.specs.Sight.{sight_after};
+ghost use Rattle.mesa_engine.specs.mesa_projection.Rows.{Rows, no_rows};
+ghost use Rattle.mesa_engine.specs.mesa_invariant.Turns.{IsSeen};
 
 use crate::standing::{catalogue, standing};
 use mesa_batch::Glance;
@@ -33,7 +33,7 @@ impl<'s, N: Naming, M: Made, D: Disk<M>, K: Sink> Model for Vault<'s, N, M, D, K
 
     ghost coded = { Prim.hlevel (codes, coded_map {R = nat_cmp} coded_ℕ (coded_list coded_ℕ)) };
 
-    ghost view = { λ v. record { shown = v.engine.shown; run = v.engine.ledger.catalogue.run; ledger = v.engine.ledger; told = v.engine.told; faults = v.engine.faults; sink = v.engine.sink } };
+    ghost view = { λ v. record { shown = v.engine.shown; run = v.engine.state.catalogue.run; state = v.engine.state; told = v.engine.told; faults = v.engine.faults; sink = v.engine.sink } };
 
     ghost invariant = { λ v. IsOfRun M.bytes N.sound N.script v.script.now };
 }

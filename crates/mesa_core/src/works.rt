@@ -1,29 +1,31 @@
 // The turns of a work.
 ghost use Rattle.std.specs.Prelude.{◌≡◌, ◌<◌, ◌++◌, ◌∷◌, [], true, not, Err, IfErr, IfSome, OnSome, OnOk, Some, is_ok, length};
-ghost use Rattle.mesa_recasting.specs.mesa_completing.Swept.{ClaimHolds, HasStood, IsSwept};
-ghost use Rattle.mesa_recasting.specs.mesa_completing.Unmerged.{closing_cause};
+ghost use Rattle.mesa_recast_turns.specs.mesa_close_turns.Swept.{ClaimHolds, HasStood, IsSwept};
+ghost use Rattle.mesa_recast_turns.specs.mesa_close_turns.Unmerged.{closing_cause};
 ghost use Rattle.mesa_core.specs.Handing.{IsGranted};
 ghost use Rattle.mesa_history.specs.Run.{Finished, First, Granted, Renewed};
 ghost use Rattle.mesa_model.specs.declared.entries.Kind.TheVariants as kind;
-ghost use Rattle.mesa_granted.specs.mesa_service.Works.{CanBeMerged, HasMerged, WasGranted, known_task};
-ghost use Rattle.mesa_skeleton.specs.Rows.{no_rows};
-ghost use Rattle.mesa_walk.specs.mesa_output.Output.{block};
+ghost use Rattle.mesa_session_laws.specs.Works.{CanBeMerged, HasMerged, WasGranted, known_task};
+ghost use Rattle.mesa_engine.specs.mesa_projection.Rows.{no_rows};
+ghost use Rattle.mesa_engine.specs.mesa_invariant.mesa_output.Output.{block};
 ghost use Rattle.mesa_tasks.specs.Tasks.{claim_in};
 ghost use Rattle.mesa_tasks.specs.declared.merging.CompactError.TheVariants as compact;
-ghost use Rattle.mesa_walk.specs.Causes.{outcome_of, reply_of, told_at};
-ghost use Rattle.mesa_walk.specs.Printing.{IsPut};
-ghost use Rattle.mesa_walk.specs.Turns.{AnswersDisk, AnswersDraft, Asks, SomeRose, Takes, entry, is_merge};
-ghost use Rattle.mesa_walk.specs.Walk.{run_at};
-ghost use Rattle.mesa_walk.specs.Works.{closing_stage, stage_if};
+ghost use Rattle.mesa_engine.specs.mesa_invariant.Causes.{outcome_of, reply_of, told_at};
+ghost use Rattle.mesa_engine.specs.mesa_invariant.Printing.{IsPut};
+ghost use Rattle.mesa_engine.specs.mesa_invariant.Turns.{AnswersDisk, AnswersDraft, Asks, SomeRose, Takes, entry, is_merge};
+ghost use Rattle.mesa_engine.specs.mesa_invariant.Walk.{run_at};
+ghost use Rattle.mesa_engine.specs.mesa_invariant.Works.{closing_stage, stage_if};
 
 use crate::Vault;
 use crate::asked::work_of;
 use crate::standing::{allocator, catalogue, claims};
 use mesa_disk::{Disk, Made};
 use mesa_engine::{Naming, Who};
-use mesa_granted::{bounds_are_known, leases_hold, merges_are_known, ranges_go_on, tables_go_on};
 use mesa_io::Sink;
-use mesa_recasting::{complete, give_up, grant, renew, tables_become};
+use mesa_recast_turns::{complete, give_up, grant, renew, tables_become};
+use mesa_session_laws::{
+    bounds_are_known, leases_hold, merges_are_known, ranges_go_on, tables_go_on,
+};
 use mesa_tasks::{CompactError, NewDelta, Task};
 
 impl<'s, N: Naming, M: Made, D: Disk<M>, K: Sink> Vault<'s, N, M, D, K> {
@@ -74,11 +76,11 @@ impl<'s, N: Naming, M: Made, D: Disk<M>, K: Sink> Vault<'s, N, M, D, K> {
         ensures draft { AnswersDraft N.script (N.start no_rows) self.old.shown self.new.shown who.session (merged ≡ Err compact.Draft) }
 
         // Where the merge failed it ends so, unless the vault has closed, and that is what it prints: no other cause, and no other damage.
-        ensures outcome { IfErr merged (λ e. self.old.shown.running ≡ true → self.new.shown.history ≡ self.old.shown.history ++ entry who.session who.command kind.Close (outcome_of (closing_cause self.old.ledger.closed e)) self.new.shown.clock ∷ []) }
-        ensures prints { IfErr merged (λ e. self.old.shown.running ≡ true → IsPut (block (entry who.session who.command kind.Close (outcome_of (closing_cause self.old.ledger.closed e)) self.new.shown.clock) (Some (told_at (length self.old.shown.history) (reply_of (closing_cause self.old.ledger.closed e))))) self.new.shown.running self.old.sink self.new.sink) }
+        ensures outcome { IfErr merged (λ e. self.old.shown.running ≡ true → self.new.shown.history ≡ self.old.shown.history ++ entry who.session who.command kind.Close (outcome_of (closing_cause self.old.state.closed e)) self.new.shown.clock ∷ []) }
+        ensures prints { IfErr merged (λ e. self.old.shown.running ≡ true → IsPut (block (entry who.session who.command kind.Close (outcome_of (closing_cause self.old.state.closed e)) self.new.shown.clock) (Some (told_at (length self.old.shown.history) (reply_of (closing_cause self.old.state.closed e))))) self.new.shown.running self.old.sink self.new.sink) }
 
         // Where its files are merged, its claim holds and its turn stands, the range is swapped in: then each file that is there is one that the catalogue, a held pin or an open query names.
-        ensures swept { OnOk merged (HasStood self.old.shown self.new.shown who.session who.command → ClaimHolds self.old.ledger (length self.old.shown.history) (claim_in task) → IsSwept self.new.told self.new.ledger self.new.shown.history) }
+        ensures swept { OnOk merged (HasStood self.old.shown self.new.shown who.session who.command → ClaimHolds self.old.state (length self.old.shown.history) (claim_in task) → IsSwept self.new.told self.new.state self.new.shown.history) }
     {
         catalogue(&self.engine);
         claims(&self.engine);

@@ -1,5 +1,5 @@
 // A file read as a stream of lifted rows.
-ghost use Rattle.std.specs.Prelude.{◌≡◌, ◌<◌, ◌≤◌, ◌+◌, ◌++◌, [], ◌∷◌, ℕ, List, length, map, drop, IfOk, OnOk, IfErr, OnErr, IfSome, IfNone, IsTrue, Ok, Option, Some, None};
+ghost use Rattle.std.specs.Prelude.{◌≡◌, ◌⊎◌, ◌<◌, ◌≤◌, ◌+◌, ◌++◌, [], ◌∷◌, ℕ, List, length, map, drop, IfOk, OnOk, IfErr, OnErr, IfSome, IfNone, IsTrue, Ok, Option, Some, None};
 ghost use Rattle.std.specs.Ordering.{is_le};
 ghost use Rattle.mesa_fault.specs.Causes.{HasFaultCause};
 ghost use Rattle.mesa_disk.specs.mesa_file.declared.damage.Damage.{Damage as AnyDamage};
@@ -10,6 +10,7 @@ ghost use Rattle.mesa_schema.specs.Laws.{AreUnder};
 ghost use Rattle.mesa_schema.specs.Lent.{lent};
 ghost use Rattle.mesa_schema.specs.Rows.{AreRowsOf, keys_rise};
 ghost use Rattle.mesa_delta.specs.declared.error.FileError.TheVariants as file_error;
+ghost use Rattle.mesa_delta.specs.Ahead.{AreOfFile};
 ghost use Rattle.mesa_delta.specs.Places.{entry_of};
 ghost use Rattle.mesa_delta.specs.Reading.{IsBlockDamage, IsIndexed, index_of};
 ghost use Rattle.mesa_cursor.specs.Cursors.{HasGiven, HasGivenFrom, IsAllOf, IsDamageFrom, IsInput, IsReady, IsSameInput, IsStill, at_hand, lift_by, low_of, next_of, reader_in};
@@ -17,7 +18,7 @@ ghost use Rattle.mesa_cursor.specs.Cut.{cut, is_from};
 
 use crate::beginning::{copied, first_from, follows, start_of};
 use mesa_block::{Block, fits_alone};
-use mesa_delta::{FileError, Index, Input};
+use mesa_delta::{Ahead, FileError, Index, Input};
 use mesa_disk::{Damage, FileReader, Seen};
 use mesa_key::KeyBytes;
 use mesa_schema::{LentRow, Lift, lifts_to_present};
@@ -29,6 +30,7 @@ use std::alloc::{AllocError, Global};
 /// A cursor is of the input that it was made for, which each call is given that reads it or says something of it.
 #[derive(Drop)]
 pub struct Cursor {
+    alloc: Global,
     lift: Lift,
     // The key from which rows are given.
     low: Option<KeyBytes>,
@@ -78,6 +80,7 @@ impl Cursor {
         let lift = input.evolving.lift_from(input.epoch)?;
         let next = start_of(input, low);
         Ok(Cursor {
+            alloc,
             lift,
             low: copied(low)?,
             next,
@@ -138,10 +141,44 @@ impl Cursor {
         ensures accepts_from { IfErr result (λ e. (d : AnyDamage) → e ≡ file_error.Damaged d → (low : Option (List ℕ)) (given : List AnyRow) → HasGivenFrom R.bytes low input.old self.old given
             → (b : List ℕ) (all : List AnyRow) → R.bytes (reader_in input.old) ≡ Some b → IsIndexed (index_of input.old.reader) all b → ⊥) }
     {
+        let mut none = Ahead::new(self.alloc);
+        self.read_waiting(input, 0, &mut none)
+    }
+
+    // Reads the next block as `read` does, from what was read ahead if it is the first that waits.
+    fn read_waiting<R: FileReader>(
+        &mut self,
+        input: &mut Input<R>,
+        place: usize,
+        ahead: &mut Ahead,
+    ) -> Result<(), FileError>
+        requires ahead { AreOfFile (R.bytes (reader_in input.old)) (index_of input.old.reader) place ahead.old }
+        requires none { at_hand self.old ≡ [] }
+        requires left { next_of self.old < length (index_of input.old.reader).entries }
+        ensures taken { (ahead.new ≡ ahead.old) ⊎ (ahead.new ≡ drop 1 ahead.old) }
+        ensures given { OnOk result ((low : Option (List ℕ)) (given : List AnyRow) → HasGivenFrom R.bytes low input.old self.old given → HasGivenFrom R.bytes low input.new self.new given) }
+        ensures some { OnOk result (low_of self.old ≡ None → 0 < length (at_hand self.new)) }
+        ensures low { low_of self.new ≡ low_of self.old }
+        ensures next { OnOk result (next_of self.new ≡ next_of self.old + 1) }
+        ensures err { OnErr result (self.new ≡ self.old) }
+        ensures input { IsInput R.bytes input.old → IsInput R.bytes input.new }
+        ensures same { IsSameInput R.bytes input.old input.new }
+        ensures size { R.size (reader_in input.new) ≡ R.size (reader_in input.old) }
+        ensures reads { R.reads (reader_in input.new) ≤ R.reads (reader_in input.old) + 1 }
+        ensures cause { HasFaultCause (λ e. e ≡ file_error.Read) (R.faults (reader_in input.old)) (R.faults (reader_in input.new)) result }
+        ensures damaged { IfErr result (λ e. (d : AnyDamage) → e ≡ file_error.Damaged d → low_of self.old ≡ None → IsInput R.bytes input.old
+            → (parts : List (List AnyRow)) × IsBlockDamage (R.bytes (reader_in input.old)) (R.size (reader_in input.old)) (index_of input.old.reader) (next_of self.old) parts d) }
+        ensures accepts { IfErr result (λ e. (d : AnyDamage) → e ≡ file_error.Damaged d → low_of self.old ≡ None → IsInput R.bytes input.old
+            → (b : List ℕ) (all : List AnyRow) → R.bytes (reader_in input.old) ≡ Some b → IsIndexed (index_of input.old.reader) all b → ⊥) }
+        ensures damaged_from { IfErr result (λ e. (d : AnyDamage) → e ≡ file_error.Damaged d → (low : Option (List ℕ)) (given : List AnyRow) → HasGivenFrom R.bytes low input.old self.old given
+            → IsDamageFrom (R.bytes (reader_in input.old)) (R.size (reader_in input.old)) (index_of input.old.reader) d) }
+        ensures accepts_from { IfErr result (λ e. (d : AnyDamage) → e ≡ file_error.Damaged d → (low : Option (List ℕ)) (given : List AnyRow) → HasGivenFrom R.bytes low input.old self.old given
+            → (b : List ℕ) (all : List AnyRow) → R.bytes (reader_in input.old) ≡ Some b → IsIndexed (index_of input.old.reader) all b → ⊥) }
+    {
         fits_alone();
         lifts_to_present();
         let _blocks = input.reader.index().blocks();
-        let block = match input.reader.block(self.next) {
+        let block = match input.reader.take_block(self.next, place, ahead) {
             Ok(block) => block,
             Err(error) => return Err(error),
         };
@@ -189,6 +226,41 @@ impl Cursor {
             }
         }
         Ok(())
+    }
+
+    /// Reads on as `fill` does, and takes the next block from what was read ahead if it is the first that waits. The input is known by its place among those that are read.
+    pub fn fill_waiting<R: FileReader>(
+        &mut self,
+        input: &mut Input<R>,
+        place: usize,
+        ahead: &mut Ahead,
+    ) -> Result<(), FileError>
+        requires ahead { AreOfFile (R.bytes (reader_in input.old)) (index_of input.old.reader) place ahead.old }
+        ensures taken { (ahead.new ≡ ahead.old) ⊎ (ahead.new ≡ drop 1 ahead.old) }
+        ensures given { OnOk result ((low : Option (List ℕ)) (given : List AnyRow) → HasGivenFrom R.bytes low input.old self.old given → HasGivenFrom R.bytes low input.new self.new given) }
+        ensures ready { OnOk result (IsReady input.new self.new) }
+        ensures input { IsInput R.bytes input.old → IsInput R.bytes input.new }
+        ensures same { IsSameInput R.bytes input.old input.new }
+        ensures cause { HasFaultCause (λ e. e ≡ file_error.Read) (R.faults (reader_in input.old)) (R.faults (reader_in input.new)) result }
+        ensures damaged_from { IfErr result (λ e. (d : AnyDamage) → e ≡ file_error.Damaged d → (low : Option (List ℕ)) (given : List AnyRow) → HasGivenFrom R.bytes low input.old self.old given
+            → IsDamageFrom (R.bytes (reader_in input.old)) (R.size (reader_in input.old)) (index_of input.old.reader) d) }
+        ensures accepts_from { IfErr result (λ e. (d : AnyDamage) → e ≡ file_error.Damaged d → (low : Option (List ℕ)) (given : List AnyRow) → HasGivenFrom R.bytes low input.old self.old given
+            → (b : List ℕ) (all : List AnyRow) → R.bytes (reader_in input.old) ≡ Some b → IsIndexed (index_of input.old.reader) all b → ⊥) }
+    {
+        if self.given >= self.block.len() && self.next < input.reader.blocks() {
+            if let Err(error) = self.read_waiting(input, place, ahead) {
+                return Err(error);
+            }
+            return self.fill(input);
+        }
+        self.fill(input)
+    }
+
+    /// The number of the block that is read next, if there is one.
+    pub fn next_block<R: FileReader>(&self, input: &Input<R>) -> Option<u32>
+        ensures { IfSome result (λ block. block < length (index_of input.now.reader).entries) }
+    {
+        (self.next < input.reader.blocks()).then_some(self.next)
     }
 
     /// What was given and what is at hand has the present columns' form, its keys rise, and none is below the key from which rows are given.

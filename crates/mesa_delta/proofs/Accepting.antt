@@ -1,6 +1,6 @@
 -- No damage is told of the recorded bytes.
-use Rattle.std.proofs.Common.{◌≡◌, inl, inr, ℕ, ◌+◌, ◌-◌, ◌^◌, ◌<◌, ◌≤◌, List, [], ◌∷◌, ◌++◌, length, take, drop, get_or, refl, sym, ap, subst, ◌∙◌, arith, Option, Some, true}
-use Rattle.std.specs.Prelude.{IsTrue, map}
+use Rattle.std.proofs.Common.{◌≡◌, inl, inr, ℕ, ◌+◌, ◌-◌, ◌^◌, ◌<◌, ◌≤◌, List, [], ◌∷◌, ◌++◌, length, take, drop, get_or, refl, sym, ap, subst, ◌∙◌, arith, Option, Some, None, true}
+use Rattle.std.specs.Prelude.{IfOk, IfSome, IsTrue, Result, Ok, Err, map}
 use Rattle.std.specs.List.{AllByRecursion}
 use Rattle.std.specs.Ordering.{is_le}
 use Rattle.std.proofs.lemmas.List.{length-drop, take_all}
@@ -16,14 +16,16 @@ use Rattle.mesa_block.specs.Rows.{AreRows, Rise}
 use Rattle.mesa_block.specs.Spelling.{block, key_of}
 use Rattle.mesa_delta.specs.declared.place.Entry.{Entry}
 use Rattle.mesa_delta.specs.declared.reader.DeltaReader.{DeltaReader}
+use Rattle.mesa_delta.specs.Ahead.{IsOfFile, Untested}
 use Rattle.mesa_delta.specs.Beginning.{BeginsBefore, IsSome, first_short}
 use Rattle.mesa_delta.specs.File.{IsFile, file_tail}
 use Rattle.mesa_delta.specs.Indexed.{Indexed, IsIndex, tail_length}
-use Rattle.mesa_delta.specs.Places.{places, shorts_of}
+use Rattle.mesa_delta.specs.Places.{entry_of, place_of, places, shorts_of}
 use Rattle.mesa_delta.specs.Reading.{HasRead, IsBlock, IsBlockDamage, IsIndexed, IsTailDamage, tail_place, piece_of}
 use Rattle.mesa_delta.specs.Seeking.{seek_in}
 use Rattle.mesa_delta.specs.Spread.{blocks_of}
 use Rattle.mesa_delta.specs.Summary.{IsReferenceOf}
+use Rattle.mesa_delta.specs.Tail.{first_key}
 use Rattle.mesa_delta.proofs.Indexing.{is_same, is_at}
 use Rattle.mesa_delta.proofs.Packing.{FitsAlone, blocks_rows}
 use Rattle.mesa_delta.proofs.Placed.{laid, tail_is, tail_of_file}
@@ -63,6 +65,32 @@ pub read_again : FitsAlone → Reads → (x : Indexed) (i : ℕ) (part rows : Li
 read_again law reads x i part rows b index lt is f piece =
     let here = is_at law x rows b i index f lt in
     blocks_once reads x.layout part (get_or (blocks_of x.layout rows) i []) is.rows here.good (sym piece ∙ here.piece)
+
+-- bytes of the recorded length and digest that spell rows are the block of these rows
+pub block_told : (x : Indexed) (i : ℕ) (e : Entry) (s : Layout) (bytes : List ℕ) (rows : List Row) → s ≡ x.layout → e ≡ entry_of x.entries i → e.len ≡ length bytes → e.digest ≡ sha256 bytes
+    → AreRows s rows × (block s rows ≡ bytes) × (short_key (first_key rows) ≡ e.short) → IsBlock x i rows
+block_told x i e s bytes rows layout at len digest told =
+    let spelled : block x.layout rows ≡ bytes = subst (λ (s : Layout). block s rows ≡ bytes) layout told.1 in
+    let long : e.len ≡ length (block x.layout rows) = len ∙ sym (ap length spelled) in
+    let sealed : e.digest ≡ sha256 (block x.layout rows) = digest ∙ sym (ap sha256 spelled) in
+    let short : e.short ≡ short_key (first_key rows) = sym told.2 in
+    let placed : e ≡ place_of x.layout e.offset rows = λ j. record { short = short j; offset = e.offset; len = long j; digest = sealed j } in
+    record { rows = subst (λ (s : Layout). AreRows s rows) layout told.0; entry = subst (λ (e : Entry). e ≡ place_of x.layout e.offset rows) at placed }
+
+same_first : (u v : Untested) (us vs : List Untested) → u ∷ us ≡ v ∷ vs → u ≡ v
+same_first u v us vs e = cc
+
+-- the first block that was read ahead is what was written
+pub taken_again : {E : Type 0} → FitsAlone → Reads → (x : Indexed) (found : Result (Option (List Row)) E) (ahead : List Untested) (v : Untested) (rest : List Untested) (n : ℕ) (bytes : List ℕ) → IsIndex x → ahead ≡ v ∷ rest → n ≡ v.block → bytes ≡ v.bytes
+    → IfOk found (λ o. IfSome o (λ rows. IsBlock x n rows)) → IfOk found (λ o. IfSome o (λ rows. block x.layout rows ≡ bytes))
+    → IfOk found (λ o. IfSome o (λ rows. (u : Untested) (more : List Untested) → ahead ≡ u ∷ more → (b : List ℕ) (all : List Row) → IsOfFile (Some b) x u → IsIndexed x all b → rows ≡ get_or (blocks_of x.layout all) u.block []))
+taken_again law reads x (Ok (Some rows)) ahead v rest n bytes index first number piece is spelled = λ u more e b all of_file f.
+    let same : v ≡ u = same_first v u rest more (sym first ∙ e) in
+    let at : n ≡ u.block = number ∙ ap (λ (u : Untested). u.block) same in
+    let here : block x.layout rows ≡ u.bytes = spelled ∙ piece ∙ ap (λ (u : Untested). u.bytes) same in
+    read_again law reads x u.block rows all b index of_file.within (subst (λ (n : ℕ). IsBlock x n rows) at is) f (sym (of_file.piece.told b refl) ∙ sym here)
+taken_again law reads x (Ok None) ahead v rest n bytes index first number piece is spelled = tt
+taken_again law reads x (Err e) ahead v rest n bytes index first number piece is spelled = tt
 
 shorts_are : (s : Layout) (at : ℕ) (parts : List (List Row)) → shorts_of (places s at parts) ≡ map first_short parts
 shorts_are s at [] = refl

@@ -1,20 +1,23 @@
 // Blocks that are read before they are tested, so that their digests are taken side by side.
-ghost use Rattle.std.specs.Prelude.{◌≡◌, ◌<◌, ◌≤◌, ◌+◌, ◌↔◌, [], ◌∷◌, ◌++◌, List, length, drop, OnOk, OnErr, IfOk, IfSome, IsTrue, true, false};
+ghost use Rattle.std.specs.Prelude.{◌≡◌, ◌<◌, ◌≤◌, ◌+◌, ◌↔◌, ℕ, [], ◌∷◌, ◌++◌, List, length, drop, get_or, Option, Some, OnOk, OnErr, IfOk, IfSome, IfNone, IsTrue, true, false};
 ghost use Rattle.sha2.specs.Sha256.{sha256};
 ghost use Rattle.mesa_disk.specs.mesa_fault.Causes.{HasCause, HasFaultCause};
+ghost use Rattle.mesa_schema.specs.declared.rows.Row.{Row as AnyRow};
 ghost use Rattle.mesa_delta.specs.declared.error.FileError.TheVariants as file_error;
 ghost use Rattle.mesa_delta.specs.Ahead.{IsOfFile, Untested as AnyUntested};
-ghost use Rattle.mesa_delta.specs.Reading.{index_of, reader_of};
+ghost use Rattle.mesa_delta.specs.Reading.{IsBlock, IsIndexed, index_of, reader_of};
+ghost use Rattle.mesa_delta.specs.Spread.{blocks_of};
 
 use crate::digesting::{Message, digest_of, take_digests};
-use crate::reader::read_block_bytes;
-use crate::{DeltaReader, FileError};
+use crate::reader::{read_block_bytes, tested};
+use crate::{DeltaReader, FileError, Index};
+use mesa_block::{Block, fits_alone, reads_blocks};
 use mesa_disk::{FileReader, ReadFailed};
-use std::alloc::Global;
+use std::alloc::{AllocError, Global};
 use std::marker::Model;
 
-/// How many blocks are read ahead, for as many digests are taken side by side.
-const MOST_AHEAD: usize = 4;
+/// How many digests are taken side by side.
+const SIDE_BY_SIDE: usize = 4;
 
 /// A block's bytes as they were read.
 #[derive(Drop)]
@@ -58,6 +61,7 @@ impl Untested {
     ) -> Result<(), FileError>
         requires { block < length (index_of reader.old).entries }
         ensures file { OnOk result (self.new.file ≡ file) }
+        ensures block { OnOk result (self.new.block ≡ block) }
         ensures read { OnOk result (IsOfFile (R.bytes (reader_of reader.old)) (index_of reader.old) self.new) }
         ensures reader { reader.new ≡ record reader.old { reader = reader_of reader.new } }
         ensures bytes { R.bytes (reader_of reader.new) ≡ R.bytes (reader_of reader.old) }
@@ -100,11 +104,12 @@ impl Message for Untested {
     }
 }
 
-/// Blocks that were read ahead, of one file or of several, at most four. Each is taken once, in the order in which they were read, and nothing of it is believed before it is tested then.
+/// Blocks that were read ahead, of one file or of several, at most four or as many as were asked for. Each is taken once, in the order in which they were read, and nothing of it is believed before it is tested then.
 ///
 /// A file is known by its place among those that are read. The buffers stay for the next blocks.
 #[derive(Drop)]
 pub struct Ahead {
+    most: usize,
     slots: Vec<Untested>,
     // How many slots are filled, and how many of these were taken.
     filled: usize,
@@ -123,11 +128,19 @@ impl Model for Ahead {
 }
 
 impl Ahead {
-    /// Nothing.
+    /// Nothing, with room for four blocks.
     pub fn new(alloc: Global) -> Self
         ensures { result ≡ [] }
     {
+        Ahead::with_room(alloc, SIDE_BY_SIDE)
+    }
+
+    /// Nothing, with room for so many blocks. It takes no memory yet.
+    pub fn with_room(alloc: Global, most: usize) -> Self
+        ensures { result ≡ [] }
+    {
         Ahead {
+            most,
             slots: Vec::new(alloc),
             filled: 0,
             taken: 0,
@@ -143,7 +156,7 @@ impl Ahead {
 
     /// Whether no more may be read ahead.
     pub fn is_full(&self) -> bool {
-        self.filled - self.taken >= MOST_AHEAD
+        self.filled - self.taken >= self.most
     }
 
     /// Reads a block of the file of this place, by one read, and says whether it did. It isn't tested yet. A file of another length than the recorded one and want of memory are left to who takes the block.
@@ -156,7 +169,7 @@ impl Ahead {
         requires { block < length (index_of reader.old).entries }
 
         // One block more waits, read from the bytes at its place.
-        ensures more { IfOk result (λ read. read ≡ true → (u : AnyUntested) × (self.new ≡ self.old ++ u ∷ []) × (u.file ≡ file) × IsOfFile (R.bytes (reader_of reader.old)) (index_of reader.old) u) }
+        ensures more { IfOk result (λ read. read ≡ true → (u : AnyUntested) × (self.new ≡ self.old ++ u ∷ []) × (u.file ≡ file) × (u.block ≡ block) × IsOfFile (R.bytes (reader_of reader.old)) (index_of reader.old) u) }
         ensures same { IfOk result (λ read. read ≡ false → self.new ≡ self.old) }
         ensures err { OnErr result (self.new ≡ self.old) }
 
@@ -199,7 +212,46 @@ impl Ahead {
         ensures { self.new ≡ self.old }
     {
         let alloc = *self.slots.allocator();
-        let _taken = take_digests(alloc, &mut self.slots[self.taken..self.filled]);
+        digest_fours(alloc, &mut self.slots[self.taken..self.filled]);
+    }
+
+    /// The place of the file of the first block that waits.
+    pub fn front(&self) -> Option<usize>
+        ensures some { IfSome result (λ file. (u : AnyUntested) × (rest : List AnyUntested) × (self.now ≡ u ∷ rest) × (u.file ≡ file)) }
+        ensures none { IfNone result (self.now ≡ []) }
+    {
+        Some(self.waiting()?.file)
+    }
+
+    /// Takes the first block that waits, tested by itself, by the index of its file. There is none where it isn't the block that the index tells.
+    pub fn take(&mut self, index: &Index) -> Result<Option<Block>, AllocError>
+        requires { (u : AnyUntested) (rest : List AnyUntested) → self.old ≡ u ∷ rest → u.block < length index.now.entries }
+        ensures step { self.new ≡ drop 1 self.old }
+
+        // The block is the one that the entry tells, and what was written is read again.
+        ensures block { IfOk result (λ o. IfSome o (λ rows. (u : AnyUntested) (rest : List AnyUntested) → self.old ≡ u ∷ rest → IsBlock index.now u.block rows)) }
+        ensures again { IfOk result (λ o. IfSome o (λ rows. (u : AnyUntested) (rest : List AnyUntested) → self.old ≡ u ∷ rest → (b : List ℕ) (all : List AnyRow) → IsOfFile (Some b) index.now u → IsIndexed index.now all b
+            → rows ≡ get_or (blocks_of index.now.layout all) u.block [])) }
+    {
+        let found = self.tested(index);
+        self.step();
+        found
+    }
+
+    // The first block that waits, tested by itself, if it is the one that the index tells.
+    fn tested(&self, index: &Index) -> Result<Option<Block>, AllocError>
+        requires { (u : AnyUntested) (rest : List AnyUntested) → self.now ≡ u ∷ rest → u.block < length index.now.entries }
+        ensures block { IfOk result (λ o. IfSome o (λ rows. (u : AnyUntested) (rest : List AnyUntested) → self.now ≡ u ∷ rest → IsBlock index.now u.block rows)) }
+        ensures again { IfOk result (λ o. IfSome o (λ rows. (u : AnyUntested) (rest : List AnyUntested) → self.now ≡ u ∷ rest → (b : List ℕ) (all : List AnyRow) → IsOfFile (Some b) index.now u → IsIndexed index.now all b
+            → rows ≡ get_or (blocks_of index.now.layout all) u.block [])) }
+    {
+        fits_alone();
+        reads_blocks();
+        let _blocks = index.blocks();
+        match self.waiting() {
+            Some(first) => tested(index, first.block, first.bytes(), &first.digest()),
+            None => Ok(None),
+        }
     }
 
     /// The first that waits, if it is this block.
@@ -208,14 +260,22 @@ impl Ahead {
         ensures file { IfSome result (λ u. u.now.file ≡ file) }
         ensures block { IfSome result (λ u. u.now.block ≡ block) }
     {
-        if self.taken == self.filled {
-            return None;
-        }
-        let first = &self.slots[self.taken];
+        let first = self.waiting()?;
         if !first.is_of(file, block) {
             return None;
         }
         Some(first)
+    }
+
+    // The first that waits.
+    fn waiting(&self) -> Option<&Untested>
+        ensures some { IfSome result (λ u. (rest : List AnyUntested) × (self.now ≡ u.now ∷ rest)) }
+        ensures none { IfNone result (self.now ≡ []) }
+    {
+        if self.taken == self.filled {
+            return None;
+        }
+        Some(&self.slots[self.taken])
     }
 
     /// The first that waits was taken.
@@ -225,5 +285,17 @@ impl Ahead {
         if self.taken < self.filled {
             self.taken += 1;
         }
+    }
+}
+
+// Takes the digests of blocks by fours.
+fn digest_fours(alloc: Global, blocks: &mut [Untested])
+    ensures { blocks.new ≡ blocks.old }
+{
+    let mut from = 0;
+    'fours: while from < blocks.len() {
+        let end = blocks.len().min(from + SIDE_BY_SIDE);
+        let _taken = take_digests(alloc, &mut blocks[from..end]);
+        from = end;
     }
 }

@@ -206,6 +206,30 @@ fn test<R: FileReader>(
     }
 }
 
+/// The block of these bytes by itself, if it is the one that the index tells.
+pub(crate) fn tested(
+    index: &Index,
+    i: u32,
+    bytes: &[u8],
+    digest: &[u8; 32],
+) -> Result<Option<Block>, AllocError>
+    requires within { i < length index.now.entries }
+    requires digest { digest.now ≡ sha256 bytes.now }
+    ensures block { IfOk result (λ o. IfSome o (λ rows. IsBlock index.now i rows)) }
+    ensures spelled { IfOk result (λ o. IfSome o (λ rows. block index.now.layout rows ≡ bytes.now)) }
+{
+    fits_alone();
+    let entry = index.entry(i);
+    if bytes.len() != entry.len as usize {
+        return Ok(None);
+    }
+    if entry.digest != *digest {
+        return Ok(None);
+    }
+    let (format, schema) = (index.format(), index.schema());
+    block_in(index.allocator(), format, schema, &entry.short, bytes)
+}
+
 // What is kept of the blocks that were read, with one more.
 fn go_on(index: &Index, run: &Run, rows: &Block) -> Result<Run, FileError>
     requires some { 0 < length rows.now }

@@ -1,10 +1,12 @@
-//! Tests of disks in memory, of journals on them in one area and in two, and of files that are read through a cache.
+//! Tests of disks in memory and in a folder, of journals on them in one area and in two, and of files that are read through a cache.
 #![tactic(auto)]
 
 #[cfg(test)]
 mod areas;
 #[cfg(test)]
 mod cached;
+#[cfg(test)]
+mod dir;
 #[cfg(test)]
 mod disk;
 #[cfg(test)]

@@ -4,23 +4,23 @@ use Rattle.mesa_disk.specs.Story.{Story}
 use Rattle.mesa_disk.specs.declared.area.Area.{Area}
 use Rattle.mesa_metadata.specs.mesa_catalog.mesa_image.Catalog.{Catalog}
 use Rattle.mesa_lease.specs.Book.{Book}
-use Rattle.mesa_metadata.specs.mesa_ledger.mesa_skeleton.Rows.{Rows}
-use Rattle.mesa_metadata.specs.mesa_ledger.mesa_walk.Books.{AreBooksOf}
-use Rattle.mesa_metadata.proofs.mesa_ledger.mesa_walk.Beginning.{started}
-use Rattle.mesa_metadata.specs.mesa_ledger.Ledger.{books_of}
-use Rattle.mesa_metadata.specs.mesa_ledger.Vault.{Starts, IsVault, outset_of}
-use Rattle.mesa_metadata.proofs.mesa_ledger.Beginning.{first_ledger, started_vault}
-use Rattle.mesa_metadata.specs.Memory.{opened_ledger}
+use Rattle.mesa_metadata.specs.mesa_engine_state.mesa_projection.Rows.{Rows}
+use Rattle.mesa_metadata.specs.mesa_engine_state.mesa_invariant.Books.{AreBooksOf}
+use Rattle.mesa_metadata.proofs.mesa_engine_state.mesa_invariant.Beginning.{started}
+use Rattle.mesa_metadata.specs.mesa_engine_state.EngineState.{books_of}
+use Rattle.mesa_metadata.specs.mesa_engine_state.Vault.{Starts, IsVault, outset_of}
+use Rattle.mesa_metadata.proofs.mesa_engine_state.Beginning.{first_state, started_vault}
+use Rattle.mesa_metadata.specs.Memory.{opened_state}
 use Rattle.mesa_engine.specs.Beginning.{IsBegun}
 
 module _ (n : Starts) (w : Rows) (sound : Bool) (c : Catalog) (area : Area) (end turns : ℕ) (story : Story) (held : Option (List ℕ)) (is : IsBegun n w sound c area end turns story held) where
-  ledger_is : first_ledger (outset_of n w) c (n.origin w).generation area end ≡ opened_ledger c area end turns
-  ledger_is = λ i. record (opened_ledger c area end turns) { generation = is.generation i; leases = is.leases i }
+  state_is : first_state (outset_of n w) c (n.origin w).generation area end ≡ opened_state c area end turns
+  state_is = λ i. record (opened_state c area end turns) { generation = is.generation i; leases = is.leases i }
 
-  pub begun_vault : IsVault (outset_of n w) (n.origin w) sound (opened_ledger c area end turns) story held [] true false
+  pub begun_vault : IsVault (outset_of n w) (n.origin w) sound (opened_state c area end turns) story held [] true false
   begun_vault =
-      subst (λ l. IsVault (outset_of n w) (n.origin w) sound l story held [] true false) ledger_is
+      subst (λ l. IsVault (outset_of n w) (n.origin w) sound l story held [] true false) state_is
       (started_vault (outset_of n w) (n.origin w) sound c area end story held w is.bodies
-      (started (outset_of n w) sound (books_of w (first_ledger (outset_of n w) c (n.origin w).generation area end)) story held
-      (subst (λ l. AreBooksOf sound (books_of w l) (n.start w)) (sym ledger_is) is.state) is.since is.counted is.found is.sink)
+      (started (outset_of n w) sound (books_of w (first_state (outset_of n w) c (n.origin w).generation area end)) story held
+      (subst (λ l. AreBooksOf sound (books_of w l) (n.start w)) (sym state_is) is.state) is.since is.counted is.found is.sink)
       (sym is.run) is.ranges (ap (λ (b : Book). b.granted) is.leases) is.holds is.shaped is.own is.columns is.recordable is.named_given (record { long = is.ready.long; fresh = is.ready.fresh; strays = is.ready.strays }) is.stocked is.sourced is.read)

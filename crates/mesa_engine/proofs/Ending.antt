@@ -3,13 +3,13 @@ use Rattle.std.proofs.Common.{ℕ, List, Bool, true, inr, refl, sym, ◌∙◌, 
 use Rattle.mesa_disk.specs.Story.{Story}
 use Rattle.mesa_model.specs.declared.entries.Entry.{Entry}
 use Rattle.mesa_model.specs.Warehouse.{Warehouse}
-use Rattle.mesa_metadata.specs.mesa_ledger.mesa_skeleton.Rows.{Rows}
-use Rattle.mesa_metadata.specs.mesa_ledger.Ledger.{Ledger}
-use Rattle.mesa_metadata.specs.mesa_ledger.Vault.{Starts, IsVault, outset_of}
+use Rattle.mesa_metadata.specs.mesa_engine_state.mesa_projection.Rows.{Rows}
+use Rattle.mesa_metadata.specs.mesa_engine_state.EngineState.{EngineState}
+use Rattle.mesa_metadata.specs.mesa_engine_state.Vault.{Starts, IsVault, outset_of}
 use Rattle.mesa_engine.specs.Ending.{ReadsState}
 
 -- On a sound store that nothing closed, a read gives what stands behind the history.
-pub reads_state : (n : Starts) (w : Rows) (l : Ledger) (story : Story) (held : Option (List ℕ)) (h : List Entry) (running refused : Bool)
+pub reads_state : (n : Starts) (w : Rows) (l : EngineState) (story : Story) (held : Option (List ℕ)) (h : List Entry) (running refused : Bool)
     → IsVault (outset_of n w) (n.origin w) true l story held h running refused → ReadsState n.script (n.start w) h story
 reads_state n w l story held h running refused v none =
     let read = v.read refl in

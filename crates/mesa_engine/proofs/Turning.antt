@@ -3,7 +3,7 @@ use Rattle.std.proofs.Common.{◌≡◌, ℕ, ◌+◌, ◌≤◌, List, [], ◌�
 use Rattle.std.specs.Prelude.{vec_capacity}
 use Rattle.std.specs.List.{AllByRecursion}
 use Rattle.std.proofs.lemmas.List.{length-append}
-use Rattle.mesa_fault.specs.Causes.{Rose}
+use Rattle.mesa_disk.specs.mesa_fault.Causes.{Rose}
 use Rattle.mesa_disk.specs.Story.{Story, Unmoved}
 use Rattle.mesa_model.specs.declared.commands.Command.{Command}
 use Rattle.mesa_model.specs.declared.commands.Script.{Script}
@@ -14,18 +14,18 @@ use Rattle.mesa_metadata.proofs.mesa_catalog.mesa_history.Finding.{all_more}
 use Rattle.mesa_metadata.proofs.mesa_catalog.mesa_history.Turns.{turn_goes}
 use Rattle.mesa_metadata.specs.mesa_catalog.mesa_history.Run.{State, Stage, Told, begins, place_of}
 use Rattle.mesa_metadata.specs.mesa_catalog.mesa_history.Turns.{IsDue, place_then}
-use Rattle.mesa_metadata.specs.mesa_ledger.mesa_output.Output.{block}
-use Rattle.mesa_printer.specs.declared.printer.Printer.{Printer}
-use Rattle.mesa_metadata.specs.mesa_ledger.mesa_skeleton.Rows.{Rows, no_rows}
-use Rattle.mesa_metadata.specs.mesa_ledger.mesa_walk.Printing.{IsPut}
-use Rattle.mesa_metadata.specs.mesa_ledger.mesa_walk.Turns.{Shown, IsSeen, Takes, entry}
-use Rattle.mesa_metadata.specs.mesa_ledger.mesa_walk.Undamaged.{NoneDamaged, is_damaged}
-use Rattle.mesa_metadata.specs.mesa_ledger.mesa_walk.Walk.{Counts, run_at}
-use Rattle.mesa_log.specs.declared.log.Log.{Log}
-use Rattle.mesa_log.specs.Printing.{GoesOn, PrintsBlock}
-use Rattle.mesa_log.proofs.Printing.{same_goes}
-use Rattle.mesa_metadata.specs.mesa_ledger.Vault.{Starts, IsVaultAt, outset_of}
-use Rattle.mesa_metadata.proofs.mesa_ledger.Beginning.{unmoved_vault}
+use Rattle.mesa_metadata.specs.mesa_engine_state.mesa_output.Output.{block}
+use Rattle.mesa_print.specs.declared.printer.Printer.{Printer}
+use Rattle.mesa_metadata.specs.mesa_engine_state.mesa_projection.Rows.{Rows, no_rows}
+use Rattle.mesa_metadata.specs.mesa_engine_state.mesa_invariant.Printing.{IsPut}
+use Rattle.mesa_metadata.specs.mesa_engine_state.mesa_invariant.Turns.{Shown, IsSeen, Takes, entry}
+use Rattle.mesa_metadata.specs.mesa_engine_state.mesa_invariant.Undamaged.{NoneDamaged, is_damaged}
+use Rattle.mesa_metadata.specs.mesa_engine_state.mesa_invariant.Walk.{Counts, run_at}
+use Rattle.mesa_engine.specs.declared.log.Log.{Log}
+use Rattle.mesa_engine.specs.Printing.{GoesOn, PrintsBlock}
+use Rattle.mesa_engine.proofs.Printing.{same_goes}
+use Rattle.mesa_metadata.specs.mesa_engine_state.Vault.{Starts, IsVaultAt, outset_of}
+use Rattle.mesa_metadata.proofs.mesa_engine_state.Beginning.{unmoved_vault}
 use Rattle.mesa_metadata.specs.Memory.{Memory}
 use Rattle.mesa_engine.specs.Engine.{IsEngine}
 
@@ -51,9 +51,9 @@ module _ {K : Type 0} (held : K → Option (List ℕ)) (faults : K → ℕ) (n :
   since = let before = (v.vault no_rows false (λ is. absurd cc)).walk.begun in omega (arith, before, passes, moment)
 
   -- a turn
-  pub turned_engine : GoesOn faults log.printer later.printer → IsVaultAt n after.ledger new (held later.printer.sink) (log.history.items ++ e ∷ []) (not later.printer.broken) later.refused → IsEngine held faults n turns sinks after new later
+  pub turned_engine : GoesOn faults log.printer later.printer → IsVaultAt n after.state new (held later.printer.sink) (log.history.items ++ e ∷ []) (not later.printer.broken) later.refused → IsEngine held faults n turns sinks after new later
   turned_engine goes vault = record {
-    vault = subst (λ h. IsVaultAt n after.ledger new (held later.printer.sink) h (not later.printer.broken) later.refused) (sym grew) vault;
+    vault = subst (λ h. IsVaultAt n after.state new (held later.printer.sink) h (not later.printer.broken) later.refused) (sym grew) vault;
     room = omega (arith, v.room, roomy);
     few = v.few;
     leased = omega (arith, leased, longer);
@@ -65,25 +65,25 @@ module _ {K : Type 0} (held : K → Option (List ℕ)) (faults : K → ℕ) (n :
   }
 
   -- a turn that prints nothing
-  pub passed_engine : later.printer ≡ log.printer → later.refused ≡ log.refused → IsVaultAt n after.ledger new (held log.printer.sink) (log.history.items ++ e ∷ []) (not log.printer.broken) log.refused → IsEngine held faults n turns sinks after new later
+  pub passed_engine : later.printer ≡ log.printer → later.refused ≡ log.refused → IsVaultAt n after.state new (held log.printer.sink) (log.history.items ++ e ∷ []) (not log.printer.broken) log.refused → IsEngine held faults n turns sinks after new later
   passed_engine printer refused vault =
       turned_engine (same_goes faults log.printer later.printer printer)
-      (subst (λ (p : Printer K). IsVaultAt n after.ledger new (held p.sink) (log.history.items ++ e ∷ []) (not p.broken) later.refused) (sym printer)
-      (subst (IsVaultAt n after.ledger new (held log.printer.sink) (log.history.items ++ e ∷ []) (not log.printer.broken)) (sym refused) vault))
+      (subst (λ (p : Printer K). IsVaultAt n after.state new (held p.sink) (log.history.items ++ e ∷ []) (not p.broken) later.refused) (sym printer)
+      (subst (IsVaultAt n after.state new (held log.printer.sink) (log.history.items ++ e ∷ []) (not log.printer.broken)) (sym refused) vault))
 
   -- a turn that prints its block
   pub told_engine : (told : Told) (refuses : Bool) → PrintsBlock held faults log.printer later.printer e told → later.refused ≡ (log.refused || refuses)
-      → (IsPut (block e (Some told)) (not later.printer.broken) (held log.printer.sink) (held later.printer.sink) → IsVaultAt n after.ledger new (held later.printer.sink) (log.history.items ++ e ∷ []) (not later.printer.broken) (log.refused || refuses))
+      → (IsPut (block e (Some told)) (not later.printer.broken) (held log.printer.sink) (held later.printer.sink) → IsVaultAt n after.state new (held later.printer.sink) (log.history.items ++ e ∷ []) (not later.printer.broken) (log.refused || refuses))
       → IsEngine held faults n turns sinks after new later
   told_engine told refuses tells refused vault =
-      turned_engine tells.goes (subst (IsVaultAt n after.ledger new (held later.printer.sink) (log.history.items ++ e ∷ []) (not later.printer.broken)) (sym refused) (vault tells.put))
+      turned_engine tells.goes (subst (IsVaultAt n after.state new (held later.printer.sink) (log.history.items ++ e ∷ []) (not later.printer.broken)) (sym refused) (vault tells.put))
 
 -- ---- between turns
 
 -- Readers that are given back keep an engine.
 pub unmoved_engine : {K : Type 0} (held : K → Option (List ℕ)) (faults : K → ℕ) (n : Starts) (turns sinks : ℕ) (m : Memory) (story new : Story) (log : Log K) → Unmoved story new → Counts story new false → IsEngine held faults n turns sinks m story log → IsEngine held faults n turns sinks m new log
 unmoved_engine held faults n turns sinks m story new log same counts v = record {
-  vault = λ w b is. unmoved_vault (outset_of n w) (n.origin w) b m.ledger story new (held log.printer.sink) log.history.items (not log.printer.broken) log.refused same counts (v.vault w b is);
+  vault = λ w b is. unmoved_vault (outset_of n w) (n.origin w) b m.state story new (held log.printer.sink) log.history.items (not log.printer.broken) log.refused same counts (v.vault w b is);
   room = v.room;
   few = v.few;
   leased = v.leased;

@@ -1,7 +1,7 @@
 -- How a turn that does nothing for its command keeps a vault.
 use Rattle.std.proofs.Common.{◌≡◌, ℕ, ◌<◌, ◌^◌, List, [], ◌∷◌, ◌++◌, length, Bool, true, false, ◌||◌, not, refl, sym, ◌∙◌, ap, subst, Option, Some, Result, IsTrue}
 use Rattle.mesa_disk.specs.Story.{Story}
-use Rattle.mesa_filter.specs.declared.words.QueryWords.{QueryWords}
+use Rattle.mesa_model.specs.mesa_filter.declared.words.QueryWords.{QueryWords}
 use Rattle.mesa_model.specs.declared.commands.Command.{Command}
 use Rattle.mesa_model.specs.declared.commands.Command.TheVariants as command
 use Rattle.mesa_model.specs.declared.commands.ExplainWords.{ExplainWords}
@@ -20,59 +20,59 @@ use Rattle.mesa_model.specs.Load.{load_batch}
 use Rattle.mesa_model.specs.Pins.{make_pin, release_pin}
 use Rattle.mesa_model.specs.Tables.{alter_table, make_table, make_view}
 use Rattle.mesa_model.specs.Versions.{expire_to}
-use Rattle.mesa_metadata.specs.mesa_ledger.mesa_output.Output.{block}
-use Rattle.mesa_metadata.specs.mesa_ledger.mesa_skeleton.Rows.{Rows}
-use Rattle.mesa_metadata.specs.mesa_ledger.mesa_walk.Books.{Books}
-use Rattle.mesa_metadata.specs.mesa_ledger.mesa_walk.Causes.{Cause, Replies, Unread, Damaged, Unwritten, NoMemory, outcome_of, reply_of, told_at, is_read_fault}
-use Rattle.mesa_metadata.specs.mesa_ledger.mesa_walk.Changes.{Doing, IsDecided, HasFailed, HasNoPlan, failed_books}
-use Rattle.mesa_metadata.specs.mesa_ledger.mesa_walk.Printing.{IsPut}
-use Rattle.mesa_metadata.specs.mesa_ledger.mesa_walk.Queries.{HasNoAnswer}
-use Rattle.mesa_metadata.specs.mesa_ledger.mesa_walk.Turns.{Shown, IsSeen, Takes, entry, is_simple}
-use Rattle.mesa_metadata.specs.mesa_ledger.mesa_walk.Undamaged.{is_damaged}
-use Rattle.mesa_metadata.specs.mesa_ledger.mesa_walk.Walk.{Outset, Counts, WalksOn, run_of}
-use Rattle.mesa_metadata.specs.mesa_ledger.mesa_walk.Works.{HasNoClaim}
-use Rattle.mesa_metadata.proofs.mesa_ledger.mesa_walk.Asking.{unpinned_turn, unpinned_ends}
-use Rattle.mesa_metadata.proofs.mesa_ledger.mesa_walk.Changing.{alter_decided, expire_decided, load_decided, pin_decided, release_decided, table_decided, view_decided, fails_turn}
-use Rattle.mesa_metadata.proofs.mesa_ledger.mesa_walk.Going.{publish_takes, simple_takes, takes_as}
-use Rattle.mesa_metadata.proofs.mesa_ledger.mesa_walk.Reading.{unexplained_turn}
-use Rattle.mesa_metadata.proofs.mesa_ledger.mesa_walk.Turning.{stays, counts_same, skipped_turn}
-use Rattle.mesa_metadata.proofs.mesa_ledger.mesa_walk.Working.{ungranted_turn, ungranted_ends}
-use Rattle.mesa_metadata.specs.mesa_ledger.Ledger.{Ledger, books_of}
-use Rattle.mesa_metadata.specs.mesa_ledger.Vault.{Origin, IsVault}
-use Rattle.mesa_metadata.proofs.mesa_ledger.Staying.{still_vault}
+use Rattle.mesa_metadata.specs.mesa_engine_state.mesa_output.Output.{block}
+use Rattle.mesa_metadata.specs.mesa_engine_state.mesa_projection.Rows.{Rows}
+use Rattle.mesa_metadata.specs.mesa_engine_state.mesa_invariant.Books.{Books}
+use Rattle.mesa_metadata.specs.mesa_engine_state.mesa_invariant.Causes.{Cause, Replies, Unread, Damaged, Unwritten, NoMemory, outcome_of, reply_of, told_at, is_read_fault}
+use Rattle.mesa_metadata.specs.mesa_engine_state.mesa_invariant.Changes.{Doing, IsDecided, HasFailed, HasNoPlan, failed_books}
+use Rattle.mesa_metadata.specs.mesa_engine_state.mesa_invariant.Printing.{IsPut}
+use Rattle.mesa_metadata.specs.mesa_engine_state.mesa_invariant.Queries.{HasNoAnswer}
+use Rattle.mesa_metadata.specs.mesa_engine_state.mesa_invariant.Turns.{Shown, IsSeen, Takes, entry, is_simple}
+use Rattle.mesa_metadata.specs.mesa_engine_state.mesa_invariant.Undamaged.{is_damaged}
+use Rattle.mesa_metadata.specs.mesa_engine_state.mesa_invariant.Walk.{Outset, Counts, WalksOn, run_of}
+use Rattle.mesa_metadata.specs.mesa_engine_state.mesa_invariant.Works.{HasNoClaim}
+use Rattle.mesa_metadata.proofs.mesa_engine_state.mesa_invariant.Asking.{unpinned_turn, unpinned_ends}
+use Rattle.mesa_metadata.proofs.mesa_engine_state.mesa_invariant.Changing.{alter_decided, expire_decided, load_decided, pin_decided, release_decided, table_decided, view_decided, fails_turn}
+use Rattle.mesa_metadata.proofs.mesa_engine_state.mesa_invariant.Going.{publish_takes, simple_takes, takes_as}
+use Rattle.mesa_metadata.proofs.mesa_engine_state.mesa_invariant.Reading.{unexplained_turn}
+use Rattle.mesa_metadata.proofs.mesa_engine_state.mesa_invariant.Turning.{stays, counts_same, skipped_turn}
+use Rattle.mesa_metadata.proofs.mesa_engine_state.mesa_invariant.Working.{ungranted_turn, ungranted_ends}
+use Rattle.mesa_metadata.specs.mesa_engine_state.EngineState.{EngineState, books_of}
+use Rattle.mesa_metadata.specs.mesa_engine_state.Vault.{Origin, IsVault}
+use Rattle.mesa_metadata.proofs.mesa_engine_state.Staying.{still_vault}
 use Rattle.mesa_engine.specs.Failing.{HasNotDone, is_of_device, deciding_stage, deciding_kind}
 
 -- ---- causes hang on no rows
 
-failed_alike : (a b : Rows) (l : Ledger) (c : Command) (f : Doing) (cause : Cause) → HasFailed (books_of a l) c f cause → HasFailed (books_of b l) c f cause
+failed_alike : (a b : Rows) (l : EngineState) (c : Command) (f : Doing) (cause : Cause) → HasFailed (books_of a l) c f cause → HasFailed (books_of b l) c f cause
 failed_alike a b l c f (Replies r) has = has
 failed_alike a b l c f Unread has = has
 failed_alike a b l c f (Damaged damage) has = has
 failed_alike a b l c f Unwritten has = has
 failed_alike a b l c f NoMemory has = has
 
-plan_alike : (a b : Rows) (l : Ledger) (words : ExplainWords) (cause : Cause) → HasNoPlan (books_of a l) words cause → HasNoPlan (books_of b l) words cause
+plan_alike : (a b : Rows) (l : EngineState) (words : ExplainWords) (cause : Cause) → HasNoPlan (books_of a l) words cause → HasNoPlan (books_of b l) words cause
 plan_alike a b l words (Replies r) has = has
 plan_alike a b l words Unread has = has
 plan_alike a b l words (Damaged damage) has = has
 plan_alike a b l words Unwritten has = has
 plan_alike a b l words NoMemory has = has
 
-answer_alike : (a b : Rows) (l : Ledger) (s : ℕ) (words : QueryWords) (cause : Cause) → HasNoAnswer (books_of a l) s words cause → HasNoAnswer (books_of b l) s words cause
+answer_alike : (a b : Rows) (l : EngineState) (s : ℕ) (words : QueryWords) (cause : Cause) → HasNoAnswer (books_of a l) s words cause → HasNoAnswer (books_of b l) s words cause
 answer_alike a b l s words (Replies r) has = has
 answer_alike a b l s words Unread has = has
 answer_alike a b l s words (Damaged damage) has = has
 answer_alike a b l s words Unwritten has = has
 answer_alike a b l s words NoMemory has = has
 
-claim_alike : (a b : Rows) (l : Ledger) (asked : Result Claim Reply) (cause : Cause) → HasNoClaim (books_of a l) asked cause → HasNoClaim (books_of b l) asked cause
+claim_alike : (a b : Rows) (l : EngineState) (asked : Result Claim Reply) (cause : Cause) → HasNoClaim (books_of a l) asked cause → HasNoClaim (books_of b l) asked cause
 claim_alike a b l asked (Replies r) has = has
 claim_alike a b l asked Unread has = has
 claim_alike a b l asked (Damaged damage) has = has
 claim_alike a b l asked Unwritten has = has
 claim_alike a b l asked NoMemory has = has
 
-pub undone_alike : (a b : Rows) (l : Ledger) (at s : ℕ) (c : Command) (cause : Cause) → HasNotDone (books_of a l) at s c cause → HasNotDone (books_of b l) at s c cause
+pub undone_alike : (a b : Rows) (l : EngineState) (at s : ℕ) (c : Command) (cause : Cause) → HasNotDone (books_of a l) at s c cause → HasNotDone (books_of b l) at s c cause
 undone_alike a b l at s (command.Load rows) cause has = failed_alike a b l (command.Load rows) (λ w. load_batch w rows) cause has
 undone_alike a b l at s (command.Table words) cause has = failed_alike a b l (command.Table words) (λ w. make_table w words) cause has
 undone_alike a b l at s (command.View words) cause has = failed_alike a b l (command.View words) (λ w. make_view w words) cause has
@@ -131,7 +131,7 @@ not_skipped (Damaged damage) = refl
 not_skipped Unwritten = refl
 not_skipped NoMemory = refl
 
-module _ (o : Outset) (g : Origin) (sound : Bool) (l : Ledger) (story : Story) (held : Option (List ℕ)) (h : List Entry) (running refused : Bool) (v : IsVault o g sound l story held h running refused)
+module _ (o : Outset) (g : Origin) (sound : Bool) (l : EngineState) (story : Story) (held : Option (List ℕ)) (h : List Entry) (running refused : Bool) (v : IsVault o g sound l story held h running refused)
     (s number : ℕ) (low : s < 2 ^ 16) (few : number < 2 ^ 32) (m : ℕ) (moment : m ≡ story.moment) where
   -- A turn that is skipped.
   pub skipped_vault : (c : Command) (stage : Stage) (k : Kind) → IsDue o.script (run_of o h) s number c stage → IsTrue (is_due_at c stage k) → running ≡ false → IsVault o g sound l story held (h ++ entry s number k outcome.Skipped m ∷ []) running refused
@@ -175,7 +175,7 @@ module _ (o : Outset) (g : Origin) (sound : Bool) (l : Ledger) (story : Story) (
         (walks c due cause (undone_alike a v.rows l at s c cause has) quiet now new_held put)
 
 -- Its session's command is over.
-module _ (o : Outset) (g : Origin) (sound : Bool) (l : Ledger) (story : Story) (held : Option (List ℕ)) (h : List Entry) (running refused : Bool) (v : IsVault o g sound l story held h running refused)
+module _ (o : Outset) (g : Origin) (sound : Bool) (l : EngineState) (story : Story) (held : Option (List ℕ)) (h : List Entry) (running refused : Bool) (v : IsVault o g sound l story held h running refused)
     (s number : ℕ) (low : s < 2 ^ 16) (few : number < 2 ^ 32) (ran : running ≡ true) (at : ℕ) (place : at ≡ length h) (clock : ℕ) (new : Shown) (moment : new.clock ≡ story.moment) (seen : IsSeen o.script o.start new) (a : Rows) where
   abbrev old : Shown
   old = record { history = h; running = running; clock = clock }

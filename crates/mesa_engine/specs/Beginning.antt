@@ -9,23 +9,23 @@ use Rattle.mesa_metadata.specs.mesa_catalog.mesa_image.Catalog.{Catalog}
 use Rattle.mesa_metadata.specs.mesa_catalog.mesa_image.Held.{IsHeld}
 use Rattle.mesa_metadata.specs.mesa_catalog.mesa_image.Shape.{IsCatalog}
 use Rattle.mesa_metadata.specs.mesa_catalog.mesa_image.Sound.{AreStocked}
-use Rattle.mesa_metadata.specs.mesa_ledger.mesa_image_laws.Countable.{AreCounted}
-use Rattle.mesa_metadata.specs.mesa_ledger.mesa_image_laws.Ids.{HasOwnIds, named}
-use Rattle.mesa_metadata.specs.mesa_ledger.mesa_image_laws.Recordable.{AreRecordable}
-use Rattle.mesa_metadata.specs.mesa_ledger.mesa_image_laws.Sourced.{HasSources}
-use Rattle.mesa_metadata.specs.mesa_ledger.mesa_skeleton.Rows.{Rows}
-use Rattle.mesa_metadata.specs.mesa_ledger.mesa_trash.Holding.{Among}
-use Rattle.mesa_metadata.specs.mesa_ledger.mesa_walk.Books.{AreBooksOf}
-use Rattle.mesa_metadata.specs.mesa_ledger.mesa_walk.Walk.{AllFound}
-use Rattle.mesa_metadata.specs.mesa_ledger.Ledger.{books_of, first_id}
-use Rattle.mesa_metadata.specs.mesa_ledger.Vault.{Starts, IsRead, IsReady, outset_of}
+use Rattle.mesa_metadata.specs.mesa_engine_state.mesa_image.Countable.{AreCounted}
+use Rattle.mesa_metadata.specs.mesa_engine_state.mesa_image.Ids.{HasOwnIds, named}
+use Rattle.mesa_metadata.specs.mesa_engine_state.mesa_image.Recordable.{AreRecordable}
+use Rattle.mesa_metadata.specs.mesa_engine_state.mesa_image.Sourced.{HasSources}
+use Rattle.mesa_metadata.specs.mesa_engine_state.mesa_projection.Rows.{Rows}
+use Rattle.mesa_metadata.specs.mesa_engine_state.mesa_trash.Holding.{Among}
+use Rattle.mesa_metadata.specs.mesa_engine_state.mesa_invariant.Books.{AreBooksOf}
+use Rattle.mesa_metadata.specs.mesa_engine_state.mesa_invariant.Walk.{AllFound}
+use Rattle.mesa_metadata.specs.mesa_engine_state.EngineState.{books_of, first_id}
+use Rattle.mesa_metadata.specs.mesa_engine_state.Vault.{Starts, IsRead, IsReady, outset_of}
 use Rattle.mesa_metadata.specs.mesa_catalog.Lookups.{generation_of}
-use Rattle.mesa_metadata.specs.Memory.{opened_ledger}
+use Rattle.mesa_metadata.specs.Memory.{opened_state}
 
 -- What a run of a family finds at its start, where the files have these rows. On every store: the catalogue is that of its start's skeleton and of this run, and has the shape and the ids of one, and what its files are to keep; the disk's clock and counts aren't behind those of the start; the sink has what the start says; and the disk is ready for the run's first record. On a sound store: a read gives an image, the journal that ends here, in this area, holds the catalogue with these rows, and whatever a crash since the start may have left is found.
 pub record IsBegun (n : Starts) (w : Rows) (sound : Bool) (c : Catalog) (area : Area) (end turns : ℕ) (story : Story) (held : Option (List ℕ)) : Type 0 where
   pub bodies : List (List ℕ)
-  pub state : AreBooksOf sound (books_of w (opened_ledger c area end turns)) (n.start w)
+  pub state : AreBooksOf sound (books_of w (opened_state c area end turns)) (n.start w)
   pub leases : (n.start w).machine.leases ≡ begun max_tables turns
   pub ranges : HasRanges (n.start w)
   pub generation : (n.origin w).generation ≡ generation_of c
@@ -35,7 +35,7 @@ pub record IsBegun (n : Starts) (w : Rows) (sound : Bool) (c : Catalog) (area : 
   pub columns : AreCounted c
   pub recordable : AreRecordable c
   pub named_given : (id : ℕ) → Among id (named c) → id < first_id c.run + 0
-  pub ready : IsReady (opened_ledger c area end turns) story
+  pub ready : IsReady (opened_state c area end turns) story
   pub since : n.since ≤ story.moment
   pub counted : n.counted ≤ story.faults + story.read_faults
   pub sink : held ≡ n.at_start

@@ -1,27 +1,27 @@
 -- What an engine keeps between turns.
 use Rattle.std.specs.Prelude.{◌≡◌, ℕ, ◌≤◌, List, [], true, false, not, Option, length, vec_capacity}
 use Rattle.std.specs.List.{AllByRecursion}
-use Rattle.mesa_fault.specs.Causes.{Rose}
+use Rattle.mesa_disk.specs.mesa_fault.Causes.{Rose}
 use Rattle.mesa_disk.specs.Image.{Image}
 use Rattle.mesa_disk.specs.Story.{Story}
 use Rattle.mesa_model.specs.declared.commands.Script.{Script}
 use Rattle.mesa_metadata.specs.mesa_catalog.mesa_history.Run.{State}
-use Rattle.mesa_metadata.specs.mesa_ledger.mesa_skeleton.Rows.{Rows}
-use Rattle.mesa_metadata.specs.mesa_ledger.mesa_walk.Turns.{Faults, Shown}
-use Rattle.mesa_metadata.specs.mesa_ledger.mesa_walk.Undamaged.{NoneDamaged}
-use Rattle.mesa_log.specs.declared.log.Log.{Log}
-use Rattle.mesa_metadata.specs.mesa_ledger.Ledger.{Ledger}
-use Rattle.mesa_metadata.specs.mesa_ledger.Vault.{Origin, Starts, IsVaultAt}
+use Rattle.mesa_metadata.specs.mesa_engine_state.mesa_projection.Rows.{Rows}
+use Rattle.mesa_metadata.specs.mesa_engine_state.mesa_invariant.Turns.{Faults, Shown}
+use Rattle.mesa_metadata.specs.mesa_engine_state.mesa_invariant.Undamaged.{NoneDamaged}
+use Rattle.mesa_engine.specs.declared.log.Log.{Log}
+use Rattle.mesa_metadata.specs.mesa_engine_state.EngineState.{EngineState}
+use Rattle.mesa_metadata.specs.mesa_engine_state.Vault.{Origin, Starts, IsVaultAt}
 use Rattle.mesa_metadata.specs.Memory.{Memory}
 
 -- a run as the parts of its name tell it
 abbrev pub starts_of : Script → (Rows → State) → (Rows → Type 0) → (Rows → Origin) → ℕ → ℕ → Option (List ℕ) → Starts
 starts_of script start sound origin since counted at_start = record { script = script; start = start; sound = sound; since = since; counted = counted; at_start = at_start; origin = origin }
 
--- What is seen of an engine: what a caller sees of a vault, the ledger, what a read of the disk gives, where that is told, both counts of the disk's faults, and what the sink has been given, where that is known.
+-- What is seen of an engine: what a caller sees of a vault, the state, what a read of the disk gives, where that is told, both counts of the disk's faults, and what the sink has been given, where that is known.
 pub record Standing : Type 0 where
   pub shown : Shown
-  pub ledger : Ledger
+  pub state : EngineState
   pub told : Option Image
   pub faults : Faults
   pub sink : Option (List ℕ)
@@ -32,7 +32,7 @@ most_turns = 600000
 
 -- What an engine keeps: it is a vault, with room for each turn that the run may have yet. No lease was granted or renewed behind the last turn; no entry is from before the run; the sink's count of faults rose in the run exactly where its printer is broken; before the first turn the sink has what it had at the start; and where the store was sound no entry met damage.
 pub record IsEngine {K : Type 0} (held : K → Option (List ℕ)) (faults : K → ℕ) (n : Starts) (turns sinks : ℕ) (m : Memory) (story : Story) (log : Log K) : Type 0 where
-  pub vault : IsVaultAt n m.ledger story (held log.printer.sink) log.history.items (not log.printer.broken) log.refused
+  pub vault : IsVaultAt n m.state story (held log.printer.sink) log.history.items (not log.printer.broken) log.refused
   pub room : turns ≤ vec_capacity log.history
   pub few : turns ≤ most_turns
   pub leased : m.leased ≤ length log.history.items

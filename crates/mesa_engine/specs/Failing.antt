@@ -13,11 +13,11 @@ use Rattle.mesa_metadata.specs.mesa_catalog.mesa_history.Machine.{claim_of, reca
 use Rattle.mesa_metadata.specs.mesa_catalog.mesa_history.Run.{Stage, First, Looked, Run}
 use Rattle.mesa_metadata.specs.mesa_catalog.mesa_history.Legal.{is_due_at}
 use Rattle.mesa_metadata.specs.mesa_catalog.mesa_history.Turns.{IsDue}
-use Rattle.mesa_metadata.specs.mesa_ledger.mesa_walk.Books.{Books}
-use Rattle.mesa_metadata.specs.mesa_ledger.mesa_walk.Causes.{Cause, Unread, Damaged, Unwritten}
-use Rattle.mesa_metadata.specs.mesa_ledger.mesa_walk.Changes.{HasFailed, HasNoPlan}
-use Rattle.mesa_metadata.specs.mesa_ledger.mesa_walk.Queries.{HasNoAnswer}
-use Rattle.mesa_metadata.specs.mesa_ledger.mesa_walk.Works.{HasNoClaim}
+use Rattle.mesa_metadata.specs.mesa_engine_state.mesa_invariant.Books.{Books}
+use Rattle.mesa_metadata.specs.mesa_engine_state.mesa_invariant.Causes.{Cause, Unread, Damaged, Unwritten}
+use Rattle.mesa_metadata.specs.mesa_engine_state.mesa_invariant.Changes.{HasFailed, HasNoPlan}
+use Rattle.mesa_metadata.specs.mesa_engine_state.mesa_invariant.Queries.{HasNoAnswer}
+use Rattle.mesa_metadata.specs.mesa_engine_state.mesa_invariant.Works.{HasNoClaim}
 
 -- A turn of this kind is due to a session's command.
 pub record Comes (script : Script) (r : Run) (session number : ℕ) (k : Kind) : Type 0 where

@@ -4,14 +4,14 @@ ghost use Rattle.mesa_batch.specs.Glance.{tables_of};
 ghost use Rattle.mesa_metadata.specs.mesa_catalog.Lookups.{sight_of};
 ghost use Rattle.mesa_metadata.specs.mesa_catalog.mesa_history.Refused.{some_refused};
 ghost use Rattle.mesa_metadata.specs.mesa_catalog.mesa_history.Run.{begins};
-ghost use Rattle.mesa_metadata.specs.mesa_ledger.mesa_skeleton.Rows.{Rows, no_rows};
-ghost use Rattle.mesa_metadata.specs.mesa_ledger.mesa_walk.Sight.{schema_changes, tables_seen};
-ghost use Rattle.mesa_metadata.specs.mesa_ledger.mesa_walk.Walk.{run_at};
+ghost use Rattle.mesa_metadata.specs.mesa_engine_state.mesa_projection.Rows.{Rows, no_rows};
+ghost use Rattle.mesa_metadata.specs.mesa_engine_state.mesa_invariant.Sight.{schema_changes, tables_seen};
+ghost use Rattle.mesa_metadata.specs.mesa_engine_state.mesa_invariant.Walk.{run_at};
 
+use crate::Log;
 use mesa_batch::Glance;
 use mesa_disk::{Disk, Made};
 use mesa_io::Sink;
-use mesa_log::Log;
 use mesa_metadata::{Metadata, Naming};
 use std::alloc::AllocError;
 use std::marker::{Model, PhantomData};
@@ -31,7 +31,7 @@ impl<N: Naming, M: Made, D: Disk<M>, K: Sink> Model for Engine<N, M, D, K> {
     ghost use Rattle.std.specs.FinMap.{code as coded_map};
     ghost use Rattle.std.specs.Ordering.{nat_cmp};
     ghost use Rattle.mesa_engine.specs.Engine.{IsEngine, Standing, starts_of};
-    ghost use Rattle.mesa_metadata.specs.mesa_ledger.mesa_walk.Turns.{faults_of};
+    ghost use Rattle.mesa_metadata.specs.mesa_engine_state.mesa_invariant.Turns.{faults_of};
 
     ghost Value = { Standing };
 
@@ -39,7 +39,7 @@ impl<N: Naming, M: Made, D: Disk<M>, K: Sink> Model for Engine<N, M, D, K> {
 
     ghost view = { λ e. record {
       shown = record { history = e.log.history.items; running = not e.log.printer.broken; clock = (D.story e.disk).moment };
-      ledger = e.metadata.ledger;
+      state = e.metadata.state;
       told = (D.story e.disk).told;
       faults = faults_of (D.story e.disk);
       sink = K.held e.log.printer.sink;
@@ -72,7 +72,7 @@ impl<N: Naming, M: Made, D: Disk<M>, K: Sink> Engine<N, M, D, K> {
 
     /// The run's number.
     pub fn run(&self) -> u32
-        ensures number { result ≡ self.now.ledger.catalogue.run }
+        ensures number { result ≡ self.now.state.catalogue.run }
         ensures origin { (w : Rows) → result ≡ (N.origin w).run }
         ensures few { result < 2 ^ 24 }
     {
@@ -81,7 +81,7 @@ impl<N: Naming, M: Made, D: Disk<M>, K: Sink> Engine<N, M, D, K> {
 
     /// What a load sees of the tables now.
     pub fn glance(&self) -> Result<Glance, AllocError>
-        ensures catalogue { IfOk result (λ g. g ≡ sight_of self.now.ledger.catalogue) }
+        ensures catalogue { IfOk result (λ g. g ≡ sight_of self.now.state.catalogue) }
         ensures tables { IfOk result (λ g. tables_of g ≡ tables_seen (run_at N.script (N.start no_rows) self.now.shown.history)) }
     {
         self.metadata.catalog().glance()

@@ -2,16 +2,15 @@
 ghost use Rattle.std.specs.Prelude.{◌≡◌, ◌<◌, true, false, length};
 ghost use Rattle.mesa_engine.specs.Failing.{Comes, Fails};
 ghost use Rattle.mesa_metadata.specs.mesa_catalog.mesa_history.Run.{Finished, Stage};
-ghost use Rattle.mesa_metadata.specs.mesa_ledger.Ledger.{books_of};
-ghost use Rattle.mesa_log.specs.Failure.{cause_in};
-ghost use Rattle.mesa_metadata.specs.mesa_ledger.mesa_skeleton.Rows.{Rows, no_rows};
-ghost use Rattle.mesa_metadata.specs.mesa_ledger.mesa_walk.Turns.{AnswersDisk, AnswersDraft, Takes};
-ghost use Rattle.mesa_metadata.specs.mesa_ledger.mesa_walk.Walk.{run_at};
+ghost use Rattle.mesa_metadata.specs.mesa_engine_state.EngineState.{books_of};
+ghost use Rattle.mesa_engine.specs.Failure.{cause_in};
+ghost use Rattle.mesa_metadata.specs.mesa_engine_state.mesa_projection.Rows.{Rows, no_rows};
+ghost use Rattle.mesa_metadata.specs.mesa_engine_state.mesa_invariant.Turns.{AnswersDisk, AnswersDraft, Takes};
+ghost use Rattle.mesa_metadata.specs.mesa_engine_state.mesa_invariant.Walk.{run_at};
 
-use crate::Engine;
+use crate::{Engine, Failure, Who};
 use mesa_disk::{Disk, Made};
 use mesa_io::Sink;
-use mesa_log::{Failure, Who};
 use mesa_metadata::Naming;
 use mesa_model::{Kind, Outcome};
 
@@ -24,7 +23,7 @@ impl<N: Naming, M: Made, D: Disk<M>, K: Sink> Engine<N, M, D, K> {
         ensures turn { (stage : Stage) → Takes N.script (N.start no_rows) self.old.shown self.new.shown who.session who.command kind stage }
         ensures draft { AnswersDraft N.script (N.start no_rows) self.old.shown self.new.shown who.session ⊥ }
         ensures disk { AnswersDisk N.script (N.start no_rows) self.old.shown self.new.shown ⊥ }
-        ensures ledger { self.new.ledger ≡ self.old.ledger }
+        ensures state { self.new.state ≡ self.old.state }
         ensures told { self.new.told ≡ self.old.told }
     {
         let turn = who.turn(kind, Outcome::Skipped, self.disk.clock());
@@ -33,13 +32,13 @@ impl<N: Naming, M: Made, D: Disk<M>, K: Sink> Engine<N, M, D, K> {
 
     /// A turn that does nothing for its command, and prints why.
     pub fn fail(&mut self, who: Who, kind: Kind, failure: Failure)
-        requires fails { Fails N.script (run_at N.script (N.start no_rows) self.old.shown.history) (books_of no_rows self.old.ledger) (length self.old.shown.history) who.session who.command kind (cause_in failure) }
+        requires fails { Fails N.script (run_at N.script (N.start no_rows) self.old.shown.history) (books_of no_rows self.old.state) (length self.old.shown.history) who.session who.command kind (cause_in failure) }
         requires room { length self.old.shown.history < N.room }
         requires runs { self.old.shown.running ≡ true }
         ensures turn { Takes N.script (N.start no_rows) self.old.shown self.new.shown who.session who.command kind Finished }
         ensures draft { AnswersDraft N.script (N.start no_rows) self.old.shown self.new.shown who.session ⊥ }
         ensures disk { AnswersDisk N.script (N.start no_rows) self.old.shown self.new.shown ⊥ }
-        ensures ledger { self.new.ledger ≡ self.old.ledger }
+        ensures state { self.new.state ≡ self.old.state }
         ensures told { self.new.told ≡ self.old.told }
     {
         let moment = self.disk.clock();

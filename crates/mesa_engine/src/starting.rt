@@ -4,24 +4,23 @@ ghost use Rattle.std.specs.List.{AllByRecursion};
 ghost use Rattle.mesa_engine.specs.Beginning.{IsBegun};
 ghost use Rattle.mesa_engine.specs.Ending.{ReadsState};
 ghost use Rattle.mesa_engine.specs.Engine.{most_turns, starts_of};
-ghost use Rattle.mesa_fault.specs.Causes.{last, Rose};
+ghost use Rattle.mesa_disk.specs.mesa_fault.Causes.{last, Rose};
 ghost use Rattle.mesa_metadata.specs.mesa_catalog.mesa_history.Legal.{AllFit, fits_sink};
 ghost use Rattle.mesa_metadata.specs.mesa_catalog.mesa_history.Run.{begins};
-ghost use Rattle.mesa_metadata.specs.mesa_ledger.Vault.{outset_of};
-ghost use Rattle.mesa_metadata.specs.Memory.{opened_ledger};
-ghost use Rattle.mesa_metadata.specs.mesa_ledger.mesa_skeleton.Rows.{Rows};
-ghost use Rattle.mesa_metadata.specs.mesa_ledger.mesa_walk.Printing.{IsPrinted, IsPrintedButRows};
-ghost use Rattle.mesa_metadata.specs.mesa_ledger.mesa_walk.Turns.{faults_of};
-ghost use Rattle.mesa_metadata.specs.mesa_ledger.mesa_walk.Undamaged.{NoneDamaged};
-ghost use Rattle.mesa_metadata.specs.mesa_ledger.mesa_walk.Walk.{AllFound, HasCounted, faults_in, run_at};
+ghost use Rattle.mesa_metadata.specs.mesa_engine_state.Vault.{outset_of};
+ghost use Rattle.mesa_metadata.specs.Memory.{opened_state};
+ghost use Rattle.mesa_metadata.specs.mesa_engine_state.mesa_projection.Rows.{Rows};
+ghost use Rattle.mesa_metadata.specs.mesa_engine_state.mesa_invariant.Printing.{IsPrinted, IsPrintedButRows};
+ghost use Rattle.mesa_metadata.specs.mesa_engine_state.mesa_invariant.Turns.{faults_of};
+ghost use Rattle.mesa_metadata.specs.mesa_engine_state.mesa_invariant.Undamaged.{NoneDamaged};
+ghost use Rattle.mesa_metadata.specs.mesa_engine_state.mesa_invariant.Walk.{AllFound, HasCounted, faults_in, run_at};
 
-use crate::Engine;
+use crate::{Engine, Log};
 use mesa_disk::{Area, Disk, Made};
 use mesa_io::Sink;
-use mesa_log::Log;
 use mesa_metadata::{Catalog, Metadata, Naming};
 use mesa_model::Entry;
-use mesa_printer::Printer;
+use mesa_print::Printer;
 use std::alloc::Global;
 use std::marker::PhantomData;
 
@@ -46,7 +45,7 @@ impl<N: Naming, M: Made, D: Disk<M>, K: Sink> Engine<N, M, D, K> {
         requires room { N.room ≤ vec_capacity history }
         requires few { N.room ≤ most_turns }
         ensures shown { result.shown ≡ record { history = []; running = true; clock = (D.story disk).moment } }
-        ensures ledger { result.ledger ≡ opened_ledger catalog.catalogue area end lease }
+        ensures state { result.state ≡ opened_state catalog.catalogue area end lease }
         ensures told { result.told ≡ (D.story disk).told }
         ensures counts { result.faults ≡ faults_of (D.story disk) }
         ensures sink { result.sink ≡ K.held sink }

@@ -6,6 +6,8 @@ pub use Rattle.mesa_history.specs as mesa_history
 pub use Rattle.mesa_history.specs.mesa_model as mesa_model
 pub use Rattle.mesa_record.specs as mesa_record
 pub use Rattle.mesa_history.specs.mesa_span as mesa_span
+pub use Rattle.mesa_fold.specs.mesa_batch as mesa_batch
+pub use Rattle.mesa_fold.specs.mesa_schema as mesa_schema
 pub mod Catalog
 pub mod Checkpoint
 pub mod SameFiles
@@ -16,3 +18,12 @@ pub mod Contents
 pub mod Sound
 pub mod Held
 pub mod Shape
+pub mod Brought
+pub mod Moves
+pub mod Ids
+pub mod Sourced
+pub mod Rewritten
+pub mod Planned
+pub mod Statable
+pub mod Countable
+pub mod Recordable

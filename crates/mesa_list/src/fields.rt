@@ -1,9 +1,10 @@
 // Fields that stand one behind the other in one buffer.
-ghost use Rattle.std.specs.Prelude.{◌≡◌, ◌≤◌, ◌↔◌, IsTrue, [], ◌∷◌, ◌++◌, length, take, OnErr, OnOk, slice_get, slice_range, MatchOption};
+ghost use Rattle.std.specs.Prelude.{◌≡◌, ◌<◌, ◌≤◌, ◌+◌, ◌^◌, ◌↔◌, IsTrue, [], ◌∷◌, ◌++◌, length, take, OnErr, OnOk, slice_get, slice_range, MatchOption};
+ghost use Rattle.std.specs.List.{concat};
 ghost use Rattle.std.specs.Option.{option_copied};
-ghost use Rattle.mesa_list.specs.Pieces.{last_end};
+ghost use Rattle.mesa_list.specs.Pieces.{Rise, ends_from, last_end, pieces};
 
-use crate::TryCopy;
+use crate::{TryCopy, Words};
 use std::alloc::{AllocError, Global};
 use std::marker::Model;
 
@@ -36,6 +37,16 @@ impl Fields {
         }
     }
 
+    /// The fields that these bytes are, by where each one ends. None is copied.
+    pub fn from_parts(bytes: Vec<u8>, ends: Vec<u32>) -> Self
+        requires rise { Rise 0 ends.items }
+        requires all { last_end 0 ends.items ≡ length bytes.items }
+        requires few { length bytes.items < 2 ^ 32 }
+        ensures { result ≡ pieces bytes.items 0 ends.items }
+    {
+        Fields { bytes, ends }
+    }
+
     pub fn len(&self) -> usize
         ensures { result ≡ length self.now }
     {
@@ -60,6 +71,21 @@ impl Fields {
         self.ends.push((start + field.len()) as u32)?;
         if let Err(error) = self.bytes.extend_from_slice(field) {
             let _ = self.ends.pop();
+            return Err(error);
+        }
+        Ok(())
+    }
+
+    /// Adds words at the end, copied into the buffer.
+    pub fn push_all<W: Words>(&mut self, words: &W) -> Result<(), AllocError>
+        ensures ok { OnOk result (self.new ≡ self.old ++ W.words words.now) }
+        ensures err { OnErr result (self.new ≡ self.old) }
+    {
+        let start = self.bytes.len();
+        let count = self.ends.len();
+        if let Err(error) = push_each(&mut self.bytes, &mut self.ends, words) {
+            self.bytes.truncate(start);
+            self.ends.truncate(count);
             return Err(error);
         }
         Ok(())
@@ -117,6 +143,45 @@ impl TryCopy for Fields {
             ends: Vec::from_slice(alloc, &self.ends)?,
         })
     }
+}
+
+impl Words for Fields {
+    ghost words = { λ fields. fields };
+
+    fn count(&self) -> usize {
+        self.len()
+    }
+
+    fn word(&self, place: usize) -> &[u8] {
+        match self.get(place) {
+            Some(word) => word,
+            None => unreachable!(),
+        }
+    }
+}
+
+// Adds words, and where each of them ends; without memory a part of them may stand there.
+fn push_each<W: Words>(
+    bytes: &mut Vec<u8>,
+    ends: &mut Vec<u32>,
+    words: &W,
+) -> Result<(), AllocError>
+    requires few { length bytes.old.items < 2 ^ 32 }
+    ensures bytes { OnOk result (bytes.new.items ≡ bytes.old.items ++ concat (W.words words.now)) }
+    ensures ends { OnOk result (ends.new.items ≡ ends.old.items ++ ends_from (length bytes.old.items) (W.words words.now)) }
+    ensures few { OnOk result (length bytes.new.items < 2 ^ 32) }
+    ensures kept_bytes { take (length bytes.old.items) bytes.new.items ≡ bytes.old.items }
+    ensures kept_ends { take (length ends.old.items) ends.new.items ≡ ends.old.items }
+{
+    'words: for place in 0..words.count() {
+        let word = words.word(place);
+        if word.len() > u32::MAX as usize - bytes.len() {
+            return Err(AllocError);
+        }
+        bytes.extend_from_slice(word)?;
+        ends.push(bytes.len() as u32)?;
+    }
+    Ok(())
 }
 
 /// Fields that stand one behind the other in a list of them, lent.

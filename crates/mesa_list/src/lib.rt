@@ -5,8 +5,10 @@ mod copies;
 mod fields;
 mod items;
 mod splitting;
+mod words;
 
 pub use copies::TryCopy;
 pub use fields::{Fields, FieldsView};
 pub use items::Items;
 pub use splitting::{Parts, place_of_byte};
+pub use words::Words;

@@ -2,31 +2,31 @@
 use Rattle.std.proofs.Common.{◌≡◌, ℕ, ◌+◌, ◌<◌, List, [], ◌∷◌, inl, inr, true, refl, sym, ◌∙◌, ap, subst, arith}
 use Rattle.std.specs.Prelude.{Option, Result, Err}
 use Rattle.std.specs.List.{AllByRecursion}
-use Rattle.mesa_fault.specs.Causes.{Rose}
+use Rattle.mesa_disk.specs.mesa_fault.Causes.{Rose}
 use Rattle.mesa_disk.specs.Story.{Story}
 use Rattle.mesa_delta.specs.declared.input.Input.{Input}
-use Rattle.mesa_cursor.specs.Cursors.{reader_in}
+use Rattle.mesa_tasks.specs.mesa_cursor.Cursors.{reader_in}
 use Rattle.mesa_digest.specs.Digests.{digests_of}
 use Rattle.mesa_digest.specs.Digests as digest
 use Rattle.mesa_digest.specs.declared.digesting.DigestPair.{DigestPair}
-use Rattle.mesa_schema.specs.declared.rows.Row.{Row}
-use Rattle.mesa_schema.specs.Columns.{Columns, aggs_of}
-use Rattle.mesa_schema.specs.Rows.{AreRowsOf, keys_rise}
-use Rattle.mesa_schema.proofs.RisingRows.{folded_rise}
+use Rattle.mesa_image.specs.mesa_schema.declared.rows.Row.{Row}
+use Rattle.mesa_image.specs.mesa_schema.Columns.{Columns, aggs_of}
+use Rattle.mesa_image.specs.mesa_schema.Rows.{AreRowsOf, keys_rise}
+use Rattle.mesa_image.proofs.mesa_schema.RisingRows.{folded_rise}
 use Rattle.mesa_filter.specs.Asked.{Asked, places_below}
-use Rattle.mesa_model.specs.Query.{answer_rows}
-use Rattle.mesa_model.specs.Relations.{relation_columns, relation_content}
-use Rattle.mesa_answer.specs.Answering.{grouped_columns}
-use Rattle.mesa_image_laws.specs.mesa_image.Catalog.{Catalog}
+use Rattle.mesa_image.specs.mesa_model.Query.{answer_rows}
+use Rattle.mesa_image.specs.mesa_model.Relations.{relation_columns, relation_content}
+use Rattle.mesa_query.specs.mesa_answer.Answering.{grouped_columns}
+use Rattle.mesa_image.specs.Catalog.{Catalog}
 use Rattle.mesa_merge.specs.Faults.{SomeRose, faults_of}
 use Rattle.mesa_merge.specs.Inputs.{AreTold, knowns_of}
-use Rattle.mesa_pinning.specs.Told.{TellContent}
+use Rattle.mesa_plans.specs.Told.{TellContent}
 use Rattle.mesa_query.specs.Files.{inputs_in}
 use Rattle.mesa_query.specs.Relation.{parts_pinned}
 use Rattle.mesa_query.specs.Whole.{whole_over}
 use Rattle.mesa_tasks.specs.GivingBack.{GivesBack, SomeFailed}
 use Rattle.mesa_tasks.specs.declared.querying.Pinned.{Pinned}
-use Rattle.mesa_image_laws.specs.mesa_image.Contents.{kept_of}
+use Rattle.mesa_image.specs.Contents.{kept_of}
 use Rattle.mesa_look.specs.Latest.{HasContent, IsLatest, all_asked}
 use Rattle.mesa_look.specs.Looked.{AreDigests, IsDigestOf}
 use Rattle.mesa_look.proofs.AllAsked.{answer_itself, chosen_below}

@@ -4,41 +4,41 @@ use Rattle.std.specs.Prelude.{◌⊎◌, ◌≢◌, is_some, nat_lt, option_map}
 use Rattle.std.proofs.lemmas.Bool.{ltb-false, ltb-true}
 use Rattle.std.proofs.lemmas.Bool.Decides.{eqb_tells}
 use Rattle.std.proofs.lemmas.Simd.{map-map}
-use Rattle.mesa_fault.specs.Causes.{Rose, last}
-use Rattle.mesa_file.specs.declared.damage.Damage.{Damage}
+use Rattle.mesa_disk.specs.mesa_fault.Causes.{Rose, last}
+use Rattle.mesa_disk.specs.mesa_file.declared.damage.Damage.{Damage}
 use Rattle.mesa_disk.specs.Story.{Story}
 use Rattle.mesa_delta.specs.declared.error.FileError.{FileError}
 use Rattle.mesa_delta.specs.declared.error.FileError.TheVariants as file_error
-use Rattle.mesa_schema.specs.Columns.{Columns}
+use Rattle.mesa_image.specs.mesa_schema.Columns.{Columns}
 use Rattle.mesa_filter.specs.Query.{BuiltQuery, IsQueryOf}
-use Rattle.mesa_model.specs.Relations.{Relation, relation_columns, relation_content, relation_of}
-use Rattle.mesa_image_laws.specs.mesa_image.Catalog.{Catalog, Stock, no_stock, stock_at}
-use Rattle.mesa_image_laws.specs.mesa_image.Contents.{Rows, kept_of, table_of}
-use Rattle.mesa_image_laws.specs.mesa_image.Fitting.{delta_shelved, deltas_of}
-use Rattle.mesa_image_laws.specs.mesa_image.Shape.{IsCatalog, IsShaped}
-use Rattle.mesa_image_laws.specs.mesa_image.Sound.{IsStocked}
-use Rattle.mesa_image_laws.specs.Planned.{planned}
-use Rattle.mesa_image_laws.proofs.Lists.{all_unflat}
+use Rattle.mesa_image.specs.mesa_model.Relations.{Relation, relation_columns, relation_content, relation_of}
+use Rattle.mesa_image.specs.Catalog.{Catalog, Stock, no_stock, stock_at}
+use Rattle.mesa_image.specs.Contents.{Rows, kept_of, table_of}
+use Rattle.mesa_image.specs.Fitting.{delta_shelved, deltas_of}
+use Rattle.mesa_image.specs.Shape.{IsCatalog, IsShaped}
+use Rattle.mesa_image.specs.Sound.{IsStocked}
+use Rattle.mesa_image.specs.Planned.{planned}
+use Rattle.mesa_image.proofs.Lists.{all_unflat}
 use Rattle.mesa_catalog.specs.Lookups.{known_as, relation_of as place_named}
 use Rattle.mesa_catalog.proofs.Stocks.{all_at}
-use Rattle.mesa_opening.specs.Opening.{IsSoundStart}
+use Rattle.mesa_recover.specs.Opening.{IsSoundStart}
 use Rattle.mesa_plans.specs.Files.{want_in}
 use Rattle.mesa_plans.proofs.Among.{all_planned}
-use Rattle.mesa_pinning.specs.Read.{IsPinnedFor, SomeUnsound, relation_read}
-use Rattle.mesa_pinning.specs.Told.{TellContent}
-use Rattle.mesa_pinning.proofs.Contents.{columns_found, present_contents, seen_content}
-use Rattle.mesa_pinning.proofs.Given.{AreGiven, IsGiven, all_given}
-use Rattle.mesa_pinning.proofs.Reading.{columns_read}
-use Rattle.mesa_pinning.proofs.Telling.{content_read, pinned_content, pinned_is, stock_given}
-use Rattle.mesa_pinning.proofs.There.{name_there}
-use Rattle.mesa_pinning.proofs.Unsound.{seen_sound}
+use Rattle.mesa_plans.specs.Read.{IsPinnedFor, SomeUnsound, relation_read}
+use Rattle.mesa_plans.specs.Told.{TellContent}
+use Rattle.mesa_plans.proofs.Contents.{columns_found, present_contents, seen_content}
+use Rattle.mesa_plans.proofs.Given.{AreGiven, IsGiven, all_given}
+use Rattle.mesa_plans.proofs.Reading.{columns_read}
+use Rattle.mesa_plans.proofs.Telling.{content_read, pinned_content, pinned_is, stock_given}
+use Rattle.mesa_plans.proofs.There.{name_there}
+use Rattle.mesa_plans.proofs.Unsound.{seen_sound}
 use Rattle.mesa_rules.proofs.Answering.{columns_there, relation_there}
 use Rattle.mesa_rules.specs.Found.{columns_at, relation_seen}
 use Rattle.mesa_rules.specs.Seen.{known_in, known_of}
 use Rattle.mesa_rules.specs.declared.found.Found.{Found}
-use Rattle.mesa_shelf.specs.declared.relation.Relation.{Relation as Place}
-use Rattle.mesa_skeleton.specs.Rows.{no_rows}
-use Rattle.mesa_history.specs.mesa_span.Ranges.{base_before}
+use Rattle.mesa_catalog.specs.mesa_table.declared.relation.Relation.{Relation as Place}
+use Rattle.mesa_projection.specs.Rows.{no_rows}
+use Rattle.mesa_catalog.specs.mesa_history.mesa_span.Ranges.{base_before}
 use Rattle.mesa_tasks.specs.Opening.{Counted, is_read_fault}
 use Rattle.mesa_tasks.specs.Pins.{IsPinned}
 use Rattle.mesa_tasks.specs.declared.querying.Pinned.{Pinned}

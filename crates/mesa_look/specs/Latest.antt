@@ -1,18 +1,18 @@
 -- The whole of a relation at the newest version, and why it isn't looked at.
 use Rattle.std.specs.Prelude.{◌≡◌, ◌≢◌, ◌⊎◌, ℕ, ◌+◌, ◌<◌, List, [], is_some, IsTrue, Option, None, Some}
-use Rattle.mesa_fault.specs.Causes.{Rose}
+use Rattle.mesa_disk.specs.mesa_fault.Causes.{Rose}
 use Rattle.mesa_disk.specs.Story.{Story}
 use Rattle.mesa_delta.specs.declared.error.FileError.TheVariants as file_error
-use Rattle.mesa_schema.specs.Columns.{Columns}
-use Rattle.mesa_schema.specs.declared.rows.Row.{Row}
+use Rattle.mesa_image.specs.mesa_schema.Columns.{Columns}
+use Rattle.mesa_image.specs.mesa_schema.declared.rows.Row.{Row}
 use Rattle.mesa_filter.specs.Asked.{Asked, places_below}
-use Rattle.mesa_model.specs.Relations.{Relation, relation_columns, relation_content, relation_of}
-use Rattle.mesa_model.specs.Warehouse.{Store}
-use Rattle.mesa_image_laws.specs.mesa_image.Catalog.{Catalog}
-use Rattle.mesa_image_laws.specs.mesa_image.Contents.{Rows, kept_of}
-use Rattle.mesa_opening.specs.Opening.{IsSoundStart}
-use Rattle.mesa_pinning.specs.Told.{TellContent}
-use Rattle.mesa_skeleton.specs.Rows.{no_rows}
+use Rattle.mesa_image.specs.mesa_model.Relations.{Relation, relation_columns, relation_content, relation_of}
+use Rattle.mesa_image.specs.mesa_model.Warehouse.{Store}
+use Rattle.mesa_image.specs.Catalog.{Catalog}
+use Rattle.mesa_image.specs.Contents.{Rows, kept_of}
+use Rattle.mesa_recover.specs.Opening.{IsSoundStart}
+use Rattle.mesa_plans.specs.Told.{TellContent}
+use Rattle.mesa_projection.specs.Rows.{no_rows}
 use Rattle.mesa_tasks.specs.Pins.{IsPinned}
 use Rattle.mesa_tasks.specs.declared.querying.Pinned.{Pinned}
 use Rattle.mesa_look.specs.declared.error.LookError.{LookError}

@@ -1,16 +1,16 @@
 -- The digests of a relation at the newest version.
 use Rattle.std.specs.Prelude.{◌≡◌, ℕ, ◌+◌, List, length, Option, Some}
-use Rattle.mesa_schema.specs.Columns.{Columns}
-use Rattle.mesa_schema.specs.Rows.{AreRowsOf}
-use Rattle.mesa_schema.specs.declared.rows.Row.{Row}
+use Rattle.mesa_image.specs.mesa_schema.Columns.{Columns}
+use Rattle.mesa_image.specs.mesa_schema.Rows.{AreRowsOf}
+use Rattle.mesa_image.specs.mesa_schema.declared.rows.Row.{Row}
 use Rattle.mesa_digest.specs.Digests as digest
 use Rattle.mesa_digest.specs.declared.digesting.DigestPair.{DigestPair}
 use Rattle.mesa_disk.specs.Story.{Story}
-use Rattle.mesa_model.specs.Relations.{Relation, relation_columns}
-use Rattle.mesa_image_laws.specs.mesa_image.Catalog.{Catalog}
-use Rattle.mesa_image_laws.specs.mesa_image.Contents.{Rows, kept_of}
-use Rattle.mesa_opening.specs.Opening.{IsSoundStart}
-use Rattle.mesa_pinning.specs.Told.{TellContent}
+use Rattle.mesa_image.specs.mesa_model.Relations.{Relation, relation_columns}
+use Rattle.mesa_image.specs.Catalog.{Catalog}
+use Rattle.mesa_image.specs.Contents.{Rows, kept_of}
+use Rattle.mesa_recover.specs.Opening.{IsSoundStart}
+use Rattle.mesa_plans.specs.Told.{TellContent}
 use Rattle.mesa_tasks.specs.declared.querying.Pinned.{Pinned}
 use Rattle.mesa_look.specs.Latest.{HasContent, relation_named}
 

@@ -4,6 +4,7 @@ use Rattle.std.specs.List.{AllByRecursion}
 use Rattle.mesa_schema.specs.declared.rows.Row.{Row}
 use Rattle.mesa_schema.specs.Changes.{Lineage, columns_of, epoch_of, lifted}
 use Rattle.mesa_schema.specs.Columns.{Columns}
+use Rattle.mesa_delta.specs.Ahead.{Told}
 use Rattle.mesa_delta.specs.Indexed.{Indexed}
 use Rattle.mesa_delta.specs.Reading.{IsIndexed, IsWhole, index_of}
 use Rattle.mesa_delta.specs.declared.input.Input.{Input}
@@ -21,6 +22,10 @@ known_of bytes i = record { file = index_of i.reader; table = i.evolving.value; 
 
 abbrev pub knowns_of : {R : Type 0} → (R → Option (List ℕ)) → List (Input R) → List Known
 knowns_of bytes inputs = map (known_of bytes) inputs
+
+-- what is known of the files whose blocks are read ahead
+abbrev pub tolds_of : List Known → List Told
+tolds_of knowns = map (λ (k : Known). record { index = k.file; content = k.told }) knowns
 
 -- a row of an input's epoch at the present one
 abbrev pub lifted_in : Known → Row → Row

@@ -8,3 +8,4 @@ pub mod Merging
 pub mod Damaged
 pub mod Merged
 pub mod Calls
+pub mod Waiting

@@ -11,6 +11,7 @@ mod next;
 mod stopping;
 mod streams;
 mod sums;
+mod waiting;
 
 pub use laws::all_are_told;
 pub use merge::Merge;

@@ -144,7 +144,8 @@ impl<R: FileReader> Merge<R> {
         if self.begun {
             return self.further();
         }
-        match begin(&mut self.inputs, &mut self.cursors, &mut self.tree) {
+        let alloc = *self.inputs.allocator();
+        match begin(alloc, &mut self.inputs, &mut self.cursors, &mut self.tree) {
             Ok(()) => {
                 self.begun = true;
                 self.further()

@@ -23,16 +23,19 @@ use crate::gathering::gather;
 use crate::heads::take_head;
 use crate::matches::Tree;
 use crate::stopping::least_below;
-use crate::streams::advance;
+use crate::streams::{advance, start};
+use crate::waiting::wait_from;
 use mesa_cursor::Cursor;
-use mesa_delta::{FileError, Input};
+use mesa_delta::{Ahead, FileError, Input};
 use mesa_disk::FileReader;
 use mesa_key::KeyBytes;
 use mesa_schema::{Row, folds_go_on};
 use mesa_value::Agg;
+use std::alloc::Global;
 
-// Reads the first block of each input.
+// Reads the first block of each input: of up to four at once, so that their digests are taken side by side.
 pub(crate) fn begin<R: FileReader>(
+    alloc: Global,
     inputs: &mut [Input<R>],
     cursors: &mut [Cursor],
     tree: &mut Tree,
@@ -49,8 +52,13 @@ pub(crate) fn begin<R: FileReader>(
     ensures damaged { IfErr result (λ e. (d : AnyDamage) → e ≡ file_error.Damaged d → (low : Option (List ℕ)) (givens : List (List AnyRow)) → HasGivens R.bytes low inputs.old cursors.old givens → IsBlockOf R.bytes R.size (knowns_of R.bytes inputs.old) d) }
     ensures accepts { IfErr result (λ e. (d : AnyDamage) → e ≡ file_error.Damaged d → (low : Option (List ℕ)) (givens : List (List AnyRow)) → HasGivens R.bytes low inputs.old cursors.old givens → (contents : List (List AnyRow)) → AreTold (knowns_of R.bytes inputs.old) contents → ⊥) }
 {
+    let mut ahead = Ahead::new(alloc);
     'inputs: for i in 0..inputs.len() {
-        match advance(inputs, cursors, tree, i) {
+        match wait_from(inputs, cursors, i, &mut ahead) {
+            Ok(()) => {}
+            Err(error) => return Err(error),
+        }
+        match start(inputs, cursors, tree, i, &mut ahead) {
             Ok(()) => {}
             Err(error) => return Err(error),
         }

@@ -6,17 +6,18 @@ ghost use Rattle.mesa_schema.specs.declared.rows.Row.{Row as AnyRow};
 ghost use Rattle.mesa_schema.specs.Columns.{Columns};
 ghost use Rattle.mesa_schema.specs.Rows.{IsRowOf};
 ghost use Rattle.mesa_delta.specs.declared.error.FileError.TheVariants as file_error;
+ghost use Rattle.mesa_delta.specs.Ahead.{AreAhead};
 ghost use Rattle.mesa_cursor.specs.Cursors.{IsInput};
 ghost use Rattle.mesa_merge.specs.Damaged.{IsBlockOf};
 ghost use Rattle.mesa_merge.specs.Faults.{HaveFaultCause, faults_of};
 ghost use Rattle.mesa_merge.specs.Hands.{IsAhead, hands_of};
-ghost use Rattle.mesa_merge.specs.Inputs.{AreAlike, AreTold, knowns_of};
+ghost use Rattle.mesa_merge.specs.Inputs.{AreAlike, AreTold, knowns_of, tolds_of};
 ghost use Rattle.mesa_merge.specs.Matches.{IsTree};
 ghost use Rattle.mesa_merge.specs.Merging.{AreReady, HasGivens};
 
 use crate::matches::{Tree, play};
 use mesa_cursor::Cursor;
-use mesa_delta::{FileError, Input};
+use mesa_delta::{Ahead, FileError, Input};
 use mesa_disk::FileReader;
 
 // Gives the row at hand of an input, if there is one, and reads its next block where then none is.
@@ -38,12 +39,8 @@ pub(crate) fn advance<R: FileReader>(
     ensures form { OnOk result ((row : AnyRow) (rows : List AnyRow) → get_or (hands_of cursors.old) i [] ≡ row ∷ rows → (low : Option (List ℕ)) (s : Columns) (givens : List (List AnyRow)) → AreAlike s (knowns_of R.bytes inputs.old) → HasGivens R.bytes low inputs.old cursors.old givens → IsRowOf s row) }
     ensures above { OnOk result ((row : AnyRow) (rows : List AnyRow) → get_or (hands_of cursors.old) i [] ≡ row ∷ rows → (low : Option (List ℕ)) (givens : List (List AnyRow)) → HasGivens R.bytes low inputs.old cursors.old givens → IsAhead row.key (get_or (hands_of cursors.new) i [])) }
 
-    // None was.
-    ensures began { OnOk result (get_or (hands_of cursors.old) i [] ≡ [] → (low : Option (List ℕ)) (givens : List (List AnyRow)) → HasGivens R.bytes low inputs.old cursors.old givens → HasGivens R.bytes low inputs.new cursors.new givens) }
-
     // Then one is, or the input is at its end.
     ensures ready { OnOk result ((n : ℕ) → AreReady n inputs.old cursors.old → AreReady n inputs.new cursors.new) }
-    ensures more { OnOk result (AreReady i inputs.old cursors.old → AreReady (i + 1) inputs.new cursors.new) }
 
     // The inputs stay the same, whatever is answered.
     ensures known { knowns_of R.bytes inputs.new ≡ knowns_of R.bytes inputs.old }
@@ -58,6 +55,41 @@ pub(crate) fn advance<R: FileReader>(
     cursor.step();
     let filled = cursor.fill(input);
     cursor.rises(input);
+    play(tree, cursors, i);
+    match filled {
+        Ok(()) => Ok(()),
+        Err(error) => Err(error),
+    }
+}
+
+// Reads the first block of an input, from what was read ahead if it waits there.
+pub(crate) fn start<R: FileReader>(
+    inputs: &mut [Input<R>],
+    cursors: &mut [Cursor],
+    tree: &mut Tree,
+    i: usize,
+    ahead: &mut Ahead,
+) -> Result<(), FileError>
+    requires within { i < length inputs.old }
+    requires count { length cursors.old ≡ length inputs.old }
+    requires tree { IsTree (hands_of cursors.old) tree.old }
+    requires ahead { AreAhead (tolds_of (knowns_of R.bytes inputs.old)) ahead.old }
+    ensures ahead { AreAhead (tolds_of (knowns_of R.bytes inputs.old)) ahead.new }
+    ensures tree { IsTree (hands_of cursors.new) tree.new }
+    ensures others { (j : ℕ) → j ≢ i → get_or (hands_of cursors.new) j [] ≡ get_or (hands_of cursors.old) j [] }
+    ensures given { OnOk result ((low : Option (List ℕ)) (givens : List (List AnyRow)) → HasGivens R.bytes low inputs.old cursors.old givens → HasGivens R.bytes low inputs.new cursors.new givens) }
+    ensures more { OnOk result (AreReady i inputs.old cursors.old → AreReady (i + 1) inputs.new cursors.new) }
+
+    // The inputs stay the same, whatever is answered.
+    ensures known { knowns_of R.bytes inputs.new ≡ knowns_of R.bytes inputs.old }
+    ensures inputs { AllByRecursion (IsInput R.bytes) inputs.old → AllByRecursion (IsInput R.bytes) inputs.new }
+    ensures cause { HaveFaultCause (λ e. e ≡ file_error.Read) (faults_of R.faults inputs.old) (faults_of R.faults inputs.new) result }
+    ensures damaged { IfErr result (λ e. (d : AnyDamage) → e ≡ file_error.Damaged d → (low : Option (List ℕ)) (givens : List (List AnyRow)) → HasGivens R.bytes low inputs.old cursors.old givens → IsBlockOf R.bytes R.size (knowns_of R.bytes inputs.old) d) }
+    ensures accepts { IfErr result (λ e. (d : AnyDamage) → e ≡ file_error.Damaged d → (low : Option (List ℕ)) (givens : List (List AnyRow)) → HasGivens R.bytes low inputs.old cursors.old givens → (contents : List (List AnyRow)) → AreTold (knowns_of R.bytes inputs.old) contents → ⊥) }
+{
+    let cursor = &mut cursors[i];
+    let input = &mut inputs[i];
+    let filled = cursor.fill_waiting(input, i, ahead);
     play(tree, cursors, i);
     match filled {
         Ok(()) => Ok(()),

@@ -1,6 +1,8 @@
 pub use Rattle.mesa_catalog.proofs as mesa_catalog
-pub use Rattle.mesa_ledger.proofs.mesa_image_laws as mesa_image_laws
-pub use Rattle.mesa_ledger.proofs as mesa_ledger
+pub use Rattle.mesa_engine_state.proofs.mesa_image as mesa_image
+pub use Rattle.mesa_engine_state.proofs as mesa_engine_state
+pub mod Indexed
+pub mod Still
 pub mod Mapped
 pub mod Padded
 pub mod Runs

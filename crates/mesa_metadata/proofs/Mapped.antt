@@ -1,22 +1,12 @@
--- Pins and queries as the ledger has them: what is found, left and held among them.
-use Rattle.std.proofs.Common.{◌≡◌, List, [], ◌∷◌, ◌++◌, map, Bool, true, false, cond, refl, ◌∙◌, ap, Some}
-use Rattle.std.specs.Prelude.{◌||◌, filter, find, option_map}
-use Rattle.std.specs.List.{list_any}
+-- Pins and queries as the state has them: what is found and left among them; and files that are freed.
+use Rattle.std.proofs.Common.{◌≡◌, ◌≤◌, List, [], ◌∷◌, ◌++◌, length, map, Bool, true, false, cond, refl, ◌∙◌, ap, arith, Some}
+use Rattle.std.specs.Prelude.{filter, find, not, option_map}
 use Rattle.std.proofs.lemmas.List.{map-append}
 use Rattle.std.proofs.lemmas.List.Elements.{filter-append}
-use Rattle.std.proofs.lemmas.List.Folds.{list_any-append}
-use Rattle.mesa_ledger.specs.Recorded.{hold_of_pin, hold_of_query}
+use Rattle.std.proofs.lemmas.List.Filters.{length-filter_both}
 use Rattle.mesa_trash.specs.declared.trash.Dropped.{Dropped}
 use Rattle.mesa_trash.specs.declared.trash.Hold.{Hold}
-use Rattle.mesa_trash.specs.Holding.{freed, holds, ids_of, is_held}
-use Rattle.mesa_metadata.specs.declared.holders.Pin.{Pin}
-use Rattle.mesa_metadata.specs.declared.holders.Query.{Query}
-use Rattle.mesa_metadata.specs.declared.holders.Holders.{Holders}
-use Rattle.mesa_metadata.specs.Meaning.{holds_by, pins_in, queries_in}
-
-any_mapped : {X Y : Type 0} (f : X → Y) (p : Y → Bool) (xs : List X) → list_any p (map f xs) ≡ list_any (λ x. p (f x)) xs
-any_mapped f p [] = refl
-any_mapped f p (x ∷ xs) = ap (λ b. p (f x) || b) (any_mapped f p xs)
+use Rattle.mesa_trash.specs.Holding.{freed, ids_of}
 
 pub find_mapped : {X Y : Type 0} (f : X → Y) (p : Y → Bool) (xs : List X) → option_map f (find (λ x. p (f x)) xs) ≡ find p (map f xs)
 find_mapped f p [] = refl
@@ -29,11 +19,8 @@ filter_mapped f p (x ∷ xs) = elim (p (f x)) as (λ b. map f (cond b (x ∷ fil
   | false ↦ filter_mapped f p xs
 ]
 
--- a file is held where a pin or an open query holds it
-pub held_is : (h : Holders) (d : Dropped) → is_held (holds_by h) d ≡ (list_any (λ (p : Pin). holds d p.hold) h.pins.items || list_any (λ (q : Query). holds d q.hold) h.queries.items)
-held_is h d =
-    list_any-append (holds d) (map hold_of_pin (pins_in h)) (map hold_of_query (queries_in h))
-    ∙ (λ i. (any_mapped hold_of_pin (holds d) (pins_in h) ∙ any_mapped _ (λ p. holds d (hold_of_pin p)) h.pins.items) i || (any_mapped hold_of_query (holds d) (queries_in h) ∙ any_mapped _ (λ q. holds d (hold_of_query q)) h.queries.items) i)
+pub fewer : {X : Type 0} (p : X → Bool) (xs : List X) → length (filter p xs) ≤ length xs
+fewer p xs = let both = length-filter_both p (λ x. not (p x)) (λ x. refl) xs in omega (arith, both)
 
 -- the files that are freed, of these and of those
 pub freed_joined : (hs : List Hold) (xs ys : List Dropped) → ids_of (freed hs (xs ++ ys)) ≡ ids_of (freed hs xs) ++ ids_of (freed hs ys)

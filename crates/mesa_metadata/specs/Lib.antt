@@ -1,7 +1,7 @@
 pub use Rattle.mesa_catalog.specs as mesa_catalog
 pub use Rattle.mesa_catalog.specs.mesa_image as mesa_image
-pub use Rattle.mesa_ledger.specs.mesa_image_laws as mesa_image_laws
-pub use Rattle.mesa_ledger.specs as mesa_ledger
-pub use Rattle.mesa_ledger.specs.mesa_skeleton as mesa_skeleton
+pub use Rattle.mesa_engine_state.specs as mesa_engine_state
+pub use Rattle.mesa_engine_state.specs.mesa_projection as mesa_projection
 pub mod Memory
 pub mod Meaning
+pub mod Index

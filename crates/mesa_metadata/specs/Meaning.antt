@@ -1,16 +1,17 @@
 -- What the parts of a vault's memory stand for.
-use Rattle.std.specs.Prelude.{ℕ, ◌+◌, ◌<◌, ◌≤◌, ◌^◌, List, ◌++◌, map, Vec, vec_capacity, vec_len, IfSome, IsTrue}
+use Rattle.std.specs.Prelude.{ℕ, ◌+◌, ◌<◌, ◌≤◌, ◌^◌, List, ◌++◌, length, map, Vec, vec_capacity, vec_len, IfSome, IsTrue}
 use Rattle.std.specs.declared.alloc.Global.{Global}
 use Rattle.mesa_trash.specs.declared.trash.Hold.{Hold}
 use Rattle.mesa_record.specs.declared.record.Record.{Record}
 use Rattle.mesa_catalog.specs.mesa_image.Fitting.{fits}
 use Rattle.mesa_trash.specs.declared.trash.Dropped.{Dropped}
 use Rattle.mesa_catalog.specs.Kept.{Reserved}
-use Rattle.mesa_ledger.specs.Ledger.{HeldPin, OpenQuery}
-use Rattle.mesa_ledger.specs.Recorded.{hold_of_pin, hold_of_query}
+use Rattle.mesa_engine_state.specs.EngineState.{HeldPin, OpenQuery}
+use Rattle.mesa_engine_state.specs.Recorded.{hold_of_pin, hold_of_query}
 use Rattle.mesa_metadata.specs.declared.holders.Pin.{Pin}
 use Rattle.mesa_metadata.specs.declared.holders.Query.{Query}
 use Rattle.mesa_metadata.specs.declared.holders.Holders.{Holders}
+use Rattle.mesa_metadata.specs.Index.{IsIndexOf}
 use Rattle.mesa_metadata.specs.Memory.{Readied}
 
 abbrev pub pin_as : Pin → HeldPin
@@ -32,9 +33,19 @@ holds_by h = map hold_of_pin (pins_in h) ++ map hold_of_query (queries_in h)
 abbrev pub readied : ℕ → Record → Readied
 readied dropped r = record { entry = r; dropped = dropped }
 
--- What holds of them: the run has its place in the ids of files, and so has the count of those that it adopted; the record that is reserved for fits; and there is room in the trash for what it drops.
-pub record IsKept (catalog : Reserved) (trash : Vec Dropped Global) (room adopted : ℕ) : Type 0 where
+-- The holds are indexed, and there is room in the index for each of them.
+pub record AreIndexed (h : Holders) : Type 0 where
+  pub index : IsIndexOf (holds_by h) h.index.items
+  pub room : length h.pins.items + length h.queries.items ≤ vec_capacity h.index
+
+-- There is room in the index for one hold more.
+abbrev pub HasRoom : Holders → Type 0
+HasRoom h = length h.pins.items + length h.queries.items + 1 ≤ vec_capacity h.index
+
+-- What holds of them: the run has its place in the ids of files, and so has the count of those that it adopted; the record that is reserved for fits; there is room in the trash for what it drops; and the holds are indexed.
+pub record IsKept (catalog : Reserved) (holders : Holders) (trash : Vec Dropped Global) (room adopted : ℕ) : Type 0 where
   pub run : catalog.catalogue.run < 2 ^ 24
   pub few : adopted < 2 ^ 40
   pub fitting : IfSome catalog.reserved (λ r. IsTrue (fits catalog.catalogue r))
   pub spare : vec_len trash + room ≤ vec_capacity trash
+  pub indexed : AreIndexed holders

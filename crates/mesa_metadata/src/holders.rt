@@ -1,15 +1,16 @@
 // Who holds files: the pins, and the queries that are being answered.
-ghost use Rattle.std.specs.Prelude.{◌≡◌, ◌&&◌, ◌==◌, filter, find, length, map, not, option_map};
-ghost use Rattle.mesa_trash.specs.Holding.{holds, is_held as is_held_by};
-ghost use Rattle.mesa_ledger.specs.Turned.{is_held_pin};
-ghost use Rattle.std.specs.List.{list_any};
+ghost use Rattle.std.specs.Prelude.{◌≡◌, ◌+◌, ◌≤◌, ◌++◌, ◌&&◌, ◌==◌, filter, find, length, map, not, option_map, vec_capacity, vec_len, OnErr, OnOk, [], ◌∷◌};
+ghost use Rattle.mesa_trash.specs.Holding.{is_held as is_held_by};
+ghost use Rattle.mesa_engine_state.specs.Turned.{is_held_pin};
 ghost use Rattle.mesa_metadata.specs.declared.holders.Pin.{Pin as Held};
 ghost use Rattle.mesa_metadata.specs.declared.holders.Query.{Query as Asked};
-ghost use Rattle.mesa_metadata.specs.Meaning.{holds_by, pin_as, pins_in, queries_in, query_as};
+ghost use Rattle.mesa_metadata.specs.Meaning.{AreIndexed, HasRoom, holds_by, pin_as, pins_in, queries_in, query_as};
 ghost use Rattle.mesa_metadata.specs.Memory.{is_of_another};
 
+use crate::index::{is_found, make_index};
 use mesa_catalog::Catalog;
-use mesa_trash::{Dropped, Hold, is_held};
+use mesa_trash::{Dropped, Hold};
+use std::alloc::AllocError;
 
 /// A version that a session keeps, with a copy of the catalogue of its own.
 pub struct Pin {
@@ -45,14 +46,82 @@ pub(crate) struct Query {
 pub(crate) struct Holders {
     pub(crate) pins: Vec<Pin>,
     pub(crate) queries: Vec<Query>,
+    // An index of the holds of both, with room for each of them.
+    pub(crate) index: Vec<Hold>,
 }
 
 impl Holders {
     // Whether some hold is on the file.
     pub(crate) fn hold(&self, dropped: &Dropped) -> bool
+        requires { AreIndexed self.now }
         ensures { result ≡ is_held_by (holds_by self.now) dropped.now }
     {
-        is_pinned(&self.pins, dropped) || is_queried(&self.queries, dropped)
+        is_found(&self.index, dropped)
+    }
+
+    // Takes the memory of one pin more.
+    pub(crate) fn reserve_pin(&mut self) -> Result<(), AllocError>
+        requires { AreIndexed self.old }
+        ensures ok { OnOk result (HasRoom self.new × (vec_len self.new.pins + 1 ≤ vec_capacity self.new.pins)) }
+        ensures pins { self.new.pins.items ≡ self.old.pins.items }
+        ensures queries { self.new.queries ≡ self.old.queries }
+        ensures indexed { AreIndexed self.new }
+    {
+        self.reserve_place()?;
+        self.pins.reserve(1)
+    }
+
+    // Adds a pin whose memory is there.
+    pub(crate) fn add_pin(&mut self, pin: Pin)
+        requires place { HasRoom self.old }
+        requires room { vec_len self.old.pins + 1 ≤ vec_capacity self.old.pins }
+        ensures pins { pins_in self.new ≡ pins_in self.old ++ pin_as pin ∷ [] }
+        ensures queries { self.new.queries ≡ self.old.queries }
+        ensures indexed { AreIndexed self.new }
+    {
+        self.pins.push_reserved(pin);
+        self.index_again();
+    }
+
+    // Adds a query.
+    pub(crate) fn add_query(&mut self, query: Query) -> Result<(), AllocError>
+        requires { AreIndexed self.old }
+        ensures ok { OnOk result (queries_in self.new ≡ queries_in self.old ++ query_as query ∷ []) }
+        ensures err { OnErr result (queries_in self.new ≡ queries_in self.old) }
+        ensures pins { self.new.pins ≡ self.old.pins }
+        ensures indexed { AreIndexed self.new }
+    {
+        self.reserve_place()?;
+        self.queries.reserve(1)?;
+        self.queries.push_reserved(query);
+        self.index_again();
+        Ok(())
+    }
+
+    // Takes the memory of the index for one hold more.
+    fn reserve_place(&mut self) -> Result<(), AllocError>
+        requires { AreIndexed self.old }
+        ensures ok { OnOk result (HasRoom self.new) }
+        ensures pins { self.new.pins ≡ self.old.pins }
+        ensures queries { self.new.queries ≡ self.old.queries }
+        ensures indexed { AreIndexed self.new }
+    {
+        let holds = self.pins.len() + self.queries.len();
+        self.index
+            .reserve((holds + 1).saturating_sub(self.index.len()))
+    }
+
+    // Indexes the holds again, once one came or went.
+    fn index_again(&mut self)
+        requires { length self.old.pins.items + length self.old.queries.items ≤ vec_capacity self.old.index }
+        ensures pins { self.new.pins ≡ self.old.pins }
+        ensures queries { self.new.queries ≡ self.old.queries }
+        ensures indexed { AreIndexed self.new }
+    {
+        self.index.clear();
+        push_pins(&mut self.index, &self.pins);
+        push_queries(&mut self.index, &self.queries);
+        make_index(&mut self.index);
     }
 
     // The pin of a session with this token.
@@ -64,18 +133,24 @@ impl Holders {
 
     // Lets a session's pin with this token go.
     pub(crate) fn release(&mut self, session: u16, token: u32)
+        requires { AreIndexed self.old }
         ensures pins { pins_in self.new ≡ filter (λ p. not (is_held_pin session token p)) (pins_in self.old) }
         ensures queries { self.new.queries ≡ self.old.queries }
+        ensures indexed { AreIndexed self.new }
     {
         let_go(&mut self.pins, session, token);
+        self.index_again();
     }
 
     // Lets a session's open query go.
     pub(crate) fn answer(&mut self, session: u16)
+        requires { AreIndexed self.old }
         ensures queries { queries_in self.new ≡ filter (is_of_another session) (queries_in self.old) }
         ensures pins { self.new.pins ≡ self.old.pins }
+        ensures indexed { AreIndexed self.new }
     {
         let_answered(&mut self.queries, session);
+        self.index_again();
     }
 }
 
@@ -104,20 +179,24 @@ fn let_answered(queries: &mut Vec<Query>, session: u16)
     queries.retain(|query| query.session != session);
 }
 
-fn covers(hold: &Hold, dropped: &Dropped) -> bool
-    ensures { result ≡ holds dropped.now hold.now }
+// Puts the holds of pins behind others.
+fn push_pins(index: &mut Vec<Hold>, pins: &[Pin])
+    requires { vec_len index.old + length pins.now ≤ vec_capacity index.old }
+    ensures items { index.new.items ≡ index.old.items ++ map (λ (p : Held). p.hold) pins.now }
+    ensures room { vec_capacity index.new ≡ vec_capacity index.old }
 {
-    is_held(&[*hold], dropped)
+    for pin in pins {
+        index.push_reserved(pin.hold);
+    }
 }
 
-fn is_pinned(pins: &[Pin], dropped: &Dropped) -> bool
-    ensures { result ≡ list_any (λ (p : Held). holds dropped.now p.hold) pins.now }
+// Puts the holds of queries behind others.
+fn push_queries(index: &mut Vec<Hold>, queries: &[Query])
+    requires { vec_len index.old + length queries.now ≤ vec_capacity index.old }
+    ensures items { index.new.items ≡ index.old.items ++ map (λ (q : Asked). q.hold) queries.now }
+    ensures room { vec_capacity index.new ≡ vec_capacity index.old }
 {
-    pins.iter().any(|pin| covers(&pin.hold, dropped))
-}
-
-fn is_queried(queries: &[Query], dropped: &Dropped) -> bool
-    ensures { result ≡ list_any (λ (q : Asked). holds dropped.now q.hold) queries.now }
-{
-    queries.iter().any(|query| covers(&query.hold, dropped))
+    for query in queries {
+        index.push_reserved(query.hold);
+    }
 }

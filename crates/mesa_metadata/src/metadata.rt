@@ -2,10 +2,10 @@
 ghost use Rattle.std.specs.Prelude.{◌≡◌, ◌+◌, ◌<◌, ◌≤◌, ◌^◌, find, length, option_map, None};
 ghost use Rattle.mesa_catalog.specs.Lookups.{generation_of};
 ghost use Rattle.mesa_lease.specs.Book.{holder};
-ghost use Rattle.mesa_ledger.specs.Ledger.{next_id};
-ghost use Rattle.mesa_ledger.specs.Turned.{is_held_pin};
+ghost use Rattle.mesa_engine_state.specs.EngineState.{next_id};
+ghost use Rattle.mesa_engine_state.specs.Turned.{is_held_pin};
 ghost use Rattle.mesa_metadata.specs.Meaning.{pin_as};
-ghost use Rattle.mesa_metadata.specs.Memory.{opened_ledger};
+ghost use Rattle.mesa_metadata.specs.Memory.{opened_state};
 
 use crate::holders::{Holders, Pin};
 use mesa_catalog::Catalog;
@@ -46,7 +46,7 @@ impl Model for Metadata {
     ghost Value = { Memory };
 
     ghost view = { λ m. record {
-      ledger = record {
+      state = record {
         catalogue = m.catalog.catalogue;
         generation = generation_of m.catalog.catalogue;
         pins = pins_in m.holders;
@@ -63,7 +63,7 @@ impl Model for Metadata {
       leased = m.leases.next;
     } };
 
-    ghost invariant = { λ m. IsKept m.catalog m.trash m.room m.adopted };
+    ghost invariant = { λ m. IsKept m.catalog m.holders m.trash m.room m.adopted };
 }
 
 // Each exit calls this, in place of letting go of each part itself.
@@ -90,7 +90,7 @@ impl Metadata {
     pub fn new(alloc: Global, catalog: Catalog, area: Area, end: u64, turns: u32) -> Self
         requires run { catalog.catalogue.run < 2 ^ 24 }
         requires free { catalog.reserved ≡ None }
-        ensures { result ≡ record { ledger = opened_ledger catalog.catalogue area end turns; reserved = None; leased = 0 } }
+        ensures { result ≡ record { state = opened_state catalog.catalogue area end turns; reserved = None; leased = 0 } }
     {
         Metadata {
             alloc,
@@ -98,6 +98,7 @@ impl Metadata {
             holders: Holders {
                 pins: Vec::new(alloc),
                 queries: Vec::new(alloc),
+                index: Vec::new(alloc),
             },
             trash: Vec::new(alloc),
             room: 0,
@@ -112,14 +113,14 @@ impl Metadata {
 
     /// The catalogue.
     pub fn catalog(&self) -> &Catalog
-        ensures { result.now.catalogue ≡ self.now.ledger.catalogue }
+        ensures { result.now.catalogue ≡ self.now.state.catalogue }
     {
         &self.catalog
     }
 
     /// The run's number.
     pub fn run(&self) -> u32
-        ensures number { result ≡ self.now.ledger.catalogue.run }
+        ensures number { result ≡ self.now.state.catalogue.run }
         ensures few { result < 2 ^ 24 }
     {
         self.catalog.run()
@@ -127,52 +128,52 @@ impl Metadata {
 
     /// How often the catalogue's tables, views and columns were made or changed.
     pub fn generation(&self) -> u64
-        ensures ledger { result ≡ self.now.ledger.generation }
-        ensures catalogue { result ≡ generation_of self.now.ledger.catalogue }
+        ensures state { result ≡ self.now.state.generation }
+        ensures catalogue { result ≡ generation_of self.now.state.catalogue }
     {
         self.catalog.generation()
     }
 
     /// The position of the turn that closed the vault, if it is closed.
     pub fn closed(&self) -> Option<u64>
-        ensures { result ≡ self.now.ledger.closed }
+        ensures { result ≡ self.now.state.closed }
     {
         self.closed
     }
 
     /// The journal's area.
     pub fn area(&self) -> Area
-        ensures { result ≡ self.now.ledger.area }
+        ensures { result ≡ self.now.state.area }
     {
         self.area
     }
 
     /// Where the journal's next body goes.
     pub fn end(&self) -> u64
-        ensures { result ≡ self.now.ledger.end }
+        ensures { result ≡ self.now.state.end }
     {
         self.end
     }
 
     /// How many files the run has adopted.
     pub fn adopted(&self) -> u64
-        ensures adopted { result ≡ self.now.ledger.adopted }
+        ensures adopted { result ≡ self.now.state.adopted }
         ensures few { result < 2 ^ 40 }
-        ensures run { self.now.ledger.catalogue.run < 2 ^ 24 }
+        ensures run { self.now.state.catalogue.run < 2 ^ 24 }
     {
         self.adopted
     }
 
     /// The pin of a session with this token.
     pub fn pin_of(&self, session: u16, token: u32) -> Option<&Pin>
-        ensures { option_map (λ p. pin_as p.now) result ≡ find (is_held_pin session token) self.now.ledger.pins }
+        ensures { option_map (λ p. pin_as p.now) result ≡ find (is_held_pin session token) self.now.state.pins }
     {
         self.holders.pin(session, token)
     }
 
     /// How many pins are held.
     pub fn pins(&self) -> usize
-        ensures { result ≡ length self.now.ledger.pins }
+        ensures { result ≡ length self.now.state.pins }
     {
         self.holders.pins.len()
     }
@@ -180,7 +181,7 @@ impl Metadata {
     /// The table's lease that holds at the position.
     pub fn holder(&self, table: u16, position: u64) -> Option<u64>
         requires { table < TABLES }
-        ensures { result ≡ holder self.now.ledger.leases table position }
+        ensures { result ≡ holder self.now.state.leases table position }
     {
         self.leases.holds(table, position)
     }
@@ -191,7 +192,7 @@ impl Metadata {
     // A hold of the turn at the position, on all files that are named in it.
     pub(crate) fn hold_now(&self, position: u64) -> Hold
         ensures at { result.at ≡ position }
-        ensures next { result.next ≡ next_id self.now.ledger }
+        ensures next { result.next ≡ next_id self.now.state }
     {
         let next = FileId::adopted(self.catalog.run(), self.adopted);
         Hold {

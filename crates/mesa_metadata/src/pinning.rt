@@ -1,8 +1,8 @@
 // Pins and open queries.
 ghost use Rattle.std.specs.Prelude.{◌≡◌, ◌+◌, ◌<◌, ◌^◌, is_some, find, IfOk, OnErr, OnOk};
-ghost use Rattle.mesa_ledger.specs.mesa_model.Pins.{count_at};
-ghost use Rattle.mesa_ledger.specs.Turned.{answered_ledger, is_held_pin, pinned_ledger, queried_ledger, released_ledger};
-ghost use Rattle.mesa_metadata.specs.Memory.{hold_now, is_of_another, with_ledger};
+ghost use Rattle.mesa_engine_state.specs.mesa_model.Pins.{count_at};
+ghost use Rattle.mesa_engine_state.specs.Turned.{answered_state, is_held_pin, pinned_state, queried_state, released_state};
+ghost use Rattle.mesa_metadata.specs.Memory.{hold_now, is_of_another, with_state};
 
 use crate::Metadata;
 use crate::counts::count;
@@ -13,16 +13,16 @@ impl Metadata {
     /// Pins a version for a session in the turn at the position, with a copy of the catalogue: gives its token.
     pub fn pin(&mut self, session: u16, version: u32, position: u64) -> Result<u32, AllocError>
         // A token is a number of 32 bits.
-        requires { count_at self.old.ledger.given session + 1 < 2 ^ 32 }
-        ensures token { IfOk result (λ token. token ≡ count_at self.old.ledger.given session + 1) }
-        ensures pinned { OnOk result (self.new ≡ with_ledger (pinned_ledger self.old.ledger session version (hold_now self.old.ledger position)) self.old) }
+        requires { count_at self.old.state.given session + 1 < 2 ^ 32 }
+        ensures token { IfOk result (λ token. token ≡ count_at self.old.state.given session + 1) }
+        ensures pinned { OnOk result (self.new ≡ with_state (pinned_state self.old.state session version (hold_now self.old.state position)) self.old) }
         ensures err { OnErr result (self.new ≡ self.old) }
     {
         let hold = self.hold_now(position);
-        self.holders.pins.reserve(1)?;
+        self.holders.reserve_pin()?;
         let copy = self.catalog.copy(self.alloc)?;
         let token = count(&mut self.given, session)?;
-        self.holders.pins.push_reserved(Pin {
+        self.holders.add_pin(Pin {
             session,
             token,
             version,
@@ -34,24 +34,23 @@ impl Metadata {
 
     /// Lets a session's pin with this token go, if it is held.
     pub fn release(&mut self, session: u16, token: u32)
-        ensures { self.new ≡ with_ledger (released_ledger self.old.ledger session token) self.old }
+        ensures { self.new ≡ with_state (released_state self.old.state session token) self.old }
     {
         self.holders.release(session, token);
     }
 
     /// Holds the files that are named in the turn at the position, for a query of the session.
     pub fn open_query(&mut self, session: u16, position: u64) -> Result<(), AllocError>
-        ensures queried { OnOk result (self.new ≡ with_ledger (queried_ledger self.old.ledger session (hold_now self.old.ledger position)) self.old) }
+        ensures queried { OnOk result (self.new ≡ with_state (queried_state self.old.state session (hold_now self.old.state position)) self.old) }
         ensures err { OnErr result (self.new ≡ self.old) }
     {
         let hold = self.hold_now(position);
-        self.holders.queries.push(Query { session, hold })?;
-        Ok(())
+        self.holders.add_query(Query { session, hold })
     }
 
     /// Gives back what the session's query holds.
     pub fn close_query(&mut self, session: u16)
-        ensures { self.new ≡ with_ledger (answered_ledger self.old.ledger (is_of_another session)) self.old }
+        ensures { self.new ≡ with_state (answered_state self.old.state (is_of_another session)) self.old }
     {
         self.holders.answer(session);
     }

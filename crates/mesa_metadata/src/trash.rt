@@ -1,7 +1,7 @@
 // Files that wait to be removed, and which of them no hold is on.
 ghost use Rattle.std.specs.Prelude.{◌≡◌, ◌+◌, ◌≤◌, ◌++◌, length, map, vec_capacity, vec_len, OnOk};
 ghost use Rattle.mesa_trash.specs.Holding.{dropped_at, freed, ids_of, kept};
-ghost use Rattle.mesa_metadata.specs.Meaning.{holds_by};
+ghost use Rattle.mesa_metadata.specs.Meaning.{AreIndexed, holds_by};
 
 use crate::holders::Holders;
 use mesa_file::FileId;
@@ -14,6 +14,7 @@ pub(crate) fn free_trash(
     holders: &Holders,
     trash: &[Dropped],
 ) -> Result<(), AllocError>
+    requires { AreIndexed holders.now }
     ensures { OnOk result (ids.new.items ≡ ids.old.items ++ ids_of (freed (holds_by holders.now) trash.now)) }
 {
     for dropped in trash {
@@ -31,6 +32,7 @@ pub(crate) fn free_gone(
     position: u64,
     gone: &[FileId],
 ) -> Result<(), AllocError>
+    requires { AreIndexed holders.now }
     ensures { OnOk result (ids.new.items ≡ ids.old.items ++ ids_of (freed (holds_by holders.now) (map (dropped_at position) gone.now))) }
 {
     for id in gone {
@@ -60,6 +62,7 @@ pub(crate) fn drop_files(trash: &mut Vec<Dropped>, position: u64, gone: &[FileId
 
 // Forgets the files that no hold is on, once they are removed.
 pub(crate) fn keep_held(trash: &mut Vec<Dropped>, holders: &Holders)
+    requires { AreIndexed holders.now }
     ensures { trash.new.items ≡ kept (holds_by holders.now) trash.old.items }
 {
     trash.retain(|dropped| holders.hold(dropped));

@@ -63,7 +63,7 @@ pub(crate) struct RowFields<'a> {
     pub(crate) fields: &'a ByteRecord,
 }
 
-impl mesa_batch::Words for RowFields<'_> {
+impl mesa_list::Words for RowFields<'_> {
     ghost use Rattle.std.specs.Prelude.{drop};
     ghost use Rattle.csv.specs.Records.{fields_of};
 

@@ -4,10 +4,10 @@ use Rattle.std.specs.Prelude.{flat_map, is_some, Option, Some, None}
 use Rattle.std.specs.List.{AllByRecursion}
 use Rattle.mesa_schema.specs.Changes.{Lineage, epoch_of}
 use Rattle.mesa_record.specs.declared.record.Files.{Files}
-use Rattle.mesa_image_laws.specs.mesa_image.Catalog.{Delta}
-use Rattle.mesa_shelf.specs.declared.table.Loaded.{Loaded}
-use Rattle.mesa_shelf.proofs.Named.{flat_map-map}
-use Rattle.mesa_shelf.proofs.Singles.{flat_map-append}
+use Rattle.mesa_image.specs.Catalog.{Delta}
+use Rattle.mesa_table.specs.declared.table.Loaded.{Loaded}
+use Rattle.mesa_table.proofs.Named.{flat_map-map}
+use Rattle.mesa_table.proofs.Singles.{flat_map-append}
 use Rattle.mesa_tasks.specs.Opening.{HasEpoch}
 use Rattle.mesa_tasks.specs.declared.opening.Wanted.{Wanted}
 use Rattle.mesa_plans.specs.Files.{IsOfEpoch, Want, files_wanted, table_wanted, want_of}

@@ -4,17 +4,17 @@ use Rattle.std.specs.Prelude.{flat_map, is_some, nat_le, nat_lt, Some, option_ma
 use Rattle.std.proofs.lemmas.Bool.Decides.{nat_tests}
 use Rattle.std.proofs.lemmas.List.Elements.{filter-append, filter_agree}
 use Rattle.mesa_span.specs.Ranges.{end_of, start_behind}
-use Rattle.mesa_image_laws.specs.mesa_image.Catalog.{Delta, start_in}
-use Rattle.mesa_image_laws.specs.mesa_image.Fitting.{base_deltas}
-use Rattle.mesa_image_laws.specs.Brought.{merged_of}
-use Rattle.mesa_image_laws.specs.Planned.{behind_base, longest_to}
-use Rattle.mesa_shelf.specs.declared.table.Loaded.{Loaded}
-use Rattle.mesa_shelf.specs.declared.table.Table.{Table}
-use Rattle.mesa_shelf.specs.Meaning.{AreLoaded, IsTable, ending_of, singles_from, start_of_base, stock_of}
-use Rattle.mesa_shelf.specs.Named.{through}
-use Rattle.mesa_shelf.proofs.Named.{flat_map-map, singles_through}
-use Rattle.mesa_shelf.proofs.Singles.{behind, loaded_behind, singles_dropped}
-use Rattle.mesa_shelf.proofs.Tens.{base_ends}
+use Rattle.mesa_image.specs.Catalog.{Delta, start_in}
+use Rattle.mesa_image.specs.Fitting.{base_deltas}
+use Rattle.mesa_image.specs.Brought.{merged_of}
+use Rattle.mesa_image.specs.Planned.{behind_base, longest_to}
+use Rattle.mesa_table.specs.declared.table.Loaded.{Loaded}
+use Rattle.mesa_table.specs.declared.table.Table.{Table}
+use Rattle.mesa_table.specs.Meaning.{AreLoaded, IsTable, ending_of, singles_from, start_of_base, stock_of}
+use Rattle.mesa_table.specs.Named.{through}
+use Rattle.mesa_table.proofs.Named.{flat_map-map, singles_through}
+use Rattle.mesa_table.proofs.Singles.{behind, loaded_behind, singles_dropped}
+use Rattle.mesa_table.proofs.Tens.{base_ends}
 use Rattle.mesa_plans.specs.Lent.{loaded_from, shared_if_any, single_delta, ten_deltas, with_rows}
 use Rattle.mesa_plans.proofs.Longest.{longest_none, longest_some}
 use Rattle.mesa_plans.proofs.Parted.{all_from}

@@ -4,8 +4,8 @@ use Rattle.std.specs.Prelude.{filter, nat_le}
 use Rattle.std.specs.List.{AllWithin}
 use Rattle.std.specs.List.Sorted.{IsNonDecreasingBy, IsPartitionPoint}
 use Rattle.std.proofs.lemmas.Bool.Decides.{nat_tests}
-use Rattle.mesa_shelf.specs.declared.table.Loaded.{Loaded}
-use Rattle.mesa_shelf.specs.Meaning.{AreLoaded}
+use Rattle.mesa_table.specs.declared.table.Loaded.{Loaded}
+use Rattle.mesa_table.specs.Meaning.{AreLoaded}
 use Rattle.mesa_plans.specs.Lent.{loaded_from}
 
 -- ---- what passes and what fails

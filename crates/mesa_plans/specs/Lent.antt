@@ -4,8 +4,8 @@ use Rattle.std.specs.Prelude.{ℕ, ◌≤◌, suc, zero, List, [], ◌∷◌, �
 use Rattle.std.specs.List.{AllByRecursion}
 use Rattle.std.specs.declared.alloc.Global.{Global}
 use Rattle.std.specs.declared.sync.Arc.{Arc}
-use Rattle.mesa_image_laws.specs.mesa_image.Catalog.{Delta}
-use Rattle.mesa_shelf.specs.declared.table.Loaded.{Loaded}
+use Rattle.mesa_image.specs.Catalog.{Delta}
+use Rattle.mesa_table.specs.declared.table.Loaded.{Loaded}
 use Rattle.mesa_plans.specs.declared.deltas.Deltas.{Deltas}
 
 -- those of the deltas that have rows

@@ -1,3 +1,17 @@
-pub use Rattle.mesa_image_laws.specs as mesa_image_laws
+pub use Rattle.mesa_delta.specs.mesa_block as mesa_block
+pub use Rattle.mesa_commit.specs as mesa_commit
+pub use Rattle.mesa_fold.specs as mesa_fold
+pub use Rattle.mesa_image.specs as mesa_image
+pub use Rattle.mesa_list.specs as mesa_list
+pub use Rattle.mesa_record.specs as mesa_record
+pub use Rattle.mesa_schema.specs as mesa_schema
+pub use Rattle.mesa_table.specs as mesa_table
+pub use Rattle.mesa_schema.specs.mesa_value as mesa_value
 pub mod Lent
 pub mod Files
+pub mod Gathered
+pub mod Parts
+pub mod Ranges
+pub mod Ranging
+pub mod Read
+pub mod Told

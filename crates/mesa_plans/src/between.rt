@@ -1,10 +1,10 @@
 // What was loaded from one version to another: what is loaded stands by rising versions.
 ghost use Rattle.std.specs.Prelude.{◌≡◌, ℕ};
-ghost use Rattle.mesa_shelf.specs.Meaning.{AreLoaded};
-ghost use Rattle.mesa_shelf.specs.Named.{through};
+ghost use Rattle.mesa_table.specs.Meaning.{AreLoaded};
+ghost use Rattle.mesa_table.specs.Named.{through};
 ghost use Rattle.mesa_plans.specs.Lent.{loaded_from};
 
-use mesa_shelf::Loaded;
+use mesa_table::Loaded;
 
 // What was loaded from a version on.
 pub(crate) fn from_on(loaded: &[Loaded], from: u64) -> &[Loaded]

@@ -1,11 +1,11 @@
 // Deltas that are lent.
 ghost use Rattle.std.specs.Prelude.{◌≡◌, option_map};
-ghost use Rattle.mesa_shelf.specs.declared.table.Base.{Base as BaseOf};
-ghost use Rattle.mesa_shelf.specs.Meaning.{ending_of};
-ghost use Rattle.mesa_image_laws.specs.mesa_image.Fitting.{base_deltas};
+ghost use Rattle.mesa_table.specs.declared.table.Base.{Base as BaseOf};
+ghost use Rattle.mesa_table.specs.Meaning.{ending_of};
+ghost use Rattle.mesa_image.specs.Fitting.{base_deltas};
 ghost use Rattle.mesa_plans.specs.Lent.{lent_if_any, with_rows};
 
-use mesa_shelf::{Base, Delta, Loaded};
+use mesa_table::{Base, Delta, Loaded};
 
 /// Deltas of a table, in version order. A version that brought the table nothing isn't among them.
 #[derive(Clone, Copy)]

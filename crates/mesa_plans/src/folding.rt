@@ -1,15 +1,15 @@
 // The deltas that a work folds.
 ghost use Rattle.std.specs.Prelude.{◌≡◌, ◌≤◌, ℕ};
 ghost use Rattle.std.specs.List.{AllByRecursion};
-ghost use Rattle.mesa_image_laws.specs.mesa_image.Fitting.{deltas_of};
-ghost use Rattle.mesa_image_laws.specs.Brought.{merged_of};
-ghost use Rattle.mesa_shelf.specs.Meaning.{IsTable, stock_of};
+ghost use Rattle.mesa_image.specs.Fitting.{deltas_of};
+ghost use Rattle.mesa_image.specs.Brought.{merged_of};
+ghost use Rattle.mesa_table.specs.Meaning.{IsTable, stock_of};
 ghost use Rattle.mesa_plans.specs.Lent.{AreOfEpochs, lent_in, with_rows};
 
 use crate::Deltas;
 use crate::between::up_to;
 use crate::deltas::base_delta;
-use mesa_shelf::Table;
+use mesa_table::Table;
 
 /// The deltas that are folded into a base to a version, or into the cumulative that ends there: the base and the singletons up to it, or these singletons alone. Takes no memory.
 pub fn merged<'a>(table: &'a Table, base: bool, to: u32) -> Deltas<'a>

@@ -1,15 +1,15 @@
 // The deltas that a query reads.
 ghost use Rattle.std.specs.Prelude.{◌≡◌, ◌+◌, ◌-◌, ◌*◌, ◌/◌, ◌≤◌, ◌<◌, ◌^◌, ℕ, length, min};
 ghost use Rattle.std.specs.List.{AllByRecursion};
-ghost use Rattle.mesa_image_laws.specs.mesa_image.Fitting.{deltas_of};
-ghost use Rattle.mesa_image_laws.specs.Planned.{planned as planned_of};
-ghost use Rattle.mesa_shelf.specs.Meaning.{IsTable, start_of_base, stock_of};
+ghost use Rattle.mesa_image.specs.Fitting.{deltas_of};
+ghost use Rattle.mesa_image.specs.Planned.{planned as planned_of};
+ghost use Rattle.mesa_table.specs.Meaning.{IsTable, start_of_base, stock_of};
 ghost use Rattle.mesa_plans.specs.Lent.{AreOfEpochs, lent_if_any, lent_in, ten_deltas, with_rows};
 
 use crate::Deltas;
 use crate::between::{from_on, up_to};
 use crate::deltas::base_delta;
-use mesa_shelf::{Delta, Table};
+use mesa_table::{Delta, Table};
 use std::sync::Arc;
 
 /// The deltas that a query at a version reads: the base, the longest cumulative that ends at or before it, and then singletons. Takes no memory.

@@ -9,7 +9,7 @@ ghost use Rattle.mesa_plans.specs.Lent.{AreOfEpochs, lent_if_any, lent_in, now_i
 use crate::Deltas;
 use mesa_record::ViewRef;
 use mesa_schema::Evolving;
-use mesa_shelf::{Delta, Loaded};
+use mesa_table::{Delta, Loaded};
 use mesa_tasks::Wanted;
 use std::alloc::{AllocError, Global};
 use std::sync::Arc;

@@ -1,3 +1,4 @@
 pub mod Texts
 pub mod HexText
 pub mod RowTexts
+pub mod Printing

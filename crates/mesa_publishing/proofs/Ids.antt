@@ -6,7 +6,7 @@ use Rattle.std.specs.Prelude.{Bool, true, false, ◌&&◌, ◌||◌, ◌==◌, n
 use Rattle.std.proofs.lemmas.Bool.Decides.{nat_tests}
 use Rattle.mesa_schema.specs.declared.rows.Row.{Row}
 use Rattle.mesa_disk.specs.Files.{HasDistinctIds, HasOtherIds}
-use Rattle.mesa_commit.specs.Turn.{made_ids}
+use Rattle.mesa_plans.specs.mesa_commit.Turn.{made_ids}
 use Rattle.mesa_trash.specs.Filed.{AreGiven}
 use Rattle.mesa_trash.specs.Holding.{Among}
 use Rattle.mesa_catalog.specs.mesa_image.Contents.{Rows}

@@ -1,3 +1,8 @@
+pub use Rattle.mesa_copy.proofs as mesa_copy
+pub use Rattle.mesa_metadata.proofs.mesa_engine_state as mesa_engine_state
+pub use Rattle.mesa_catalog.proofs.mesa_history as mesa_history
+pub use Rattle.mesa_plans.proofs as mesa_plans
+pub use Rattle.mesa_trash.proofs as mesa_trash
 pub mod KeysOnce
 pub mod SumNames
 pub mod Lists
@@ -9,3 +14,22 @@ pub mod Ids
 pub mod Steps
 pub mod Rules
 pub mod Told
+pub mod Growing
+pub mod Becoming
+pub mod Ranges
+pub mod Keeping
+pub mod Merging
+pub mod Records
+pub mod Rewriting
+pub mod Takes
+pub mod Covering
+pub mod TakenFiles
+pub mod Brought
+pub mod Counted
+pub mod Listed
+pub mod Recorded
+pub mod HeldFiles
+pub mod Bringing
+pub mod Bases
+pub mod HeldTables
+pub mod TableRecasts

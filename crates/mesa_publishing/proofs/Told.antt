@@ -12,7 +12,7 @@ use Rattle.mesa_batch.specs.declared.words.RowWords.{RowWords}
 use Rattle.mesa_batch.specs.Batch.{Named, Placed, batch_of}
 use Rattle.mesa_disk.specs.Files.{HasDistinctIds, files_of}
 use Rattle.mesa_disk.specs.declared.moving.Adoption.{Adoption}
-use Rattle.mesa_commit.specs.Turn.{made_ids, told_files}
+use Rattle.mesa_plans.specs.mesa_commit.Turn.{made_ids, told_files}
 use Rattle.mesa_trash.specs.Filed.{AreGiven}
 use Rattle.mesa_trash.specs.Holding.{Among}
 use Rattle.mesa_model.specs.Load.{bounds_checked, load_batch, tables_named, with_batch}
@@ -30,12 +30,12 @@ use Rattle.mesa_catalog.specs.mesa_image.Catalog.{Catalog, Stock, no_stock, stoc
 use Rattle.mesa_catalog.specs.mesa_image.Fitting.{are_new_ids, brings_new_files, brought, fits, is_there, part_fits, publish_fits}
 use Rattle.mesa_catalog.specs.mesa_image.Shape.{IsCatalog}
 use Rattle.mesa_catalog.specs.mesa_image.Sound.{wants}
-use Rattle.mesa_catalog.specs.mesa_image_laws.Brought.{AreTold}
-use Rattle.mesa_catalog.specs.mesa_image_laws.Ids.{brought_ids, named}
-use Rattle.mesa_catalog.specs.mesa_image_laws.Sourced.{tables_read}
+use Rattle.mesa_catalog.specs.mesa_image.Brought.{AreTold}
+use Rattle.mesa_catalog.specs.mesa_image.Ids.{brought_ids, named}
+use Rattle.mesa_catalog.specs.mesa_image.Sourced.{tables_read}
 use Rattle.mesa_catalog.specs.Lookups.{known_as, sight_of}
-use Rattle.mesa_metadata.specs.mesa_ledger.Ledger.{Ledger, first_id, most_files, next_id, skeleton_of}
-use Rattle.mesa_metadata.proofs.mesa_ledger.Changing.{tables_are}
+use Rattle.mesa_metadata.specs.mesa_engine_state.EngineState.{EngineState, first_id, most_files, next_id, skeleton_of}
+use Rattle.mesa_metadata.proofs.mesa_engine_state.Changing.{tables_are}
 use Rattle.mesa_tasks.specs.Batches.{AreParts, IsPrepared, is_over, shares, shares_from}
 use Rattle.mesa_tasks.specs.declared.made.MadeFile.{MadeFile}
 use Rattle.mesa_tasks.specs.declared.prepared.Prepared.{Prepared}
@@ -87,11 +87,11 @@ abbrev Done : Type 0
 Done = Result (Warehouse × Reply) Refusal
 
 -- what a batch that was read does: the next version, if there may be one more and no sum passes its bound
-abbrev then_loaded : Ledger → List Placed → Done
+abbrev then_loaded : EngineState → List Placed → Done
 then_loaded l batch = refuse_if (nat_le max_versions l.catalogue.next) (no.VersionsFull max_versions)
     >> (bounds_checked batch 0 (map skeleton_of l.catalogue.tables) >> Ok (with_batch (bare_of l) batch, reply.Loaded l.catalogue.next (length batch)))
 
-load_is : (l : Ledger) (words : List RowWords) (batch : List Placed) → l.closed ≡ None → batch_of (tables_read l.catalogue) words ≡ Ok batch → load_batch (bare_of l) words ≡ then_loaded l batch
+load_is : (l : EngineState) (words : List RowWords) (batch : List Placed) → l.closed ≡ None → batch_of (tables_read l.catalogue) words ≡ Ok batch → load_batch (bare_of l) words ≡ then_loaded l batch
 load_is l words batch unclosed read =
     ap (λ (o : Option ℕ). refuse_closed o >> (refused_as batch_refusal (batch_of (tables_named (bare_of l).store) words) >>= then_loaded l)) unclosed
     ∙ ap (λ (r : Result (List Placed) BatchError). refused_as batch_refusal r >>= then_loaded l) (ap (λ (n : List Named). batch_of n words) (tables_are l.catalogue) ∙ read)
@@ -102,7 +102,7 @@ is_full n e = grind (arith, nat_tests)
 not_full : (n : ℕ) → n < max_versions → nat_le max_versions n ≡ false
 not_full n lt = grind (arith, nat_tests)
 
-pub full_due : (l : Ledger) (words : List RowWords) (batch : List Placed) (e : Unpublished) → l.closed ≡ None → batch_of (tables_read l.catalogue) words ≡ Ok batch → l.catalogue.next ≡ max_versions → e ≡ un.Refused (no.VersionsFull max_versions)
+pub full_due : (l : EngineState) (words : List RowWords) (batch : List Placed) (e : Unpublished) → l.closed ≡ None → batch_of (tables_read l.catalogue) words ≡ Ok batch → l.catalogue.next ≡ max_versions → e ≡ un.Refused (no.VersionsFull max_versions)
     → IsDue (load_batch (bare_of l) words) e
 full_due l words batch e unclosed read full is =
     subst (λ (e : Unpublished). IsDue (load_batch (bare_of l) words) e) (sym is)
@@ -110,7 +110,7 @@ full_due l words batch e unclosed read full is =
     ∙ ap (λ b. refuse_if b (no.VersionsFull max_versions) >> (bounds_checked batch 0 (map skeleton_of l.catalogue.tables) >> Ok (with_batch (bare_of l) batch, reply.Loaded l.catalogue.next (length batch)))) (is_full l.catalogue.next full))
 
 -- with a version more to come, the load is the check of the bound
-bounded_is : (l : Ledger) (words : List RowWords) (batch : List Placed) → l.closed ≡ None → batch_of (tables_read l.catalogue) words ≡ Ok batch → l.catalogue.next < max_versions
+bounded_is : (l : EngineState) (words : List RowWords) (batch : List Placed) → l.closed ≡ None → batch_of (tables_read l.catalogue) words ≡ Ok batch → l.catalogue.next < max_versions
     → load_batch (bare_of l) words ≡ (bounds_checked batch 0 (map skeleton_of l.catalogue.tables) >> Ok (with_batch (bare_of l) batch, reply.Loaded l.catalogue.next (length batch)))
 bounded_is l words batch unclosed read few =
     load_is l words batch unclosed read
@@ -120,7 +120,7 @@ due_then : {A : Type 0} (r : Result (Unit {0}) Refusal) (next : Result A Refusal
 due_then r next (un.Refused x) is = ap (λ q. q >> next) is
 due_then r next un.Memory is = tt
 
-module _ {M : Type 0} (bytes : M → Option (List ℕ)) (id_of : M → ℕ) (l : Ledger) (shaped : IsCatalog l.catalogue) (batch : List Placed) (prepared : Prepared M)
+module _ {M : Type 0} (bytes : M → Option (List ℕ)) (id_of : M → ℕ) (l : EngineState) (shaped : IsCatalog l.catalogue) (batch : List Placed) (prepared : Prepared M)
     (is : IsPrepared bytes id_of (sight_of l.catalogue) batch prepared) where
   abbrev c : Catalog
   c = l.catalogue

@@ -1,4 +1,16 @@
+pub use Rattle.mesa_trash.specs.mesa_commit as mesa_commit
+pub use Rattle.mesa_copy.specs.mesa_compact as mesa_compact
+pub use Rattle.mesa_copy.specs as mesa_copy
+pub use Rattle.mesa_metadata.specs.mesa_engine_state as mesa_engine_state
+pub use Rattle.mesa_tasks.specs.mesa_history as mesa_history
+pub use Rattle.mesa_list.specs as mesa_list
+pub use Rattle.mesa_plans.specs as mesa_plans
+pub use Rattle.mesa_trash.specs as mesa_trash
 pub mod Batches
 pub mod Adopted
 pub mod Bounds
 pub mod Published
+pub mod Grown
+pub mod Finished
+pub mod Swapped
+pub mod Recasts

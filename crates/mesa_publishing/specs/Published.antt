@@ -8,7 +8,7 @@ use Rattle.mesa_batch.specs.declared.words.RowWords.{RowWords}
 use Rattle.mesa_batch.specs.Batch.{Placed}
 use Rattle.mesa_disk.specs.Files.{HasDistinctIds, files_of}
 use Rattle.mesa_disk.specs.declared.moving.Adoption.{Adoption}
-use Rattle.mesa_commit.specs.Turn.{made_ids, told_files}
+use Rattle.mesa_plans.specs.mesa_commit.Turn.{made_ids, told_files}
 use Rattle.mesa_model.specs.Load.{load_batch, with_batch}
 use Rattle.mesa_model.specs.Warehouse.{Warehouse}
 use Rattle.mesa_model.specs.declared.replies.Reply.TheVariants as reply
@@ -19,13 +19,13 @@ use Rattle.mesa_catalog.specs.mesa_image.Catalog.{Catalog}
 use Rattle.mesa_catalog.specs.mesa_image.Contents.{Rows}
 use Rattle.mesa_catalog.specs.mesa_image.Fitting.{brought, fits}
 use Rattle.mesa_catalog.specs.mesa_image.Sound.{wants}
-use Rattle.mesa_catalog.specs.mesa_image_laws.Brought.{AreTold, BringsAll}
-use Rattle.mesa_catalog.specs.mesa_image_laws.Ids.{brought_ids}
+use Rattle.mesa_catalog.specs.mesa_image.Brought.{AreTold, BringsAll}
+use Rattle.mesa_catalog.specs.mesa_image.Ids.{brought_ids}
 use Rattle.mesa_catalog.specs.Lookups.{sight_of}
-use Rattle.mesa_metadata.specs.mesa_skeleton.Rows.{no_rows}
+use Rattle.mesa_metadata.specs.mesa_projection.Rows.{no_rows}
 use Rattle.mesa_tasks.specs.Batches.{Share, shares}
-use Rattle.mesa_metadata.specs.mesa_ledger.Ledger.{Ledger, books_of, next_id}
-use Rattle.mesa_metadata.specs.mesa_ledger.Recorded.{Adopts}
+use Rattle.mesa_metadata.specs.mesa_engine_state.EngineState.{EngineState, books_of, next_id}
+use Rattle.mesa_metadata.specs.mesa_engine_state.Recorded.{Adopts}
 use Rattle.mesa_publishing.specs.declared.publishing.Published.{Published}
 
 -- ---- the rows that a batch brings
@@ -43,13 +43,13 @@ abbrev pub rows_with : Rows → ℕ → List (List Row) → Rows
 rows_with rows next more id = if nat_lt id next then rows id else slice_index_or more (id - next) []
 
 -- the rows once a batch is published
-abbrev pub rows_later : Ledger → List Placed → Rows → Rows
+abbrev pub rows_later : EngineState → List Placed → Rows → Rows
 rows_later l batch rows = rows_with rows (next_id l) (rows_brought l.catalogue batch)
 
 -- ---- a load
 
--- the warehouse without rows of a ledger
-abbrev pub bare_of : Ledger → Warehouse
+-- the warehouse without rows of a state
+abbrev pub bare_of : EngineState → Warehouse
 bare_of l = (books_of no_rows l).bare
 
 -- Files that tell their bytes.
@@ -58,7 +58,7 @@ AllTell bytes [] = ⊤
 AllTell bytes (a ∷ made) = ((b : List ℕ) × (bytes a.made ≡ Some b)) × AllTell bytes made
 
 -- A batch is published by a record that keeps the rules of records and fits: its parts bring the batch's rows to the tables, and its files have true references, are those that are made, each with its bytes where they are told, and get the next ids.
-pub record IsPublished {M : Type 0} (bytes : M → Option (List ℕ)) (l : Ledger) (batch : List Placed) (p : Published M) : Type 0 where
+pub record IsPublished {M : Type 0} (bytes : M → Option (List ℕ)) (l : EngineState) (batch : List Placed) (p : Published M) : Type 0 where
   pub parts : List Part
   pub entry : p.entry ≡ record_of.Publish l.catalogue.next parts
   pub rules : keeps_rules p.entry ≡ true
@@ -71,6 +71,6 @@ pub record IsPublished {M : Type 0} (bytes : M → Option (List ℕ)) (l : Ledge
   pub distinct : HasDistinctIds (files_of bytes p.made.items)
   pub adopts : Adopts l (files_of bytes p.made.items) p.adopted
 
--- An open ledger's warehouse does the load: the next version has the batch.
-abbrev pub IsLoaded : Ledger → List RowWords → List Placed → Type 0
+-- An open state's warehouse does the load: the next version has the batch.
+abbrev pub IsLoaded : EngineState → List RowWords → List Placed → Type 0
 IsLoaded l words batch = l.closed ≡ None → load_batch (bare_of l) words ≡ Ok (with_batch (bare_of l) batch, reply.Loaded l.catalogue.next (length batch))

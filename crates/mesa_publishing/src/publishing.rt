@@ -8,11 +8,11 @@ ghost use Rattle.mesa_model.specs.declared.replies.Refusal.TheVariants as no;
 ghost use Rattle.mesa_publishing.specs.declared.failure.Unpublished.TheVariants.{Refused};
 ghost use Rattle.mesa_trash.specs.Holding.{Among};
 ghost use Rattle.mesa_catalog.specs.mesa_image.Shape.{IsCatalog};
-ghost use Rattle.mesa_catalog.specs.mesa_image_laws.Ids.{named};
-ghost use Rattle.mesa_catalog.specs.mesa_image_laws.Sourced.{tables_read};
+ghost use Rattle.mesa_catalog.specs.mesa_image.Ids.{named};
+ghost use Rattle.mesa_catalog.specs.mesa_image.Sourced.{tables_read};
 ghost use Rattle.mesa_catalog.specs.Lookups.{sight_of};
 ghost use Rattle.mesa_tasks.specs.Batches.{IsPrepared};
-ghost use Rattle.mesa_metadata.specs.mesa_ledger.Ledger.{most_files, next_id};
+ghost use Rattle.mesa_metadata.specs.mesa_engine_state.EngineState.{most_files, next_id};
 ghost use Rattle.mesa_publishing.specs.Bounds.{IsDue};
 ghost use Rattle.mesa_publishing.specs.Published.{IsLoaded, IsPublished, bare_of};
 
@@ -45,16 +45,16 @@ pub fn publish<M: Made>(
     metadata: &Metadata,
     prepared: Prepared<M>,
 ) -> Result<Published<M>, Unpublished>
-    requires shaped { IsCatalog metadata.now.ledger.catalogue }
-    requires prepared { (batch : List PlacedRow) × IsPrepared M.bytes M.id_of (sight_of metadata.now.ledger.catalogue) batch prepared }
-    requires given { (id : ℕ) → Among id (named metadata.now.ledger.catalogue) → id < next_id metadata.now.ledger }
-    requires room { metadata.now.ledger.adopted + most_files < 2 ^ 40 }
-    ensures published { IfOk result (λ p. (words : List AnyWords) (batch : List PlacedRow) → batch_of (tables_read metadata.now.ledger.catalogue) words ≡ Ok batch → IsPrepared M.bytes M.id_of (sight_of metadata.now.ledger.catalogue) batch prepared
-        → IsPublished M.bytes metadata.now.ledger batch p) }
-    ensures loaded { OnOk result ((words : List AnyWords) (batch : List PlacedRow) → batch_of (tables_read metadata.now.ledger.catalogue) words ≡ Ok batch → IsPrepared M.bytes M.id_of (sight_of metadata.now.ledger.catalogue) batch prepared
-        → IsLoaded metadata.now.ledger words batch) }
-    ensures refused { IfErr result (λ e. (words : List AnyWords) (batch : List PlacedRow) → metadata.now.ledger.closed ≡ None → batch_of (tables_read metadata.now.ledger.catalogue) words ≡ Ok batch → IsPrepared M.bytes M.id_of (sight_of metadata.now.ledger.catalogue) batch prepared
-        → IsDue (load_batch (bare_of metadata.now.ledger) words) e) }
+    requires shaped { IsCatalog metadata.now.state.catalogue }
+    requires prepared { (batch : List PlacedRow) × IsPrepared M.bytes M.id_of (sight_of metadata.now.state.catalogue) batch prepared }
+    requires given { (id : ℕ) → Among id (named metadata.now.state.catalogue) → id < next_id metadata.now.state }
+    requires room { metadata.now.state.adopted + most_files < 2 ^ 40 }
+    ensures published { IfOk result (λ p. (words : List AnyWords) (batch : List PlacedRow) → batch_of (tables_read metadata.now.state.catalogue) words ≡ Ok batch → IsPrepared M.bytes M.id_of (sight_of metadata.now.state.catalogue) batch prepared
+        → IsPublished M.bytes metadata.now.state batch p) }
+    ensures loaded { OnOk result ((words : List AnyWords) (batch : List PlacedRow) → batch_of (tables_read metadata.now.state.catalogue) words ≡ Ok batch → IsPrepared M.bytes M.id_of (sight_of metadata.now.state.catalogue) batch prepared
+        → IsLoaded metadata.now.state words batch) }
+    ensures refused { IfErr result (λ e. (words : List AnyWords) (batch : List PlacedRow) → metadata.now.state.closed ≡ None → batch_of (tables_read metadata.now.state.catalogue) words ≡ Ok batch → IsPrepared M.bytes M.id_of (sight_of metadata.now.state.catalogue) batch prepared
+        → IsDue (load_batch (bare_of metadata.now.state) words) e) }
 {
     let catalog = metadata.catalog();
     let version = next_version(catalog)?;

@@ -6,14 +6,14 @@ use Rattle.mesa_disk.specs.declared.area.Area.{Area}
 use Rattle.mesa_journal.specs.Read.{bodies_of, placed_from}
 use Rattle.mesa_journal.specs.declared.reading.Body.{Body}
 use Rattle.mesa_record.specs.Reading.{record_at}
-use Rattle.mesa_image_laws.specs.mesa_image.Catalog.{Catalog}
-use Rattle.mesa_image_laws.specs.mesa_image.Fitting.{catalog_from, then_bodies, with_body}
-use Rattle.mesa_image_laws.specs.mesa_image.Journaled.{catalog, first_body}
-use Rattle.mesa_opening.specs.declared.error.OpenError.{OpenError}
-use Rattle.mesa_opening.specs.declared.error.OpenError.TheVariants as open_error
-use Rattle.mesa_opening.specs.Damages.{misfit_of}
-use Rattle.mesa_opening.specs.Misfits.{IsMisfitAt, IsMisfitIn, misfit_at}
-use Rattle.mesa_opening.proofs.Firsts.{first_misfit, take_next}
+use Rattle.mesa_image.specs.Catalog.{Catalog}
+use Rattle.mesa_image.specs.Fitting.{catalog_from, then_bodies, with_body}
+use Rattle.mesa_image.specs.Journaled.{catalog, first_body}
+use Rattle.mesa_recover.specs.declared.error.OpenError.{OpenError}
+use Rattle.mesa_recover.specs.declared.error.OpenError.TheVariants as open_error
+use Rattle.mesa_recover.specs.Damages.{misfit_of}
+use Rattle.mesa_recover.specs.Misfits.{IsMisfitAt, IsMisfitIn, misfit_at}
+use Rattle.mesa_recover.proofs.Firsts.{first_misfit, take_next}
 use Rattle.mesa_recover.specs.Live.{IsRefusedBehind}
 
 -- ---- one body more

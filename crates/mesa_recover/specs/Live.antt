@@ -5,12 +5,12 @@ use Rattle.mesa_disk.specs.Story.{Story}
 use Rattle.mesa_disk.specs.declared.area.Area.{Area}
 use Rattle.mesa_journal.specs.Areas.{holds_body, number_of, other_of}
 use Rattle.mesa_record.specs.Reading.{record_at}
-use Rattle.mesa_image_laws.specs.mesa_image.Catalog.{Catalog}
-use Rattle.mesa_opening.specs.declared.error.OpenError.{OpenError}
-use Rattle.mesa_opening.specs.declared.error.OpenError.TheVariants as open_error
-use Rattle.mesa_opening.specs.Damages.{misfit_of}
-use Rattle.mesa_opening.specs.Misfits.{misfit_at}
-use Rattle.mesa_opening.specs.Opening.{IsRead}
+use Rattle.mesa_image.specs.Catalog.{Catalog}
+use Rattle.mesa_recover.specs.declared.error.OpenError.{OpenError}
+use Rattle.mesa_recover.specs.declared.error.OpenError.TheVariants as open_error
+use Rattle.mesa_recover.specs.Damages.{misfit_of}
+use Rattle.mesa_recover.specs.Misfits.{misfit_at}
+use Rattle.mesa_recover.specs.Opening.{IsRead}
 use Rattle.mesa_recover.specs.declared.opened.LiveArea.{LiveArea}
 
 -- The live area of a store that reads as a catalogue: its number, its end, and whether the other one holds a body.

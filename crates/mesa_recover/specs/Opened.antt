@@ -1,6 +1,6 @@
 -- A store that was read.
 use Rattle.mesa_disk.specs.Story.{Story}
-use Rattle.mesa_opening.specs.Opening.{IsOpenedAs}
+use Rattle.mesa_recover.specs.Opening.{IsOpenedAs}
 use Rattle.mesa_recover.specs.declared.opened.Opened.{Opened}
 use Rattle.mesa_recover.specs.Anew.{IsStatedAnew}
 

@@ -4,16 +4,26 @@
 //! file that the catalogue names was found with its length and the digest of its tail. `begin` makes all that
 //! was read stay, states the catalogue anew in the other area where the live one has become long, appends the
 //! record of a run, and removes each file that the catalogue doesn't name.
+//!
+//! Beside them stand what an opening tests of the files, what it writes when a run begins, and why it ends.
 #![tactic(auto)]
 
 mod anew;
 mod beginning;
+mod checking;
+mod error;
+mod framing;
 mod opened;
 mod reading;
 mod records;
+mod strays;
 
 pub use beginning::begin;
+pub use checking::check_files;
+pub use error::OpenError;
+pub use framing::{frame, write_run};
 pub use mesa_catalog::Begun;
-pub use mesa_opening::OpenError;
+pub use mesa_table::Recorded;
 pub use opened::Opened;
 pub use reading::read;
+pub use strays::find_strays;

@@ -4,24 +4,23 @@ ghost use Rattle.std.specs.List.{AllByRecursion};
 ghost use Rattle.mesa_disk.specs.mesa_file.declared.damage.Damage.{Damage as AnyDamage};
 ghost use Rattle.mesa_disk.specs.Image.{Image};
 ghost use Rattle.mesa_disk.specs.Story.{Unmoved};
-ghost use Rattle.mesa_image_laws.specs.mesa_image.Fitting.{shelved};
-ghost use Rattle.mesa_shelf.specs.Files.{AreRecorded, recorded_of};
-ghost use Rattle.mesa_shelf.specs.declared.recorded.Recorded.{Recorded as AnyRecorded};
-ghost use Rattle.mesa_opening.specs.declared.error.OpenError.TheVariants as open_error;
-ghost use Rattle.mesa_opening.specs.Checking.{Counts, IsOfFiles};
-ghost use Rattle.mesa_opening.specs.Damages.{IsAsRecorded, IsFirstDamage};
-ghost use Rattle.mesa_opening.specs.Misfits.{journal_refusal};
-ghost use Rattle.mesa_opening.specs.Opening.{HasReason};
+ghost use Rattle.mesa_image.specs.Fitting.{shelved};
+ghost use Rattle.mesa_table.specs.Files.{AreRecorded, recorded_of};
+ghost use Rattle.mesa_table.specs.declared.recorded.Recorded.{Recorded as AnyRecorded};
+ghost use Rattle.mesa_recover.specs.declared.error.OpenError.TheVariants as open_error;
+ghost use Rattle.mesa_recover.specs.Checking.{Counts, IsOfFiles};
+ghost use Rattle.mesa_recover.specs.Damages.{IsAsRecorded, IsFirstDamage};
+ghost use Rattle.mesa_recover.specs.Misfits.{journal_refusal};
+ghost use Rattle.mesa_recover.specs.Opening.{HasReason};
 ghost use Rattle.mesa_recover.specs.Live.{HasLive};
 ghost use Rattle.mesa_recover.specs.Opened.{IsOpened};
 
-use crate::Opened;
 use crate::opened::LiveArea;
 use crate::records::{area_number, code, misfit, read_records};
+use crate::{OpenError, Opened, check_files};
 use mesa_catalog::Catalog;
 use mesa_disk::{Area, Disk, Made, Seen};
 use mesa_journal::{JournalError, read_live};
-use mesa_opening::{OpenError, check_files};
 use std::alloc::Global;
 
 /// Reads a store: both areas of the journal, then each record of the live one, and then each file that the

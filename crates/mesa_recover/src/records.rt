@@ -4,18 +4,18 @@ ghost use Rattle.mesa_disk.specs.declared.area.Area.TheVariants.{One};
 ghost use Rattle.mesa_journal.specs.Areas.{number_of};
 ghost use Rattle.mesa_journal.specs.Read.{bodies_of, placed_from};
 ghost use Rattle.mesa_record.specs.Reading.{record_at};
-ghost use Rattle.mesa_image_laws.specs.mesa_image.Catalog.{applied};
-ghost use Rattle.mesa_image_laws.specs.mesa_image.Fitting.{with_body};
-ghost use Rattle.mesa_image_laws.specs.mesa_image.Journaled.{catalog as catalog_of, first_body, first_by, first_record};
+ghost use Rattle.mesa_image.specs.Catalog.{applied};
+ghost use Rattle.mesa_image.specs.Fitting.{with_body};
+ghost use Rattle.mesa_image.specs.Journaled.{catalog as catalog_of, first_body, first_by, first_record};
 ghost use Rattle.mesa_catalog.specs.Kept.{unreserved};
-ghost use Rattle.mesa_opening.specs.Damages.{code_of};
-ghost use Rattle.mesa_opening.specs.Misfits.{IsMisfitAt, IsMisfitIn, IsOfRecords, misfit_at, refusal_of};
+ghost use Rattle.mesa_recover.specs.Damages.{code_of};
+ghost use Rattle.mesa_recover.specs.Misfits.{IsMisfitAt, IsMisfitIn, IsOfRecords, misfit_at, refusal_of};
 ghost use Rattle.mesa_recover.specs.Live.{IsRefusedBehind};
 
+use crate::OpenError;
 use mesa_catalog::Catalog;
 use mesa_disk::{Area, Seen};
 use mesa_journal::{Body, number_in};
-use mesa_opening::OpenError;
 use mesa_record::{Record, RecordError, decode};
 use std::alloc::{AllocError, Global};
 

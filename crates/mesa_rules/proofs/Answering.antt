@@ -26,13 +26,13 @@ use Rattle.mesa_model.specs.Refusals.{no_such_table, query_refusal}
 use Rattle.mesa_model.specs.Relations.{Relation, relation_columns, relation_content, relation_from, relation_of}
 use Rattle.mesa_model.specs.Warehouse.{Store, Table, Warehouse, no_table, table_at}
 use Rattle.mesa_catalog.specs.mesa_image.Catalog.{Stock, Catalog, no_stock, stock_at}
-use Rattle.mesa_catalog.specs.mesa_shelf.declared.relation.Relation.{Relation as Place}
+use Rattle.mesa_catalog.specs.mesa_table.declared.relation.Relation.{Relation as Place}
 use Rattle.mesa_catalog.specs.Lookups.{known_as, relation_from as place_from, relation_of as place_named}
-use Rattle.mesa_catalog.specs.mesa_shelf.Lookups.{view_names}
-use Rattle.mesa_asked.specs.declared.failure.Failure.{Failure}
-use Rattle.mesa_asked.specs.Built.{IsBuiltOf}
-use Rattle.mesa_asked.specs.Told.{IsDue}
-use Rattle.mesa_asked.proofs.Queries.{answered, no_relation, no_version, not_asked, not_built_by}
+use Rattle.mesa_catalog.specs.mesa_table.Lookups.{view_names}
+use Rattle.mesa_binding.specs.declared.failure.Failure.{Failure}
+use Rattle.mesa_binding.specs.Built.{IsBuiltOf}
+use Rattle.mesa_binding.specs.Told.{IsDue}
+use Rattle.mesa_binding.proofs.Queries.{answered, no_relation, no_version, not_asked, not_built_by}
 use Rattle.mesa_rules.specs.Found.{Sees, answer_found, columns_at, relation_seen, relation_with, version_in, without_rows}
 use Rattle.mesa_rules.specs.Seen.{known_in, known_of}
 

@@ -27,13 +27,13 @@ use Rattle.mesa_catalog.specs.mesa_image.Catalog.{Stock, Catalog, no_stock, stoc
 use Rattle.mesa_catalog.specs.mesa_image.Fitting.{names_in}
 use Rattle.mesa_catalog.specs.Lookups.{relation_of}
 use Rattle.mesa_catalog.proofs.Relations.{known_name}
-use Rattle.mesa_asked.specs.declared.failure.Failure.{Failure}
-use Rattle.mesa_asked.specs.declared.failure.Failure.TheVariants.{Memory, Refused}
-use Rattle.mesa_asked.specs.Asked.{change_allowed, columns_checked, more_views_checked}
-use Rattle.mesa_asked.specs.Told.{IsDue}
-use Rattle.mesa_asked.proofs.Alterings.{alter_done, alter_nowhere, alter_refused, altered}
-use Rattle.mesa_asked.proofs.Makings.{room_left, table_bad, table_done, table_full, table_made, table_taken, table_unnamed}
-use Rattle.mesa_asked.proofs.Viewings.{view_bad, view_done, view_made, view_nowhere, view_taken, view_unnamed}
+use Rattle.mesa_binding.specs.declared.failure.Failure.{Failure}
+use Rattle.mesa_binding.specs.declared.failure.Failure.TheVariants.{Memory, Refused}
+use Rattle.mesa_binding.specs.Asked.{change_allowed, columns_checked, more_views_checked}
+use Rattle.mesa_binding.specs.Told.{IsDue}
+use Rattle.mesa_binding.proofs.Alterings.{alter_done, alter_nowhere, alter_refused, altered}
+use Rattle.mesa_binding.proofs.Makings.{room_left, table_bad, table_done, table_full, table_made, table_taken, table_unnamed}
+use Rattle.mesa_binding.proofs.Viewings.{view_bad, view_done, view_made, view_nowhere, view_taken, view_unnamed}
 use Rattle.mesa_rules.specs.declared.ruled.Ruled.{Ruled}
 use Rattle.mesa_rules.specs.Ruled.{Doing, IsRefused, IsRuled}
 use Rattle.mesa_rules.specs.Seen.{HasCatalog, number_of}

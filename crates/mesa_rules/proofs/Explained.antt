@@ -21,11 +21,11 @@ use Rattle.mesa_model.specs.Versions.{version_asked}
 use Rattle.mesa_model.specs.Warehouse.{Table, Warehouse, table_at}
 use Rattle.mesa_catalog.specs.mesa_history.Machine.{Machine, explained, ranges_at}
 use Rattle.mesa_catalog.specs.mesa_image.Catalog.{Catalog, no_stock, ranges_of, stock_at}
-use Rattle.mesa_catalog.specs.mesa_shelf.declared.relation.Relation.{Relation as Place}
+use Rattle.mesa_catalog.specs.mesa_table.declared.relation.Relation.{Relation as Place}
 use Rattle.mesa_catalog.specs.Lookups.{relation_of as place_named}
-use Rattle.mesa_asked.specs.declared.failure.Failure.{Failure}
-use Rattle.mesa_asked.specs.declared.failure.Failure.TheVariants as failure
-use Rattle.mesa_asked.specs.Told.{IsDue}
+use Rattle.mesa_binding.specs.declared.failure.Failure.{Failure}
+use Rattle.mesa_binding.specs.declared.failure.Failure.TheVariants as failure
+use Rattle.mesa_binding.specs.Told.{IsDue}
 use Rattle.mesa_rules.specs.Found.{relation_seen, relation_with, without_rows}
 use Rattle.mesa_rules.specs.Seen.{HasCatalog}
 use Rattle.mesa_rules.proofs.Answering.{relation_there}

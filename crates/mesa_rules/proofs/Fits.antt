@@ -28,9 +28,9 @@ use Rattle.mesa_model.specs.Refusals.{bad_schema, schema_refusal, view_refusal}
 use Rattle.mesa_model.specs.Tables.{names_are_good}
 use Rattle.mesa_catalog.specs.mesa_image.Catalog.{Catalog, stock_at}
 use Rattle.mesa_catalog.specs.mesa_image.Fitting.{brings_new_files, fits, kind_fits, names_in}
-use Rattle.mesa_catalog.proofs.mesa_shelf.Counts.{chosen_count}
+use Rattle.mesa_catalog.proofs.mesa_table.Counts.{chosen_count}
 use Rattle.std.proofs.lemmas.List.{length-map}
-use Rattle.mesa_asked.specs.Asked.{columns_checked, more_views_checked}
+use Rattle.mesa_binding.specs.Asked.{columns_checked, more_views_checked}
 
 -- a record that brings no files fits where it keeps the rules of its kind
 pub fit_of : (c : Catalog) (r : Record) → kind_fits c r ≡ true → brings_new_files c r ≡ true → fits c r ≡ true

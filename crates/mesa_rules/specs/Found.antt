@@ -12,9 +12,9 @@ use Rattle.mesa_model.specs.Relations.{Relation, relation_columns, relation_cont
 use Rattle.mesa_model.specs.Versions.{version_asked}
 use Rattle.mesa_model.specs.Warehouse.{Store, Table, Warehouse, table_at}
 use Rattle.mesa_catalog.specs.mesa_image.Catalog.{Stock, Catalog, stock_at}
-use Rattle.mesa_catalog.specs.mesa_shelf.declared.relation.Relation.{Relation as Place}
+use Rattle.mesa_catalog.specs.mesa_table.declared.relation.Relation.{Relation as Place}
 use Rattle.mesa_catalog.specs.Lookups.{known_as}
-use Rattle.mesa_asked.specs.Built.{IsBuiltOf}
+use Rattle.mesa_binding.specs.Built.{IsBuiltOf}
 use Rattle.mesa_rules.specs.declared.found.Found.{Found}
 use Rattle.mesa_rules.specs.Seen.{known_in}
 

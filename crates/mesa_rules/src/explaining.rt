@@ -5,14 +5,14 @@ ghost use Rattle.mesa_model.specs.Warehouse.{Warehouse};
 ghost use Rattle.mesa_catalog.specs.mesa_history.Machine.{Machine, explained};
 ghost use Rattle.mesa_catalog.specs.mesa_image.Catalog.{ranges_of, stock_at};
 ghost use Rattle.mesa_catalog.specs.mesa_image.Shape.{IsCatalog};
-ghost use Rattle.mesa_asked.specs.Told.{IsDue};
+ghost use Rattle.mesa_binding.specs.Told.{IsDue};
 ghost use Rattle.mesa_rules.specs.Found.{relation_with, without_rows};
 ghost use Rattle.mesa_rules.specs.Seen.{HasCatalog};
 
 use crate::lookups::relation_asked;
 use crate::queries::relation_schema;
 use crate::versions::version_asked;
-use mesa_asked::{Failure, read_filter};
+use mesa_binding::{Failure, read_filter};
 use mesa_catalog::{Catalog, Relation};
 use mesa_list::{Items, TryCopy};
 use mesa_model::{ExplainWords, Refusal, Reply};

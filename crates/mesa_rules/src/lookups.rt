@@ -3,7 +3,7 @@ ghost use Rattle.std.specs.Prelude.{◌≡◌, ◌<◌, IfSome, length};
 ghost use Rattle.mesa_schema.specs.Columns.{place_of};
 ghost use Rattle.mesa_catalog.specs.mesa_image.Catalog.{stock_at};
 ghost use Rattle.mesa_catalog.specs.Lookups.{relation_of};
-ghost use Rattle.mesa_catalog.specs.mesa_shelf.Lookups.{view_names};
+ghost use Rattle.mesa_catalog.specs.mesa_table.Lookups.{view_names};
 ghost use Rattle.mesa_rules.specs.Seen.{number_of};
 
 use mesa_catalog::{Catalog, Relation};

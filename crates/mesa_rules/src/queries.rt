@@ -6,13 +6,13 @@ ghost use Rattle.mesa_model.specs.Query.{query_answer};
 ghost use Rattle.mesa_model.specs.Warehouse.{Warehouse};
 ghost use Rattle.mesa_catalog.specs.mesa_image.Catalog.{stock_at};
 ghost use Rattle.mesa_catalog.specs.Lookups.{relation_of};
-ghost use Rattle.mesa_asked.specs.Told.{IsDue};
+ghost use Rattle.mesa_binding.specs.Told.{IsDue};
 ghost use Rattle.mesa_rules.specs.Found.{IsAnswered, IsFound, Sees, columns_at, version_in};
 
 use crate::Found;
 use crate::lookups::relation_asked;
 use crate::versions::version_asked;
-use mesa_asked::{Failure, build_query, check_query};
+use mesa_binding::{Failure, build_query, check_query};
 use mesa_catalog::{Catalog, Relation};
 use mesa_filter::{QueryWords, VersionWord};
 use mesa_list::TryCopy;

@@ -3,12 +3,12 @@ ghost use Rattle.std.specs.Prelude.{◌≡◌, ◌<◌, Ok, Some, IfOk, IfErr, l
 ghost use Rattle.mesa_schema.specs.Recasts.{recast_checked};
 ghost use Rattle.mesa_model.specs.Tables.{recast_asked as asked_of};
 ghost use Rattle.mesa_catalog.specs.mesa_image.Catalog.{stock_at};
-ghost use Rattle.mesa_asked.specs.Told.{IsDue};
+ghost use Rattle.mesa_binding.specs.Told.{IsDue};
 ghost use Rattle.mesa_rules.specs.Recastings.{recast_due};
 ghost use Rattle.mesa_rules.specs.Seen.{number_of};
 
 use crate::lookups::table_number;
-use mesa_asked::{Failure, RecastNames, recast_asked};
+use mesa_binding::{Failure, RecastNames, recast_asked};
 use mesa_catalog::Catalog;
 use mesa_model::{RecastWords, Refusal};
 use std::alloc::Global;

@@ -9,13 +9,13 @@ ghost use Rattle.mesa_model.specs.declared.replies.Reply.TheVariants as reply;
 ghost use Rattle.mesa_model.specs.Refusals.{change_refusal};
 ghost use Rattle.mesa_model.specs.Tables.{alter_table, change_asked as asked_of, changed_name as name_of, columns_asked, make_table, make_view};
 ghost use Rattle.mesa_catalog.specs.mesa_image.Catalog.{stock_at};
-ghost use Rattle.mesa_asked.specs.Told.{IsDue};
+ghost use Rattle.mesa_binding.specs.Told.{IsDue};
 ghost use Rattle.mesa_rules.specs.Ruled.{IsRefused, IsRuled};
 ghost use Rattle.mesa_rules.specs.Seen.{number_of};
 
 use crate::Ruled;
 use crate::lookups::table_number;
-use mesa_asked::{
+use mesa_binding::{
     Failure, change_asked, change_failure, changed_name, read_name, schema_asked, view_asked,
 };
 use mesa_catalog::Catalog;

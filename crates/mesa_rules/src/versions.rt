@@ -10,7 +10,7 @@ ghost use Rattle.mesa_rules.specs.Seen.{HasCatalog, greatest_in, number_of};
 
 use crate::Ruled;
 use crate::lookups::table_number;
-use mesa_asked::Failure;
+use mesa_binding::Failure;
 use mesa_catalog::Catalog;
 use mesa_filter::VersionWord;
 use mesa_list::TryCopy;

@@ -1,5 +1,5 @@
 -- What a scan has given of an input.
-use Rattle.std.specs.Prelude.{◌≡◌, ℕ, ◌≤◌, List, map, take, length, Option, Some}
+use Rattle.std.specs.Prelude.{◌≡◌, ℕ, ◌≤◌, List, [], get_or, map, take, length, Option, Some}
 use Rattle.mesa_schema.specs.declared.rows.Row.{Row}
 use Rattle.mesa_schema.specs.Columns.{kinds_of}
 use Rattle.mesa_schema.specs.Changes.{columns_at, columns_of}
@@ -37,6 +37,10 @@ keys_in i = length (columns_at i.evolving.value i.epoch).keys
 -- the rows of a file's first blocks, lifted, that meet a filter
 abbrev pub matching : {R : Type 0} → Input R → KeyFilter → List Row → ℕ → List Row
 matching i f all n = filtered (columns_of i.evolving.value) f.terms (map (lift_by i) (rows_of (take n (blocks_of (index_of i.reader).layout all))))
+
+-- those of its block of a number
+abbrev pub matching_block : {R : Type 0} → Input R → KeyFilter → List Row → ℕ → List Row
+matching_block i f all n = filtered (columns_of i.evolving.value) f.terms (map (lift_by i) (get_or (blocks_of (index_of i.reader).layout all) n []))
 
 -- A scan has given just these rows of an input: they have the present columns' form, and where the file is told and its index is true of it, they are the matching rows of the blocks before the one at which it goes on. It has read those of these blocks that may have one.
 pub record HasScanned {R : Type 0} (bytes : R → Option (List ℕ)) (i : Input R) (s : Scan) (given : List Row) : Type 0 where

@@ -8,6 +8,7 @@ mod scanning;
 mod whole;
 
 pub use ahead::read_ahead;
+pub use allowing::allows;
 pub use matching::Matching;
 pub use scanning::Scan;
 pub use whole::{ScanCount, scan};

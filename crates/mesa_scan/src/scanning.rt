@@ -12,7 +12,7 @@ ghost use Rattle.mesa_scan.specs.Moving.{moved_to, told_in};
 ghost use Rattle.mesa_scan.specs.Scanning.{HasScanned, IsFilterOf, filter_of, next_of, read_of};
 
 use crate::ahead::read_on;
-use crate::allowing::may_have;
+use crate::allowing::{key_columns, may_have};
 use crate::matching::{Matching, matching_in};
 use mesa_block::fits_alone;
 use mesa_delta::{Ahead, FileError, Input, keys_between};
@@ -54,7 +54,7 @@ impl<'a> Scan<'a> {
             alloc,
             filter,
             lift,
-            columns: input.reader.index().schema().keys().len() as u8,
+            columns: key_columns(input),
             next: 0,
             blocks_read: 0,
         })

@@ -17,22 +17,22 @@ use Rattle.mesa_model.specs.declared.entries.Kind.TheVariants as kind
 use Rattle.mesa_model.specs.Entry.{IsShort, entry_of, history_of, number_of, numbers_of}
 use Rattle.mesa_model.specs.Query.{Answer}
 use Rattle.mesa_model.proofs.Numbers.{history_told}
-use Rattle.mesa_history.specs.Run.{State, Finished, place_of, begins}
-use Rattle.mesa_history.specs.Turns.{place_then}
-use Rattle.mesa_history.specs.Legal.{AllFit}
-use Rattle.mesa_history.proofs.Due.{fit_below}
-use Rattle.mesa_skeleton.specs.Rows.{Rows, no_rows}
-use Rattle.mesa_walk.specs.Queries.{IsOpenFrom}
-use Rattle.mesa_walk.specs.Turns.{Shown, IsTurn, IsSeen}
-use Rattle.mesa_walk.specs.Walk.{run_at}
+use Rattle.mesa_core.specs.mesa_history.Run.{State, Finished, place_of, begins}
+use Rattle.mesa_core.specs.mesa_history.Turns.{place_then}
+use Rattle.mesa_core.specs.mesa_history.Legal.{AllFit}
+use Rattle.mesa_core.proofs.mesa_history.Due.{fit_below}
+use Rattle.mesa_engine.specs.mesa_projection.Rows.{Rows, no_rows}
+use Rattle.mesa_engine.specs.mesa_invariant.Queries.{IsOpenFrom}
+use Rattle.mesa_engine.specs.mesa_invariant.Turns.{Shown, IsTurn, IsSeen}
+use Rattle.mesa_engine.specs.mesa_invariant.Walk.{run_at}
 use Rattle.mesa_tasks.specs.declared.prepared.LoadError.{LoadError}
 use Rattle.mesa_tasks.specs.declared.prepared.Prepared.{Prepared}
 use Rattle.mesa_tasks.specs.declared.querying.Pinned.{Pinned}
-use Rattle.mesa_core.proofs.mesa_passes.Behind.{comes_in_time, place_found, whole_found}
-use Rattle.mesa_core.proofs.mesa_passes.Turning.{found_history}
+use Rattle.mesa_core.proofs.mesa_session_laws.Behind.{comes_in_time, place_found, whole_found}
+use Rattle.mesa_core.proofs.mesa_session_laws.Turning.{found_history}
 use Rattle.mesa_tasks.specs.Batches.{HasPrepared}
-use Rattle.mesa_service.specs.Pins.{CanBeAnswered, IsOpenQuery, KnownPin, TakesQuery, known_pin}
-use Rattle.mesa_service.specs.Works.{WasGranted}
+use Rattle.mesa_session_laws.specs.Pins.{CanBeAnswered, IsOpenQuery, KnownPin, TakesQuery, known_pin}
+use Rattle.mesa_session_laws.specs.Works.{WasGranted}
 use Rattle.mesa_session.specs.Loads.{StaysPrepared}
 
 module _ (p : Known) (ticket : ℕ) (h : List Entry) (finds : Finds p ticket (numbers_of h)) (short : AllByRecursion IsShort h) where

@@ -8,3 +8,5 @@ pub mod Stepping
 pub mod Prepared
 pub mod Drawing
 pub mod Closing
+pub mod Counts
+pub mod Whole

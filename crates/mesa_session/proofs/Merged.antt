@@ -2,15 +2,15 @@
 use Rattle.std.proofs.Common.{◌≡◌, ℕ, zero, suc, ◌+◌, ◌≤◌, List, Vec, [], ◌∷◌, refl, sym, ap, ◌∙◌, subst, arith}
 use Rattle.std.specs.Prelude.{Option, None, Some, option_map, Result, Ok, Err, IfOk, IfErr, min, slice_get}
 use Rattle.std.specs.declared.alloc.Global.{Global}
-use Rattle.mesa_schema.specs.declared.rows.Row.{Row}
-use Rattle.mesa_schema.specs.declared.views.View.{View}
-use Rattle.mesa_schema.specs.Columns.{Columns}
-use Rattle.mesa_schema.specs.Changes.{Lineage, columns_of}
-use Rattle.mesa_schema.specs.Views.{view_columns, view_rows}
+use Rattle.mesa_model.specs.mesa_schema.declared.rows.Row.{Row}
+use Rattle.mesa_model.specs.mesa_schema.declared.views.View.{View}
+use Rattle.mesa_model.specs.mesa_schema.Columns.{Columns}
+use Rattle.mesa_model.specs.mesa_schema.Changes.{Lineage, columns_of}
+use Rattle.mesa_model.specs.mesa_schema.Views.{view_columns, view_rows}
 use Rattle.mesa_delta.specs.declared.error.FileError.TheVariants as file
 use Rattle.mesa_delta.specs.declared.input.Input.{Input}
-use Rattle.mesa_fault.specs.Causes.{HasFaultCause, last}
-use Rattle.mesa_file.specs.declared.damage.Damage.{Damage}
+use Rattle.mesa_disk.specs.mesa_fault.Causes.{HasFaultCause, last}
+use Rattle.mesa_disk.specs.mesa_file.declared.damage.Damage.{Damage}
 use Rattle.mesa_compact.specs.mesa_merge.Faults.{faults_of}
 use Rattle.mesa_compact.specs.mesa_merge.Inputs.{knowns_of}
 use Rattle.mesa_tasks.specs.GivingBack.{task_inputs}
@@ -24,12 +24,12 @@ use Rattle.mesa_tasks.specs.declared.merging.Task.{Task}
 use Rattle.mesa_tasks.specs.declared.merging.TaskView.{TaskView}
 use Rattle.mesa_compact.specs.Bounded.{AreBounded, AreOwnBounded, IsBounded}
 use Rattle.mesa_compact.specs.Tasks.{IsSameTask, KnownView, known_view, known_views}
-use Rattle.mesa_service.proofs.Known.{cons_none, first_same, merge_stays, none_some, only_stays, rest_same, some_same}
+use Rattle.mesa_session_laws.proofs.Known.{cons_none, first_same, merge_stays, none_some, only_stays, rest_same, some_same}
 use Rattle.mesa_compact.specs.Writing.{HasCauses, IsDraftFault, damaged_by}
 use Rattle.mesa_tasks.specs.Errors.{Differs}
-use Rattle.mesa_core.specs.mesa_passes.Answers.{Owes}
-use Rattle.mesa_service.specs.Drafts.{owed_by_work}
-use Rattle.mesa_service.specs.Works.{IsDeltaOf, known_task}
+use Rattle.mesa_core.specs.mesa_session_laws.Answers.{Owes}
+use Rattle.mesa_session_laws.specs.Drafts.{owed_by_work}
+use Rattle.mesa_session_laws.specs.Works.{IsDeltaOf, known_task}
 use Rattle.mesa_session.proofs.Damaged.{rose_failed}
 
 -- ---- what is known

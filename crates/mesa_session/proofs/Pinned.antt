@@ -1,32 +1,32 @@
 -- A pinned query that was answered: what is known of its files is what was known before, and its page is that of the files as they are now.
 use Rattle.std.proofs.Common.{◌≡◌, inl, inr, ⊎_elim, ℕ, ◌<◌, List, [], ◌∷◌, map, refl, sym, ap, ◌∙◌, subst}
 use Rattle.std.specs.Prelude.{◌⊎◌, Option, Result, Ok, Err, IfOk, IfErr}
-use Rattle.mesa_file.specs.declared.damage.Damage.{Damage}
-use Rattle.mesa_schema.specs.declared.rows.Row.{Row}
-use Rattle.mesa_schema.specs.Columns.{Columns}
-use Rattle.mesa_schema.specs.Changes.{epoch_of, lifted}
-use Rattle.mesa_schema.specs.Folded.{rows_of}
+use Rattle.mesa_disk.specs.mesa_file.declared.damage.Damage.{Damage}
+use Rattle.mesa_model.specs.mesa_schema.declared.rows.Row.{Row}
+use Rattle.mesa_model.specs.mesa_schema.Columns.{Columns}
+use Rattle.mesa_model.specs.mesa_schema.Changes.{epoch_of, lifted}
+use Rattle.mesa_model.specs.mesa_schema.Folded.{rows_of}
 use Rattle.mesa_model.specs.declared.replies.Page.{Page}
 use Rattle.mesa_script.specs.declared.rendered.Rendered.{Rendered}
 use Rattle.mesa_script.specs.Rows.{rendered}
-use Rattle.mesa_answer.specs.Answering.{KeepsSums}
-use Rattle.mesa_answer.specs.Gathering.{wanted_by}
+use Rattle.mesa_query.specs.mesa_answer.Answering.{KeepsSums}
+use Rattle.mesa_query.specs.mesa_answer.Gathering.{wanted_by}
 use Rattle.mesa_delta.specs.declared.error.FileError.{FileError}
 use Rattle.mesa_delta.specs.declared.error.FileError.TheVariants as file
 use Rattle.mesa_compact.specs.mesa_merge.Faults.{SomeRose, faults_of}
 use Rattle.mesa_compact.specs.mesa_merge.Inputs.{Known, AreTold, known_of, knowns_of}
-use Rattle.mesa_cursor.specs.Cursors.{reader_in}
+use Rattle.mesa_tasks.specs.mesa_cursor.Cursors.{reader_in}
 use Rattle.mesa_filter.specs.Query.{BuiltQuery}
 use Rattle.mesa_tasks.specs.GivingBack.{SomeFailed, pinned_inputs}
 use Rattle.mesa_tasks.specs.Pins.{relation_rows}
 use Rattle.mesa_tasks.specs.declared.querying.Pinned.{Pinned}
 use Rattle.mesa_tasks.specs.declared.querying.PinnedInput.{PinnedInput}
-use Rattle.mesa_service.proofs.Known.{cons_none, first_same, rest_same}
+use Rattle.mesa_session_laws.proofs.Known.{cons_none, first_same, rest_same}
 use Rattle.mesa_query.specs.Files.{IsDamageIn, inputs_in, owns_in}
 use Rattle.mesa_query.specs.Relation.{page_over, parts_pinned, parts_ungrouped, rows_under}
 use Rattle.mesa_query.specs.Sums.{IsSumIn}
-use Rattle.mesa_service.specs.Damages.{IsUnread}
-use Rattle.mesa_service.specs.Pins.{IsAnswer, IsAnswerDamage, IsPageOver, heading_in, known_pin}
+use Rattle.mesa_session_laws.specs.Damages.{IsUnread}
+use Rattle.mesa_session_laws.specs.Pins.{IsAnswer, IsAnswerDamage, IsPageOver, heading_in, known_pin}
 use Rattle.mesa_warm.specs.Same.{IsSamePin, readers_in}
 use Rattle.mesa_session.proofs.Damaged.{query_differs, rose_failed}
 

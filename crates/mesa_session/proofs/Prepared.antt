@@ -1,7 +1,7 @@
 -- A load's rows as they were prepared, and for how long they stand.
 use Rattle.std.proofs.Common.{◌≡◌, ℕ, ◌+◌, ◌<◌, ◌≤◌, List, ◌++◌, refl, sym, ap, ◌∙◌, subst, arith, true≢false}
 use Rattle.std.specs.Prelude.{Option, Result, Ok, Err, IsOk, IfOk, IfErr, OnOk, OnErr, min}
-use Rattle.mesa_fault.specs.Causes.{last}
+use Rattle.mesa_disk.specs.mesa_fault.Causes.{last}
 use Rattle.mesa_batch.specs.Batch.{Placed, batch_of}
 use Rattle.mesa_batch.specs.Glance.{Sight, tables_of}
 use Rattle.mesa_batch.specs.declared.words.BatchError.{BatchError}
@@ -14,8 +14,8 @@ use Rattle.mesa_tasks.specs.declared.prepared.Prepared.{Prepared}
 use Rattle.mesa_tasks.specs.declared.merging.CompactError.{CompactError}
 use Rattle.mesa_tasks.specs.declared.merging.CompactError.TheVariants as compact
 use Rattle.mesa_load.specs.Preparing.{IsReason}
-use Rattle.mesa_core.specs.mesa_passes.Answers.{Owes}
-use Rattle.mesa_service.specs.Drafts.{owed_by_error, owed_by_load, owed_by_work}
+use Rattle.mesa_core.specs.mesa_session_laws.Answers.{Owes}
+use Rattle.mesa_session_laws.specs.Drafts.{owed_by_error, owed_by_load, owed_by_work}
 use Rattle.mesa_session.specs.Loads.{StaysPrepared}
 
 ok_given : {A E : Type 0} (r : Result A E) → IsOk r → (a : A) × (r ≡ Ok a)

@@ -1,13 +1,13 @@
 // The turns of each command.
 ghost use Rattle.std.specs.Prelude.{◌≡◌, ◌<◌, ◌≤◌, not, Some, length};
-ghost use Rattle.mesa_history.specs.Legal.{is_query};
-ghost use Rattle.mesa_history.specs.Run.{First, Finished, command_at};
-ghost use Rattle.mesa_history.specs.Turns.{place_then};
+ghost use Rattle.mesa_core.specs.mesa_history.Legal.{is_query};
+ghost use Rattle.mesa_core.specs.mesa_history.Run.{First, Finished, command_at};
+ghost use Rattle.mesa_core.specs.mesa_history.Turns.{place_then};
 ghost use Rattle.mesa_model.specs.declared.commands.Command.TheVariants as command;
-ghost use Rattle.mesa_skeleton.specs.Rows.{no_rows};
-ghost use Rattle.mesa_walk.specs.Turns.{is_merge, is_recast};
-ghost use Rattle.mesa_core.specs.mesa_passes.Answers.{Answers};
-ghost use Rattle.mesa_core.specs.mesa_passes.Passes.{HasSort, Mine, Took, at_stage};
+ghost use Rattle.mesa_engine.specs.mesa_projection.Rows.{no_rows};
+ghost use Rattle.mesa_engine.specs.mesa_invariant.Turns.{is_merge, is_recast};
+ghost use Rattle.mesa_core.specs.mesa_session_laws.Answers.{Answers};
+ghost use Rattle.mesa_core.specs.mesa_session_laws.Passes.{HasSort, Mine, Took, at_stage};
 ghost use Rattle.mesa_session.specs.Drafts.{AreOf, GoOn};
 
 use crate::gate::{Gate, Point};
@@ -20,9 +20,9 @@ use crate::turns::{
 use mesa_batch::LoadRows;
 use mesa_core::Vault;
 use mesa_disk::{Bench, Disk, Made};
+use mesa_engine::Who;
+use mesa_engine_state::Naming;
 use mesa_io::Sink;
-use mesa_ledger::Naming;
-use mesa_log::Who;
 use mesa_model::Command;
 use mesa_tasks::Serials;
 use mesa_turn::{Pass, TurnLock};

@@ -1,13 +1,16 @@
-//! A session's run: its commands one after the other, each in the turns that it takes under the lock, with what can be done outside turns done there.
+//! Sessions: the commands of one after the other, each in the turns that it takes under the lock, with what can be done outside turns done there; and all sessions of a script over one lock, the prologue alone, and then the others at once, each in a thread.
 #![tactic(auto)]
 
+mod all;
 mod commands;
 mod gate;
 mod outside;
 mod preparing;
+mod serving;
 mod session;
 mod turns;
 
 pub use gate::{Gate, OpenGate, Point};
 pub use mesa_core::{Vault, turns_of};
+pub use serving::serve;
 pub use session::run_session;

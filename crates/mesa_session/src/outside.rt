@@ -2,32 +2,32 @@
 ghost use Rattle.std.specs.List.{AllByRecursion};
 ghost use Rattle.std.specs.Prelude.{◌≡◌, ◌⊎◌, ◌-◌, ◌≤◌, ℕ, IsTrue, IfOk, IfErr, IfSome, OnOk, Err, None, length, true};
 ghost use Rattle.mesa_key.specs.Spelling.{is_spelling};
-ghost use Rattle.mesa_schema.specs.declared.rows.Row.{Row as AnyRow};
+ghost use Rattle.mesa_model.specs.mesa_schema.declared.rows.Row.{Row as AnyRow};
 ghost use Rattle.mesa_filter.specs.Query.{group_kinds as kinds_grouped};
 ghost use Rattle.mesa_script.specs.Rows.{rendered};
-ghost use Rattle.mesa_core.specs.mesa_passes.Answers.{Owes};
+ghost use Rattle.mesa_core.specs.mesa_session_laws.Answers.{Owes};
 ghost use Rattle.mesa_tasks.specs.Recasts.{IsRecasted, IsRecastedSoFar, claim_of_recast, recast_ids};
 ghost use Rattle.mesa_tasks.specs.Serials.{AreNext, after_drafts};
 ghost use Rattle.mesa_tasks.specs.declared.merging.CompactError.TheVariants as compact;
 ghost use Rattle.mesa_delta.specs.declared.error.FileError.TheVariants as file_error;
 ghost use Rattle.mesa_core.specs.Handing.{AllAreRested, IsRecastGranted, IsRecastHeld};
-ghost use Rattle.mesa_core.specs.mesa_recasting.Rested.{HasUnpaid};
-ghost use Rattle.mesa_skeleton.specs.Rows.{no_rows};
+ghost use Rattle.mesa_core.specs.mesa_recast_turns.Rested.{HasUnpaid};
+ghost use Rattle.mesa_engine.specs.mesa_projection.Rows.{no_rows};
 ghost use Rattle.mesa_compact.specs.Tasks.{AreNumbered};
-ghost use Rattle.mesa_service.specs.Drafts.{owed_by_work};
-ghost use Rattle.mesa_service.specs.Pins.{CanBeAnswered, HasAnswered, heading_in, known_pin};
-ghost use Rattle.mesa_service.specs.Recasts.{CanBeRegrouped, HasRegrouped, known_recast};
-ghost use Rattle.mesa_service.specs.Works.{CanBeMerged, HasMerged, WasGranted, known_task};
+ghost use Rattle.mesa_session_laws.specs.Drafts.{owed_by_work};
+ghost use Rattle.mesa_session_laws.specs.Pins.{CanBeAnswered, HasAnswered, heading_in, known_pin};
+ghost use Rattle.mesa_session_laws.specs.Recasts.{CanBeRegrouped, HasRegrouped, known_recast};
+ghost use Rattle.mesa_session_laws.specs.Works.{CanBeMerged, HasMerged, WasGranted, known_task};
 
 use mesa_compact::merge_task;
 use mesa_copy::{regroup_more, regroup_task};
 use mesa_core::Vault;
 use mesa_delta::FileError;
 use mesa_disk::{Bench, Disk, FileReader, Made};
+use mesa_engine_state::Naming;
 use mesa_filter::Query;
 use mesa_io::Sink;
 use mesa_key::reads_back;
-use mesa_ledger::Naming;
 use mesa_model::Page;
 use mesa_print::render;
 use mesa_query::answer;
@@ -222,7 +222,7 @@ pub(crate) fn regrouped_now<'s, N: Naming + Send, M: Made, D: Disk<M>, K: Sink +
     ensures claim { claim_of_recast result.0 ≡ claim_of_recast task }
     ensures task { CanBeRegrouped D.Reader.bytes result.0 }
     ensures held { IsRecastHeld D.Reader.bytes N.script N.start N.origin N.sound vault.new.shown.history (known_recast D.Reader.bytes result.0) }
-    ensures rested { OnOk result.1 (vault.new.shown.running ≡ true → AllAreRested D.Reader.bytes vault.new.ledger (known_recast D.Reader.bytes result.0)) }
+    ensures rested { OnOk result.1 (vault.new.shown.running ≡ true → AllAreRested D.Reader.bytes vault.new.state (known_recast D.Reader.bytes result.0)) }
     ensures made { HasRegrouped M.bytes M.id_of D.Reader.bytes D.Reader.faults result.0 result.1 ⊎ ((result.1 ≡ Err (compact.File file_error.Read)) × HasUnpaid N.script N.start N.counted vault.new.shown vault.new.faults) }
     ensures owes { Owes (B.faults bench.old) (B.faults bench.new) (owed_by_work result.1) }
     ensures ids { (n : ℕ) × (ids.new ≡ after_drafts n ids.old) }

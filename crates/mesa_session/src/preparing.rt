@@ -1,24 +1,24 @@
 // A load's rows with their files: outside its turns, and once more where what it saw has changed.
 ghost use Rattle.std.specs.Prelude.{◌≡◌, ◌≤◌, ◌<◌, ◌+◌, ◌^◌, ℕ, List, Err, IfOk, IfNone, IfSome, OnErr};
-ghost use Rattle.mesa_fault.specs.Causes.{last};
+ghost use Rattle.mesa_disk.specs.mesa_fault.Causes.{last};
 ghost use Rattle.mesa_model.specs.declared.entries.Entry.{Entry as AnyEntry};
-ghost use Rattle.mesa_skeleton.specs.Rows.{no_rows};
+ghost use Rattle.mesa_engine.specs.mesa_projection.Rows.{no_rows};
 ghost use Rattle.mesa_tasks.specs.declared.prepared.LoadError.TheVariants as load;
 ghost use Rattle.mesa_tasks.specs.Batches.{HasPrepared, batch_ids};
 ghost use Rattle.mesa_tasks.specs.Serials.{AreNext, after_drafts};
-ghost use Rattle.mesa_core.specs.mesa_passes.Answers.{Owes};
-ghost use Rattle.mesa_service.specs.Drafts.{owed_by_load};
-ghost use Rattle.mesa_service.specs.Sight.{sight_after};
+ghost use Rattle.mesa_core.specs.mesa_session_laws.Answers.{Owes};
+ghost use Rattle.mesa_session_laws.specs.Drafts.{owed_by_load};
+ghost use Rattle.mesa_session_laws.specs.Sight.{sight_after};
 ghost use Rattle.mesa_session.specs.Drafts.{first_drafts};
 ghost use Rattle.mesa_session.specs.Loads.{StaysPrepared};
 
 use mesa_batch::{Glance, LoadRows};
 use mesa_core::Vault;
 use mesa_disk::{Bench, Disk, Made};
+use mesa_engine_state::Naming;
 use mesa_io::Sink;
-use mesa_ledger::Naming;
 use mesa_load::prepare;
-use mesa_service::sights_last;
+use mesa_session_laws::sights_last;
 use mesa_tasks::{LoadError, Prepared, Serials};
 use std::alloc::{AllocError, Global};
 use std::thread::Threads;

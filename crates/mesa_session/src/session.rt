@@ -1,17 +1,17 @@
 // A session's run.
 ghost use Rattle.std.specs.Prelude.{◌≡◌, ◌<◌, ◌≤◌, ◌*◌, length};
-ghost use Rattle.mesa_history.specs.Run.{First, commands_of as commands_in};
-ghost use Rattle.mesa_skeleton.specs.Rows.{no_rows};
-ghost use Rattle.mesa_core.specs.mesa_passes.Answers.{Answers};
-ghost use Rattle.mesa_core.specs.mesa_passes.Passes.{Gains, HasEnded, Mine, Took, at_stage};
+ghost use Rattle.mesa_core.specs.mesa_history.Run.{First, commands_of as commands_in};
+ghost use Rattle.mesa_engine.specs.mesa_projection.Rows.{no_rows};
+ghost use Rattle.mesa_core.specs.mesa_session_laws.Answers.{Answers};
+ghost use Rattle.mesa_core.specs.mesa_session_laws.Passes.{Gains, HasEnded, Mine, Took, at_stage};
 
 use crate::commands::run_command;
 use crate::gate::{Gate, Point};
 use mesa_core::Vault;
 use mesa_disk::{Bench, Disk, Made};
+use mesa_engine::Who;
+use mesa_engine_state::Naming;
 use mesa_io::Sink;
-use mesa_ledger::Naming;
-use mesa_log::Who;
 use mesa_model::{Command, Script};
 use mesa_tasks::Serials;
 use mesa_turn::{Pass, TurnLock};

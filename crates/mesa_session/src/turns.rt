@@ -1,21 +1,21 @@
 // One turn of each sort.
 ghost use Rattle.std.specs.Prelude.{◌≡◌, ◌<◌, ◌≤◌, ◌^◌, ℕ, not, true, IfNone, IfOk, IfSome, OnSome, Some, is_ok, length};
-ghost use Rattle.mesa_history.specs.Legal.{is_query};
-ghost use Rattle.mesa_history.specs.Run.{First, Looked, Granted, Renewed, Finished, command_at};
-ghost use Rattle.mesa_history.specs.Turns.{place_then};
+ghost use Rattle.mesa_core.specs.mesa_history.Legal.{is_query};
+ghost use Rattle.mesa_core.specs.mesa_history.Run.{First, Looked, Granted, Renewed, Finished, command_at};
+ghost use Rattle.mesa_core.specs.mesa_history.Turns.{place_then};
 ghost use Rattle.mesa_model.specs.declared.commands.Command.TheVariants as command;
 ghost use Rattle.mesa_model.specs.Entry.{history_of};
 ghost use Rattle.mesa_core.specs.Handing.{IsGranted, IsRecastGranted, Tells};
-ghost use Rattle.mesa_skeleton.specs.Rows.{no_rows};
-ghost use Rattle.mesa_walk.specs.Turns.{is_load, is_merge, is_recast, is_simple};
-ghost use Rattle.mesa_walk.specs.Works.{closing_stage, stage_if};
-ghost use Rattle.mesa_core.specs.mesa_passes.Answers.{Answers};
-ghost use Rattle.mesa_core.specs.mesa_passes.Passes.{HasSort, Holds, Mine, Took, at_stage};
-ghost use Rattle.mesa_service.specs.Drafts.{owed_by_error, owed_by_load, owed_by_work};
-ghost use Rattle.mesa_service.specs.Pins.{CanBeAnswered, HasAnswered, IsOpenQuery, known_pin};
-ghost use Rattle.mesa_service.specs.Sight.{sight_after};
-ghost use Rattle.mesa_service.specs.Recasts.{CanBeRegrouped, IsUnmade, known_recast};
-ghost use Rattle.mesa_service.specs.Works.{CanBeMerged, HasMerged, WasGranted, known_task};
+ghost use Rattle.mesa_engine.specs.mesa_projection.Rows.{no_rows};
+ghost use Rattle.mesa_engine.specs.mesa_invariant.Turns.{is_load, is_merge, is_recast, is_simple};
+ghost use Rattle.mesa_engine.specs.mesa_invariant.Works.{closing_stage, stage_if};
+ghost use Rattle.mesa_core.specs.mesa_session_laws.Answers.{Answers};
+ghost use Rattle.mesa_core.specs.mesa_session_laws.Passes.{HasSort, Holds, Mine, Took, at_stage};
+ghost use Rattle.mesa_session_laws.specs.Drafts.{owed_by_error, owed_by_load, owed_by_work};
+ghost use Rattle.mesa_session_laws.specs.Pins.{CanBeAnswered, HasAnswered, IsOpenQuery, known_pin};
+ghost use Rattle.mesa_session_laws.specs.Sight.{sight_after};
+ghost use Rattle.mesa_session_laws.specs.Recasts.{CanBeRegrouped, IsUnmade, known_recast};
+ghost use Rattle.mesa_session_laws.specs.Works.{CanBeMerged, HasMerged, WasGranted, known_task};
 ghost use Rattle.mesa_tasks.specs.Recasts.{IsRecasted, claim_of_recast};
 ghost use Rattle.mesa_tasks.specs.Tasks.{claim_in};
 ghost use Rattle.mesa_tasks.specs.Serials.{after_drafts};
@@ -27,9 +27,9 @@ use mesa_batch::{Glance, LoadRows};
 use mesa_core::Vault;
 use mesa_delta::FileError;
 use mesa_disk::{Bench, Disk, Made};
+use mesa_engine::Who;
+use mesa_engine_state::Naming;
 use mesa_io::Sink;
-use mesa_ledger::Naming;
-use mesa_log::Who;
 use mesa_script::Rendered;
 use mesa_tasks::{
     CompactError, LoadError, NewDelta, Pinned, Prepared, Recast, Recasted, Serials, Task,

@@ -7,29 +7,29 @@ use Rattle.mesa_disk.specs.declared.area.Area.{Area}
 use Rattle.mesa_model.specs.Warehouse.{Table}
 use Rattle.mesa_model.specs.declared.commands.Command.{Command}
 use Rattle.mesa_model.specs.declared.commands.Script.{Script}
-use Rattle.mesa_history.specs.Claims.{HasRanges}
-use Rattle.mesa_history.specs.Found.{Found, kept_in}
-use Rattle.mesa_history.specs.Replay.{runs}
-use Rattle.mesa_history.specs.Run.{begins}
-use Rattle.mesa_skeleton.specs.Bare.{bare_table}
-use Rattle.mesa_skeleton.specs.Rows.{Rows}
-use Rattle.mesa_trash.specs.Filed.{AreFresh}
-use Rattle.mesa_trash.specs.Holding.{Among}
-use Rattle.mesa_walk.specs.Books.{AreBooksOf}
-use Rattle.mesa_catalog.specs.mesa_image.Catalog.{Stock, Catalog, ranges_of}
-use Rattle.mesa_catalog.specs.mesa_image.Contents.{kept_of, table_of}
-use Rattle.mesa_catalog.specs.mesa_image.Sound.{StandsFor}
-use Rattle.mesa_catalog.specs.mesa_image_laws.Ids.{named}
-use Rattle.mesa_catalog.proofs.mesa_image_laws.AllSourced.{all_found}
-use Rattle.mesa_ledger.specs.Ledger.{books_of, first_id, skeleton_of}
-use Rattle.mesa_ledger.specs.Vault.{IsReady, Starts}
-use Rattle.mesa_sessions.specs.mesa_metadata.Memory.{opened_ledger}
-use Rattle.mesa_sessions.specs.mesa_engine.Beginning.{IsBegun}
-use Rattle.mesa_sessions.specs.mesa_engine.Engine.{most_turns, starts_of}
-use Rattle.mesa_catalog.specs.declared.begun.Begun.{Begun}
-use Rattle.mesa_passes.specs.Passes.{turns_of}
-use Rattle.mesa_telling.specs.mesa_ending.Scripts.{IsSmall, commands_in}
-use Rattle.mesa_telling.specs.mesa_ending.Start.{start_of}
+use Rattle.mesa_check.specs.mesa_history.Claims.{HasRanges}
+use Rattle.mesa_check.specs.mesa_history.Found.{Found, kept_in}
+use Rattle.mesa_check.specs.mesa_history.Replay.{runs}
+use Rattle.mesa_check.specs.mesa_history.Run.{begins}
+use Rattle.mesa_look.specs.mesa_projection.Bare.{bare_table}
+use Rattle.mesa_look.specs.mesa_projection.Rows.{Rows}
+use Rattle.mesa_engine_state.specs.mesa_trash.Filed.{AreFresh}
+use Rattle.mesa_engine_state.specs.mesa_trash.Holding.{Among}
+use Rattle.mesa_engine_state.specs.mesa_invariant.Books.{AreBooksOf}
+use Rattle.mesa_check.specs.mesa_catalog.mesa_image.Catalog.{Stock, Catalog, ranges_of}
+use Rattle.mesa_check.specs.mesa_catalog.mesa_image.Contents.{kept_of, table_of}
+use Rattle.mesa_check.specs.mesa_catalog.mesa_image.Sound.{StandsFor}
+use Rattle.mesa_check.specs.mesa_catalog.mesa_image.Ids.{named}
+use Rattle.mesa_check.proofs.mesa_catalog.mesa_image.AllSourced.{all_found}
+use Rattle.mesa_engine_state.specs.EngineState.{books_of, first_id, skeleton_of}
+use Rattle.mesa_engine_state.specs.Vault.{IsReady, Starts}
+use Rattle.mesa_session.specs.mesa_metadata.Memory.{opened_state}
+use Rattle.mesa_session.specs.mesa_engine.Beginning.{IsBegun}
+use Rattle.mesa_session.specs.mesa_engine.Engine.{most_turns, starts_of}
+use Rattle.mesa_check.specs.mesa_catalog.declared.begun.Begun.{Begun}
+use Rattle.mesa_session.specs.mesa_session_laws.Passes.{turns_of}
+use Rattle.mesa_exit.specs.mesa_exit_spec.Scripts.{IsSmall, commands_in}
+use Rattle.mesa_exit.specs.mesa_exit_spec.Start.{start_of}
 use Rattle.mesa_shell.specs.Begun.{IsReadyToRun, IsSoundBegun}
 use Rattle.mesa_shell.specs.Start.{origin_of}
 
@@ -45,10 +45,10 @@ bare_tables : (rows : Rows) (next : ℕ) (ts : List Stock) → map bare_table (m
 bare_tables rows next [] = refl
 bare_tables rows next (t ∷ ts) = ap (λ (x : List Table). skeleton_of t ∷ x) (bare_tables rows next ts)
 
-books_are : (script : Script) (c : Catalog) (area : Area) (end : ℕ) (w : Rows) (sound : Bool) → AreBooksOf sound (books_of w (opened_ledger c area end script.lease)) (start_of script c w)
+books_are : (script : Script) (c : Catalog) (area : Area) (end : ℕ) (w : Rows) (sound : Bool) → AreBooksOf sound (books_of w (opened_state c area end script.lease)) (start_of script c w)
 unfolding kept_of
 books_are script c area end w sound = record {
-  skeleton = λ i. record (books_of w (opened_ledger c area end script.lease)).bare { store = record { tables = bare_tables w c.next c.tables i; floor = c.floor } };
+  skeleton = λ i. record (books_of w (opened_state c area end script.lease)).bare { store = record { tables = bare_tables w c.next c.tables i; floor = c.floor } };
   machine = refl;
   rows = λ is. refl;
   pins = λ is. refl;
@@ -58,7 +58,7 @@ has_ranges : (script : Script) (c : Catalog) (w : Rows) → HasRanges (start_of 
 unfolding kept_of
 has_ranges script c w = length-map c.tables ranges_of ∙ sym (length-map c.tables (table_of w c.next))
 
-same_leases : (script : Script) (c : Catalog) (area : Area) (end : ℕ) (w : Rows) → (start_of script c w).machine.leases ≡ (opened_ledger c area end script.lease).leases
+same_leases : (script : Script) (c : Catalog) (area : Area) (end : ℕ) (w : Rows) → (start_of script c w).machine.leases ≡ (opened_state c area end script.lease).leases
 unfolding kept_of
 same_leases script c area end w = refl
 
@@ -80,7 +80,7 @@ module _ {D : Type 0} (story : D → Story) (b : Begun D) (ready : IsReadyToRun 
   fresh : AreFresh (first_id c.run + 0) (first_id (c.run + 1)) (story b.disk).told
   fresh i told id from past = ready.filed.fresh i told id (omega (arith, from, ready.run)) (omega (arith, past, ready.run))
 
-  is_ready : (turns : ℕ) → IsReady (opened_ledger c b.area b.end turns) (story b.disk)
+  is_ready : (turns : ℕ) → IsReady (opened_state c b.area b.end turns) (story b.disk)
   is_ready turns = record { long = ready.long; fresh = fresh; strays = ready.filed.strays }
 
   module _ (script : Script) (sound : Rows → Type 0) (held : Option (List ℕ)) where

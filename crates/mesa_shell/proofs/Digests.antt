@@ -1,6 +1,6 @@
 -- How a call ends that digests a relation, from the opening's clauses and those of the look-up.
 use Rattle.std.proofs.Common.{◌≡◌, ◌⊎◌, inl, inr, ℕ, List, refl, sym, subst}
-use Rattle.mesa_fault.specs.Causes.{Rose}
+use Rattle.mesa_disk.specs.mesa_fault.Causes.{Rose}
 use Rattle.mesa_disk.specs.Story.{Story, Unmoved}
 use Rattle.mesa_disk.specs.declared.area.Area.{Area}
 use Rattle.mesa_delta.specs.declared.error.FileError.TheVariants as file_error
@@ -8,17 +8,17 @@ use Rattle.mesa_look.specs.Latest.{HasLookReason}
 use Rattle.mesa_look.specs.declared.error.LookError.{LookError}
 use Rattle.mesa_look.specs.declared.error.LookError.TheVariants as look
 use Rattle.mesa_look.specs.Looked.{IsDigestOf}
-use Rattle.mesa_catalog.specs.mesa_image.Catalog.{Catalog}
-use Rattle.mesa_telling.specs.mesa_ending.mesa_opening.declared.error.OpenError.{OpenError}
-use Rattle.mesa_telling.specs.mesa_ending.mesa_opening.declared.error.OpenError.TheVariants as open_error
-use Rattle.mesa_telling.specs.mesa_ending.mesa_opening.Opening.{HasReason, IsRead}
-use Rattle.mesa_telling.specs.mesa_ending.Ports.{Ports}
-use Rattle.mesa_telling.specs.mesa_ending.Exits.{answered_status, digest_line, no_table_line, no_version_line, open_line, open_status, refused_status}
-use Rattle.mesa_telling.specs.mesa_ending.Ending.{Ended, EndsDigest, EndsNamed}
-use Rattle.mesa_telling.specs.mesa_ending.Unopened.{HasSameCounts, IsUnread}
-use Rattle.mesa_telling.specs.mesa_ending.declared.done.Devices.{Devices}
-use Rattle.mesa_telling.specs.mesa_ending.declared.done.Done.{Done}
-use Rattle.mesa_telling.proofs.mesa_ending.Unmoved.{read_before, sound_after}
+use Rattle.mesa_check.specs.mesa_catalog.mesa_image.Catalog.{Catalog}
+use Rattle.mesa_exit.specs.mesa_exit_spec.mesa_recover.declared.error.OpenError.{OpenError}
+use Rattle.mesa_exit.specs.mesa_exit_spec.mesa_recover.declared.error.OpenError.TheVariants as open_error
+use Rattle.mesa_exit.specs.mesa_exit_spec.mesa_recover.Opening.{HasReason, IsRead}
+use Rattle.mesa_exit.specs.mesa_exit_spec.Ports.{Ports}
+use Rattle.mesa_exit.specs.mesa_exit_spec.Exits.{answered_status, digest_line, no_table_line, no_version_line, open_line, open_status, refused_status}
+use Rattle.mesa_exit.specs.mesa_exit_spec.Ending.{Ended, EndsDigest, EndsNamed}
+use Rattle.mesa_exit.specs.mesa_exit_spec.Unopened.{HasSameCounts, IsUnread}
+use Rattle.mesa_exit.specs.mesa_exit_spec.declared.done.Devices.{Devices}
+use Rattle.mesa_exit.specs.mesa_exit_spec.declared.done.Done.{Done}
+use Rattle.mesa_exit.proofs.mesa_exit_spec.Unmoved.{read_before, sound_after}
 use Rattle.mesa_shell.proofs.Verdicts.{counts_there, fault_there, nothing_moved}
 
 module _ {K D M B : Type 0} (ports : Ports K D M B) (g : Devices K D B) (done : Done K D B) (name : List ℕ) where

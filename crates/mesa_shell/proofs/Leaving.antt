@@ -1,19 +1,19 @@
 -- What a run under its name leaves, put together.
 use Rattle.std.proofs.Common.{◌≡◌, ◌+◌, ◌<◌, List, [], length, true, false}
 use Rattle.std.specs.Prelude.{Result, Ok, Err, IfOk, IfErr}
-use Rattle.mesa_fault.specs.Causes.{last, Rose}
+use Rattle.mesa_disk.specs.mesa_fault.Causes.{last, Rose}
 use Rattle.mesa_model.specs.declared.commands.Script.{Script}
-use Rattle.mesa_history.specs.Refused.{some_refused}
-use Rattle.mesa_history.specs.Run.{begins}
-use Rattle.mesa_skeleton.specs.Rows.{Rows}
-use Rattle.mesa_catalog.specs.declared.begun.Begun.{Begun}
-use Rattle.mesa_walk.specs.Walk.{AllFound}
-use Rattle.mesa_ledger.specs.Vault.{IsRead}
-use Rattle.mesa_telling.specs.mesa_ending.Counting.{HasBenchCounts}
-use Rattle.mesa_telling.specs.mesa_ending.Ports.{Ports}
-use Rattle.mesa_telling.specs.mesa_ending.Run.{RanAnyhow, RanSoundly, outset_from}
-use Rattle.mesa_telling.specs.mesa_ending.Start.{start_of}
-use Rattle.mesa_telling.specs.mesa_ending.declared.done.Devices.{Devices}
+use Rattle.mesa_check.specs.mesa_history.Refused.{some_refused}
+use Rattle.mesa_check.specs.mesa_history.Run.{begins}
+use Rattle.mesa_look.specs.mesa_projection.Rows.{Rows}
+use Rattle.mesa_check.specs.mesa_catalog.declared.begun.Begun.{Begun}
+use Rattle.mesa_engine_state.specs.mesa_invariant.Walk.{AllFound}
+use Rattle.mesa_engine_state.specs.Vault.{IsRead}
+use Rattle.mesa_exit.specs.mesa_exit_spec.Counting.{HasBenchCounts}
+use Rattle.mesa_exit.specs.mesa_exit_spec.Ports.{Ports}
+use Rattle.mesa_exit.specs.mesa_exit_spec.Run.{RanAnyhow, RanSoundly, outset_from}
+use Rattle.mesa_exit.specs.mesa_exit_spec.Start.{start_of}
+use Rattle.mesa_exit.specs.mesa_exit_spec.declared.done.Devices.{Devices}
 use Rattle.mesa_shell.specs.Begun.{IsSoundBegun}
 use Rattle.mesa_shell.specs.Ran.{HasNotRun, RanFrom}
 use Rattle.mesa_shell.specs.declared.running.Left.{Left}

@@ -2,28 +2,28 @@
 use Rattle.std.proofs.Common.{◌≡◌, ⊎_elim, ℕ, ◌+◌, ◌<◌, ◌≤◌, [], sym, ◌∙◌, ap, subst, arith, Some, None}
 use Rattle.std.proofs.lemmas.Bool.{cases_lt}
 use Rattle.std.specs.Prelude.{Result, Ok, Err, IfOk, IfErr}
-use Rattle.mesa_fault.specs.Causes.{last}
+use Rattle.mesa_disk.specs.mesa_fault.Causes.{last}
 use Rattle.mesa_disk.specs.Image.{Image}
 use Rattle.mesa_disk.specs.Story.{Story, Unmoved}
-use Rattle.mesa_trash.specs.Filed.{FilesAdopted}
-use Rattle.mesa_skeleton.specs.Rows.{Rows}
-use Rattle.mesa_catalog.specs.mesa_image.Catalog.{Catalog, applied}
-use Rattle.mesa_catalog.specs.mesa_image.Shape.{IsCatalog}
-use Rattle.mesa_catalog.specs.mesa_image.Fitting.{max_runs}
-use Rattle.mesa_catalog.specs.mesa_image_laws.Countable.{AreCounted}
-use Rattle.mesa_catalog.specs.mesa_image_laws.Ids.{HasOwnIds, named}
-use Rattle.mesa_catalog.specs.mesa_image_laws.Recordable.{AreRecordable}
-use Rattle.mesa_catalog.proofs.mesa_image_laws.Wholes.{catalog_whole}
-use Rattle.mesa_telling.specs.mesa_ending.mesa_opening.declared.error.OpenError.{OpenError}
-use Rattle.mesa_telling.specs.mesa_ending.mesa_opening.declared.error.OpenError.TheVariants as open_error
-use Rattle.mesa_telling.specs.mesa_ending.mesa_opening.Opening.{HasReason, IsHeldAs, IsSoundStart, Keeps, first_id, most_runs, run_record}
-use Rattle.mesa_telling.proofs.mesa_ending.mesa_opening.Beginnings.{runs_few}
-use Rattle.mesa_ledger.specs.Vault.{IsRead}
-use Rattle.mesa_catalog.specs.declared.begun.Begun.{Begun}
+use Rattle.mesa_engine_state.specs.mesa_trash.Filed.{FilesAdopted}
+use Rattle.mesa_look.specs.mesa_projection.Rows.{Rows}
+use Rattle.mesa_check.specs.mesa_catalog.mesa_image.Catalog.{Catalog, applied}
+use Rattle.mesa_check.specs.mesa_catalog.mesa_image.Shape.{IsCatalog}
+use Rattle.mesa_check.specs.mesa_catalog.mesa_image.Fitting.{max_runs}
+use Rattle.mesa_check.specs.mesa_catalog.mesa_image.Countable.{AreCounted}
+use Rattle.mesa_check.specs.mesa_catalog.mesa_image.Ids.{HasOwnIds, named}
+use Rattle.mesa_check.specs.mesa_catalog.mesa_image.Recordable.{AreRecordable}
+use Rattle.mesa_check.proofs.mesa_catalog.mesa_image.Wholes.{catalog_whole}
+use Rattle.mesa_exit.specs.mesa_exit_spec.mesa_recover.declared.error.OpenError.{OpenError}
+use Rattle.mesa_exit.specs.mesa_exit_spec.mesa_recover.declared.error.OpenError.TheVariants as open_error
+use Rattle.mesa_exit.specs.mesa_exit_spec.mesa_recover.Opening.{HasReason, IsHeldAs, IsSoundStart, Keeps, first_id, most_runs, run_record}
+use Rattle.mesa_exit.proofs.mesa_exit_spec.mesa_recover.Beginnings.{runs_few}
+use Rattle.mesa_engine_state.specs.Vault.{IsRead}
+use Rattle.mesa_check.specs.mesa_catalog.declared.begun.Begun.{Begun}
 use Rattle.mesa_recover.specs.declared.opened.Opened.{Opened}
 use Rattle.mesa_recover.specs.Opened.{IsOpened}
-use Rattle.mesa_telling.specs.mesa_ending.Unopened.{HasSameCounts, IsUnopened}
-use Rattle.mesa_telling.proofs.mesa_ending.Unmoved.{keeps_before, keeps_unmoved, read_before, reason_before, sound_after}
+use Rattle.mesa_exit.specs.mesa_exit_spec.Unopened.{HasSameCounts, IsUnopened}
+use Rattle.mesa_exit.proofs.mesa_exit_spec.Unmoved.{keeps_before, keeps_unmoved, read_before, reason_before, sound_after}
 use Rattle.mesa_shell.specs.Begun.{HasBegun}
 
 run_shaped : (c : Catalog) (number : ℕ) → IsCatalog c → IsCatalog (applied c (run_record number))

@@ -3,23 +3,23 @@ use Rattle.std.proofs.Common.{◌≡◌, ℕ, ◌+◌, ◌^◌, ◌<◌, ◌≤�
 use Rattle.std.proofs.lemmas.List.{append-nil, drop_all, take_all}
 use Rattle.std.specs.List.{AllByRecursion}
 use Rattle.std.specs.Prelude.{◌==◌, ◌&&◌}
-use Rattle.mesa_fault.specs.Causes.{last}
+use Rattle.mesa_disk.specs.mesa_fault.Causes.{last}
 use Rattle.mesa_disk.specs.Story.{Story}
 use Rattle.mesa_model.specs.declared.commands.Script.{Script}
 use Rattle.mesa_model.specs.declared.entries.Entry.{Entry}
-use Rattle.mesa_history.specs.Counting.{answers_bench, count_in, is_bench_fault, is_disk_fault, one_if}
-use Rattle.mesa_history.specs.Legal.{IsLegal}
-use Rattle.mesa_history.specs.Replay.{closes, go, runs}
-use Rattle.mesa_history.specs.Run.{Run, State, begins}
-use Rattle.mesa_skeleton.specs.Bare.{bare_run, bare_state}
-use Rattle.mesa_skeleton.proofs.Alike.{go_alike, legal_alike}
-use Rattle.mesa_passes.specs.Answers.{AreTimely, HasCounted, HaveCounted}
-use Rattle.mesa_walk.specs.Printing.{IsPrintedButRows}
-use Rattle.mesa_walk.specs.Walk.{HasCounted as HasCountedFaults}
-use Rattle.mesa_telling.specs.mesa_ending.Counting.{HasBenchCounts}
-use Rattle.mesa_telling.specs.mesa_ending.Run.{RanAnyhow}
-use Rattle.mesa_ledger.specs.Vault.{IsRead}
-use Rattle.mesa_sessions.specs.mesa_engine.Ending.{ReadsState}
+use Rattle.mesa_check.specs.mesa_history.Counting.{answers_bench, count_in, is_bench_fault, is_disk_fault, one_if}
+use Rattle.mesa_check.specs.mesa_history.Legal.{IsLegal}
+use Rattle.mesa_check.specs.mesa_history.Replay.{closes, go, runs}
+use Rattle.mesa_check.specs.mesa_history.Run.{Run, State, begins}
+use Rattle.mesa_look.specs.mesa_projection.Bare.{bare_run, bare_state}
+use Rattle.mesa_look.proofs.mesa_projection.Alike.{go_alike, legal_alike}
+use Rattle.mesa_session.specs.mesa_session_laws.Answers.{AreTimely, HasCounted, HaveCounted}
+use Rattle.mesa_engine_state.specs.mesa_invariant.Printing.{IsPrintedButRows}
+use Rattle.mesa_engine_state.specs.mesa_invariant.Walk.{HasCounted as HasCountedFaults}
+use Rattle.mesa_exit.specs.mesa_exit_spec.Counting.{HasBenchCounts}
+use Rattle.mesa_exit.specs.mesa_exit_spec.Run.{RanAnyhow}
+use Rattle.mesa_engine_state.specs.Vault.{IsRead}
+use Rattle.mesa_session.specs.mesa_engine.Ending.{ReadsState}
 
 -- ---- moments
 

@@ -1,37 +1,37 @@
 -- What a call's run was to the store that the call was given.
 use Rattle.std.proofs.Common.{◌≡◌, ℕ, ◌+◌, ◌<◌, [], refl, sym, ◌∙◌, ap, subst, arith, inl, inr, ◌∷◌, ◌++◌, List}
 use Rattle.std.specs.Prelude.{if◌then◌else◌}
-use Rattle.mesa_fault.specs.Causes.{last}
+use Rattle.mesa_disk.specs.mesa_fault.Causes.{last}
 use Rattle.mesa_disk.specs.Image.{Image}
 use Rattle.mesa_disk.specs.Story.{Story}
 use Rattle.mesa_model.specs.declared.commands.Script.{Script}
 use Rattle.mesa_model.specs.declared.entries.Entry.{Entry}
-use Rattle.mesa_history.specs.Found.{Found, kept_in}
-use Rattle.mesa_history.specs.Refused.{some_refused}
-use Rattle.mesa_history.specs.Replay.{runs}
-use Rattle.mesa_history.specs.Run.{begins}
+use Rattle.mesa_check.specs.mesa_history.Found.{Found, kept_in}
+use Rattle.mesa_check.specs.mesa_history.Refused.{some_refused}
+use Rattle.mesa_check.specs.mesa_history.Replay.{runs}
+use Rattle.mesa_check.specs.mesa_history.Run.{begins}
 use Rattle.mesa_laws.specs.Printed.{AnswersFromTheFold}
 use Rattle.mesa_laws.proofs.ReachedAnswers.{pages_fold}
-use Rattle.mesa_skeleton.specs.Rows.{Rows}
-use Rattle.mesa_catalog.specs.mesa_image.Catalog.{Catalog}
-use Rattle.mesa_catalog.specs.mesa_image.Contents.{kept_of}
-use Rattle.mesa_catalog.specs.mesa_image.Sound.{StandsFor}
-use Rattle.mesa_catalog.proofs.mesa_image_laws.Wholes.{catalog_whole}
-use Rattle.mesa_telling.specs.mesa_ending.mesa_opening.Opening.{IsSoundStart, Keeps}
-use Rattle.mesa_catalog.specs.declared.begun.Begun.{Begun}
-use Rattle.mesa_telling.specs.mesa_ending.Counting.{HasBenchCounts}
-use Rattle.mesa_telling.specs.mesa_ending.Ports.{Ports}
-use Rattle.mesa_telling.specs.mesa_ending.Run.{Ran, RanAnyhow, RanSoundly}
-use Rattle.mesa_telling.specs.mesa_ending.Start.{AreTold, IsSoundStore, start_of}
-use Rattle.mesa_telling.specs.mesa_ending.Unopened.{StaysSound}
-use Rattle.mesa_telling.specs.mesa_ending.Ending.{EndsScript}
-use Rattle.mesa_telling.specs.mesa_ending.declared.done.Devices.{Devices}
-use Rattle.mesa_telling.specs.mesa_ending.declared.done.Done.{Done}
-use Rattle.mesa_telling.proofs.mesa_ending.Alike.{kept_begun, start_begun}
-use Rattle.mesa_telling.proofs.mesa_ending.Alone.{alone_appends}
-use Rattle.mesa_telling.proofs.mesa_ending.Ends.{run_ended}
-use Rattle.mesa_telling.proofs.mesa_ending.Readable.{reads_same}
-use Rattle.mesa_telling.proofs.mesa_ending.WellFormed.{well_formed_start}
+use Rattle.mesa_look.specs.mesa_projection.Rows.{Rows}
+use Rattle.mesa_check.specs.mesa_catalog.mesa_image.Catalog.{Catalog}
+use Rattle.mesa_check.specs.mesa_catalog.mesa_image.Contents.{kept_of}
+use Rattle.mesa_check.specs.mesa_catalog.mesa_image.Sound.{StandsFor}
+use Rattle.mesa_check.proofs.mesa_catalog.mesa_image.Wholes.{catalog_whole}
+use Rattle.mesa_exit.specs.mesa_exit_spec.mesa_recover.Opening.{IsSoundStart, Keeps}
+use Rattle.mesa_check.specs.mesa_catalog.declared.begun.Begun.{Begun}
+use Rattle.mesa_exit.specs.mesa_exit_spec.Counting.{HasBenchCounts}
+use Rattle.mesa_exit.specs.mesa_exit_spec.Ports.{Ports}
+use Rattle.mesa_exit.specs.mesa_exit_spec.Run.{Ran, RanAnyhow, RanSoundly}
+use Rattle.mesa_exit.specs.mesa_exit_spec.Start.{AreTold, IsSoundStore, start_of}
+use Rattle.mesa_exit.specs.mesa_exit_spec.Unopened.{StaysSound}
+use Rattle.mesa_exit.specs.mesa_exit_spec.Ending.{EndsScript}
+use Rattle.mesa_exit.specs.mesa_exit_spec.declared.done.Devices.{Devices}
+use Rattle.mesa_exit.specs.mesa_exit_spec.declared.done.Done.{Done}
+use Rattle.mesa_exit.proofs.mesa_exit_spec.Alike.{kept_begun, start_begun}
+use Rattle.mesa_exit.proofs.mesa_exit_spec.Alone.{alone_appends}
+use Rattle.mesa_exit.proofs.mesa_exit_spec.Ends.{run_ended}
+use Rattle.mesa_exit.proofs.mesa_exit_spec.Readable.{reads_same}
+use Rattle.mesa_exit.proofs.mesa_exit_spec.WellFormed.{well_formed_start}
 use Rattle.mesa_shell.specs.Begun.{HasBegun, IsSoundBegun}
 use Rattle.mesa_shell.specs.Ran.{HasNotRun, RanFrom}
 use Rattle.mesa_shell.specs.declared.running.Left.{Left}

@@ -2,26 +2,26 @@
 use Rattle.std.proofs.Common.{◌≡◌, ℕ, ◌+◌, ◌++◌, List, [], Bool, true, false, refl, sym, ap, subst, inl, inr, Option, Some, Ok}
 use Rattle.std.specs.Prelude.{if◌then◌else◌}
 use Rattle.std.specs.Io.KnownBytes.{Appends}
-use Rattle.mesa_telling.specs.mesa_ending.mesa_alone.Alone.{output_alone}
+use Rattle.mesa_exit.specs.mesa_exit_spec.mesa_single_session.Alone.{output_alone}
 use Rattle.mesa_disk.specs.Story.{Story}
 use Rattle.mesa_model.specs.declared.commands.Script.{Script}
-use Rattle.mesa_history.specs.Refused.{some_refused}
-use Rattle.mesa_history.specs.Run.{begins}
+use Rattle.mesa_check.specs.mesa_history.Refused.{some_refused}
+use Rattle.mesa_check.specs.mesa_history.Run.{begins}
 use Rattle.mesa_script.specs.Generated.{generated}
 use Rattle.mesa_script.specs.Script.{script_of}
-use Rattle.mesa_skeleton.specs.Rows.{Rows}
-use Rattle.mesa_walk.specs.Printing.{HasAll, HasAllButRows, IsOutputButRows}
-use Rattle.mesa_walk.specs.mesa_output.Output.{IsOutput}
-use Rattle.mesa_catalog.specs.mesa_image.Catalog.{Catalog}
-use Rattle.mesa_excerpt.specs.Excerpt.{CutsOut, HasPlainNames}
-use Rattle.mesa_telling.specs.mesa_ending.Ports.{ports}
-use Rattle.mesa_telling.specs.mesa_ending.Exits.{gen_line, memory_line, memory_status}
-use Rattle.mesa_telling.specs.mesa_ending.Run.{Ran, RanAnyhow, RanSoundly}
-use Rattle.mesa_telling.specs.mesa_ending.Start.{start_of}
-use Rattle.mesa_telling.specs.mesa_ending.Ending.{EndsShown, HasShown, Prints, RanInMemory, Shows}
-use Rattle.mesa_telling.specs.mesa_ending.declared.done.Devices.{Devices}
-use Rattle.mesa_telling.specs.mesa_ending.declared.done.Done.{Done}
-use Rattle.mesa_telling.proofs.mesa_ending.Named.{start_plain}
+use Rattle.mesa_look.specs.mesa_projection.Rows.{Rows}
+use Rattle.mesa_engine_state.specs.mesa_invariant.Printing.{HasAll, HasAllButRows, IsOutputButRows}
+use Rattle.mesa_engine_state.specs.mesa_invariant.mesa_output.Output.{IsOutput}
+use Rattle.mesa_check.specs.mesa_catalog.mesa_image.Catalog.{Catalog}
+use Rattle.mesa_generate.specs.Excerpt.{CutsOut, HasPlainNames}
+use Rattle.mesa_exit.specs.mesa_exit_spec.Ports.{ports}
+use Rattle.mesa_exit.specs.mesa_exit_spec.Exits.{gen_line, memory_line, memory_status}
+use Rattle.mesa_exit.specs.mesa_exit_spec.Run.{Ran, RanAnyhow, RanSoundly}
+use Rattle.mesa_exit.specs.mesa_exit_spec.Start.{start_of}
+use Rattle.mesa_exit.specs.mesa_exit_spec.Ending.{EndsShown, HasShown, Prints, RanInMemory, Shows}
+use Rattle.mesa_exit.specs.mesa_exit_spec.declared.done.Devices.{Devices}
+use Rattle.mesa_exit.specs.mesa_exit_spec.declared.done.Done.{Done}
+use Rattle.mesa_exit.proofs.mesa_exit_spec.Named.{start_plain}
 use Rattle.mesa_shell.specs.declared.running.Left.{Left}
 
 module _ {K S D M B : Type 0} (held : K → Option (List ℕ)) (faults : K → ℕ) (kept : S → Option (List ℕ)) (kept_faults : S → ℕ) (story : D → Story) (bytes : M → Option (List ℕ)) (bench_faults : B → ℕ)

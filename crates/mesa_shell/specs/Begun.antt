@@ -1,22 +1,22 @@
 -- A store on which a run has begun.
 use Rattle.std.specs.Prelude.{◌≡◌, ℕ, ◌+◌, ◌<◌, ◌≤◌, ◌^◌, List, [], None, Option, Some}
-use Rattle.mesa_fault.specs.Causes.{last}
+use Rattle.mesa_disk.specs.mesa_fault.Causes.{last}
 use Rattle.mesa_disk.specs.Image.{Image}
 use Rattle.mesa_disk.specs.Story.{Story}
 use Rattle.mesa_disk.specs.declared.area.Area.{Area}
-use Rattle.mesa_trash.specs.Filed.{FilesAdopted}
-use Rattle.mesa_skeleton.specs.Rows.{Rows}
-use Rattle.mesa_catalog.specs.mesa_image.Catalog.{Catalog, applied}
-use Rattle.mesa_catalog.specs.mesa_image.Contents.{kept_of}
-use Rattle.mesa_catalog.specs.mesa_image.Shape.{IsCatalog}
-use Rattle.mesa_catalog.specs.mesa_image.Sound.{StandsFor}
-use Rattle.mesa_catalog.specs.mesa_image_laws.Countable.{AreCounted}
-use Rattle.mesa_catalog.specs.mesa_image_laws.Ids.{HasOwnIds, named}
-use Rattle.mesa_catalog.specs.mesa_image_laws.Recordable.{AreRecordable}
-use Rattle.mesa_telling.specs.mesa_ending.mesa_opening.Opening.{IsHeldAs, IsSoundStart, Keeps, ReadsAs, first_id, most_runs, run_record}
-use Rattle.mesa_ledger.specs.Vault.{IsRead}
-use Rattle.mesa_catalog.specs.declared.begun.Begun.{Begun}
-use Rattle.mesa_telling.specs.mesa_ending.Start.{AreTold}
+use Rattle.mesa_engine_state.specs.mesa_trash.Filed.{FilesAdopted}
+use Rattle.mesa_look.specs.mesa_projection.Rows.{Rows}
+use Rattle.mesa_check.specs.mesa_catalog.mesa_image.Catalog.{Catalog, applied}
+use Rattle.mesa_check.specs.mesa_catalog.mesa_image.Contents.{kept_of}
+use Rattle.mesa_check.specs.mesa_catalog.mesa_image.Shape.{IsCatalog}
+use Rattle.mesa_check.specs.mesa_catalog.mesa_image.Sound.{StandsFor}
+use Rattle.mesa_check.specs.mesa_catalog.mesa_image.Countable.{AreCounted}
+use Rattle.mesa_check.specs.mesa_catalog.mesa_image.Ids.{HasOwnIds, named}
+use Rattle.mesa_check.specs.mesa_catalog.mesa_image.Recordable.{AreRecordable}
+use Rattle.mesa_exit.specs.mesa_exit_spec.mesa_recover.Opening.{IsHeldAs, IsSoundStart, Keeps, ReadsAs, first_id, most_runs, run_record}
+use Rattle.mesa_engine_state.specs.Vault.{IsRead}
+use Rattle.mesa_check.specs.mesa_catalog.declared.begun.Begun.{Begun}
+use Rattle.mesa_exit.specs.mesa_exit_spec.Start.{AreTold}
 
 -- What holds on any store on which a run has begun: its catalogue is that of the run, and has the shape and the ids of one, and what its files are to keep; the area in which the journal goes on has room for a body behind its end; the files that are there are those that the catalogue names, and none has an id that the run may give; and the clock isn't before the run's start.
 pub record IsReadyToRun {D : Type 0} (story : D → Story) (b : Begun D) : Type 0 where

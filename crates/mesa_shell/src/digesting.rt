@@ -1,14 +1,14 @@
 // Digests of a relation.
-ghost use Rattle.mesa_telling.specs.mesa_ending.Ending as spec;
-ghost use Rattle.mesa_telling.specs.mesa_ending.Ports.{ports};
+ghost use Rattle.mesa_exit.specs.mesa_exit_spec.Ending as spec;
+ghost use Rattle.mesa_exit.specs.mesa_exit_spec.Ports.{ports};
 
 use crate::checking::disk_of;
 use mesa_delta::FileError;
 use mesa_disk::{Bench, Disk, Made};
+use mesa_exit::{Devices, Done, ended, ended_digest, ended_opening, statuses};
 use mesa_io::Sink;
 use mesa_look::{LookError, look};
 use mesa_recover::{OpenError, read};
-use mesa_telling::{Devices, Done, ended, ended_digest, ended_opening, statuses};
 use std::alloc::Global;
 
 // The lines of a digest that is refused.

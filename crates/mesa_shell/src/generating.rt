@@ -1,27 +1,26 @@
 // Runs of the script that a seed gives.
 ghost use Rattle.std.specs.Prelude.{◌≡◌, ◌≤◌, ◌++◌, ℕ, List, Ok, false, true, length, if◌then◌else◌};
-ghost use Rattle.mesa_telling.specs.mesa_ending.Ending as spec;
-ghost use Rattle.mesa_telling.specs.mesa_ending.Exits.{gen_line, memory_line, memory_status};
-ghost use Rattle.mesa_telling.specs.mesa_ending.Ports.{ports};
-ghost use Rattle.mesa_telling.specs.mesa_ending.Scripts.{IsSmall};
-ghost use Rattle.mesa_excerpt.specs.Excerpt.{CutsOut};
-ghost use Rattle.mesa_printer.specs.Printed.{Printed};
+ghost use Rattle.mesa_exit.specs.mesa_exit_spec.Ending as spec;
+ghost use Rattle.mesa_exit.specs.mesa_exit_spec.Exits.{gen_line, memory_line, memory_status};
+ghost use Rattle.mesa_exit.specs.mesa_exit_spec.Ports.{ports};
+ghost use Rattle.mesa_exit.specs.mesa_exit_spec.Scripts.{IsSmall};
+ghost use Rattle.mesa_generate.specs.Excerpt.{CutsOut};
+ghost use Rattle.mesa_print.specs.Printed.{Printed};
 ghost use Rattle.mesa_script.specs.Generated.{generated as generated_by};
 ghost use Rattle.mesa_script.specs.Script.{script_of};
 
 use crate::opening::open;
 use crate::running::{Left, run_begun};
 use mesa_disk::{Bench, Disk, Made};
-use mesa_excerpt::excerpt;
-use mesa_generate::generate;
+use mesa_exit::{
+    Devices, Done, ended_opening, lacks_memory, run_status, scripts_are_small, statuses,
+};
+use mesa_generate::{excerpt, generate};
 use mesa_io::{MemSink, Sink};
 use mesa_model::{Entry, Script};
 use mesa_parse::parse;
-use mesa_printer::Printer;
-use mesa_sessions::Gate;
-use mesa_telling::{
-    Devices, Done, ended_opening, lacks_memory, run_status, scripts_are_small, statuses,
-};
+use mesa_print::Printer;
+use mesa_session::Gate;
 use std::alloc::{AllocError, Global};
 use std::sync::Wait;
 use std::thread::Threads;

@@ -9,7 +9,7 @@ mod running;
 mod shell;
 mod standard;
 
-pub use mesa_sessions::{Gate, OpenGate, Point};
-pub use mesa_telling::{Devices, Done, statuses};
+pub use mesa_exit::{Devices, Done, statuses};
+pub use mesa_session::{Gate, OpenGate, Point};
 pub use shell::{MAX_INPUT, mesa};
 pub use standard::program;

@@ -1,33 +1,33 @@
 // The top call.
 ghost use Rattle.std.specs.Prelude.{◌≡◌, ◌≢◌, ◌≤◌, ℕ, List, Some, length, map};
-ghost use Rattle.mesa_catalog.specs.mesa_image.Catalog.{Catalog as AnyCatalog};
+ghost use Rattle.mesa_check.specs.mesa_catalog.mesa_image.Catalog.{Catalog as AnyCatalog};
 ghost use Rattle.mesa_model.specs.declared.commands.Script.{Script as AnyScript};
-ghost use Rattle.mesa_skeleton.specs.Rows.{Rows};
-ghost use Rattle.mesa_telling.specs.mesa_ending.Completing.{AsksFor, Completes, Decides, HasRoomToRun, IsUndamaged, NoneRose, NothingFailed};
-ghost use Rattle.mesa_telling.specs.mesa_ending.Ending as spec;
-ghost use Rattle.mesa_telling.specs.mesa_ending.Ports.{ports};
-ghost use Rattle.mesa_telling.specs.mesa_ending.Scripts.{IsSmall};
-ghost use Rattle.mesa_telling.specs.mesa_ending.Statuses.{Tells};
-ghost use Rattle.mesa_telling.specs.mesa_ending.mesa_opening.Opening.{IsSoundStart};
-ghost use Rattle.mesa_words.specs.Forms.{form_of};
-ghost use Rattle.mesa_words.specs.declared.forms.Form.TheVariants as form;
+ghost use Rattle.mesa_look.specs.mesa_projection.Rows.{Rows};
+ghost use Rattle.mesa_exit.specs.mesa_exit_spec.Completing.{AsksFor, Completes, Decides, HasRoomToRun, IsUndamaged, NoneRose, NothingFailed};
+ghost use Rattle.mesa_exit.specs.mesa_exit_spec.Ending as spec;
+ghost use Rattle.mesa_exit.specs.mesa_exit_spec.Ports.{ports};
+ghost use Rattle.mesa_exit.specs.mesa_exit_spec.Scripts.{IsSmall};
+ghost use Rattle.mesa_exit.specs.mesa_exit_spec.Statuses.{Tells};
+ghost use Rattle.mesa_exit.specs.mesa_exit_spec.mesa_recover.Opening.{IsSoundStart};
+ghost use Rattle.mesa_arguments.specs.Forms.{form_of};
+ghost use Rattle.mesa_arguments.specs.declared.forms.Form.TheVariants as form;
 
 use crate::checking::check_store;
 use crate::digesting::digest_relation;
 use crate::generating::run_generated;
 use crate::opening::open;
 use crate::running::{Left, run_begun};
+use mesa_arguments::{Form, read_form};
 use mesa_disk::{Bench, Disk, Made};
+use mesa_exit::{
+    Devices, Done, ended, ended_opening, ended_refused, lacks_memory, run_status,
+    scripts_are_small, statuses,
+};
 use mesa_io::{ReadError, Sink, Source, read_all};
 use mesa_model::Script;
 use mesa_parse::parse;
 use mesa_script::ScriptError;
-use mesa_sessions::Gate;
-use mesa_telling::{
-    Devices, Done, ended, ended_opening, ended_refused, lacks_memory, run_status,
-    scripts_are_small, statuses,
-};
-use mesa_words::{Form, read_form};
+use mesa_session::Gate;
 use std::alloc::{AllocError, Global};
 use std::sync::Wait;
 use std::thread::Threads;

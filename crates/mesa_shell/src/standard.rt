@@ -3,9 +3,9 @@ ghost use Rattle.std.specs.Prelude.{◌≡◌, IfOk, length};
 
 use crate::shell::mesa;
 use mesa_dir::{DirBench, DirDisk, Host};
+use mesa_exit::{Done, statuses};
 use mesa_io::{StdSink, StdSource};
-use mesa_sessions::OpenGate;
-use mesa_telling::{Done, statuses};
+use mesa_session::OpenGate;
 use std::alloc::{AllocError, Global};
 use std::env;
 use std::io::ErrorKind;

@@ -1,12 +1,12 @@
 // Taking in what a batch brings.
 ghost use Rattle.std.specs.Prelude.{◌≡◌, ◌≢◌, ◌+◌, ◌<◌, ℕ, find, length, map, position, slice_get, IfSome};
 ghost use Rattle.std.specs.List.{AllByRecursion};
-ghost use Rattle.mesa_image_laws.specs.mesa_image.Catalog.{stocks_loaded};
-ghost use Rattle.mesa_shelf.specs.declared.ready.ReadyPart.{ReadyPart as Piece};
-ghost use Rattle.mesa_shelf.specs.Meaning.{IsTable, stock_of};
-ghost use Rattle.mesa_shelf.specs.Readied.{HasSpare, IsPartOf, is_part_of, part_in};
+ghost use Rattle.mesa_image.specs.Catalog.{stocks_loaded};
+ghost use Rattle.mesa_table.specs.declared.ready.ReadyPart.{ReadyPart as Piece};
+ghost use Rattle.mesa_table.specs.Meaning.{IsTable, stock_of};
+ghost use Rattle.mesa_table.specs.Readied.{HasSpare, IsPartOf, is_part_of, part_in};
 
-use mesa_shelf::{ReadyPart, Table, load_part};
+use mesa_table::{ReadyPart, Table, load_part};
 
 // Puts what a version brings into the tables: each looks for its part, which is the first that is left.
 pub(super) fn load(tables: &mut [Table], version: u32, mut parts: Vec<ReadyPart>)

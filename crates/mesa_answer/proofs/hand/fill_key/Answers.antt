@@ -3,7 +3,7 @@ use Rattle.std.specs.Prelude.{slice_get}
 use Rattle.std.specs.Option.{option_copied}
 use Rattle.mesa_key.specs.Columns.{ColumnsLeft}
 use Rattle.mesa_key.specs.Spelling.{columns_of}
-use Rattle.mesa_answer.proofs.ColumnCuts.{column_at, column_more, column_same, left_behind}
+use Rattle.mesa_answer.proofs.ColumnsAt.{column_at, column_more, column_same, left_behind}
 use Rattle.mesa_answer.proofs.hand.fill_key.Goals as goal
 use Rattle.mesa_answer.proofs.hand.fill_key.Goals.{else-place-next, in-Some+in_ok-extend_from_slice, in_default, then-place-next}
 

@@ -1,3 +1,4 @@
+use Rattle.std.proofs.Common.{[], get_or, refl}
 use Rattle.mesa_block.proofs.Rows.{key_step, key_end, key_end_kinds}
 use Rattle.mesa_block.proofs.flat.put_key.Goals as goal
 
@@ -9,5 +10,5 @@ returns c = key_end_kinds c.args.kinds.now _ c.args.i c.loop-j.j _ _ c.loop-j-te
 
 pub loop-j-preserved : goal.loop-j-preserved
 loop-j-preserved c =
-    key_step c.args.kinds.now c.args.columns.now c.args.i c.loop-j.j _ c.index-columns-j.result c.loop-j.key.items _ c.cell.result.now _ c.loop-j-test.true c.if-j-columns.false c.index-columns-j.is c.loop-j.invariant
-    c.cell.ensures c.in_ok-put_sealed.ensures
+    key_step c.args.kinds.now c.args.columns.now c.args.i c.loop-j.j _ c.index-columns-j.result c.loop-j.bytes.items _ (get_or c.index-columns-j.result c.args.i []) _ c.loop-j-test.true c.if-j-columns.false c.index-columns-j.is c.loop-j.invariant
+    refl c.in_ok-put_sealed.ensures

@@ -1,6 +1,6 @@
 use Rattle.std.proofs.Common.{◌<◌, arith, length, map}
-use Rattle.mesa_image_laws.specs.mesa_image.Catalog.{stock_from}
-use Rattle.mesa_shelf.specs.Meaning.{IsTable, stock_of}
+use Rattle.mesa_image.specs.Catalog.{stock_from}
+use Rattle.mesa_table.specs.Meaning.{IsTable, stock_of}
 use Rattle.mesa_catalog.proofs.Expired.{expired_all, expired_step}
 use Rattle.mesa_catalog.proofs.Stocks.{all_at, all_set}
 use Rattle.mesa_catalog.proofs.applying.expire_tables.Goals as goal

@@ -1,7 +1,7 @@
 use Rattle.std.proofs.Common.{◌≡◌, ◌<◌, ◌++◌, ℕ, drop, map, take}
 use Rattle.std.specs.List.{AllByRecursion}
-use Rattle.mesa_image_laws.specs.mesa_image.Catalog.{stock_from}
-use Rattle.mesa_shelf.specs.Meaning.{IsTable, stock_of}
+use Rattle.mesa_image.specs.Catalog.{stock_from}
+use Rattle.mesa_table.specs.Meaning.{IsTable, stock_of}
 use Rattle.mesa_catalog.proofs.applying.expire_tables.Given as goal
 
 -- the tables so far have let them go, and the others are as they were

@@ -1,7 +1,7 @@
 use Rattle.std.proofs.Common.{◌++◌, ◌-◌, ◌^◌, ◌∙◌, ap, sym, subst, arith}
-use Rattle.mesa_shelf.specs.Meaning.{IsTable}
-use Rattle.mesa_shelf.specs.Named.{table_ids}
-use Rattle.mesa_shelf.proofs.Pushes.{pushed_more}
+use Rattle.mesa_table.specs.Meaning.{IsTable}
+use Rattle.mesa_table.specs.Named.{table_ids}
+use Rattle.mesa_table.proofs.Pushes.{pushed_more}
 use Rattle.mesa_catalog.proofs.Dropped.{all_held}
 use Rattle.mesa_catalog.proofs.Stocks.{all_at}
 use Rattle.mesa_catalog.proofs.files.push_ids.Goals as goal

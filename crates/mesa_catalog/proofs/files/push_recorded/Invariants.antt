@@ -1,9 +1,9 @@
 use Rattle.std.proofs.Common.{◌≡◌, ℕ, ◌++◌, map, take}
 use Rattle.std.specs.Prelude.{flat_map}
-use Rattle.mesa_image_laws.specs.mesa_image.Fitting.{stock_shelved}
-use Rattle.mesa_shelf.specs.declared.table.Table.{Table}
-use Rattle.mesa_shelf.specs.Files.{recorded_of}
-use Rattle.mesa_shelf.specs.Meaning.{stock_of}
+use Rattle.mesa_image.specs.Fitting.{stock_shelved}
+use Rattle.mesa_table.specs.declared.table.Table.{Table}
+use Rattle.mesa_table.specs.Files.{recorded_of}
+use Rattle.mesa_table.specs.Meaning.{stock_of}
 use Rattle.mesa_catalog.proofs.files.push_recorded.Given as goal
 
 -- the files of the tables so far

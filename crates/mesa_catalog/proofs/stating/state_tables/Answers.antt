@@ -1,7 +1,7 @@
 use Rattle.std.proofs.Common.{◌++◌, ◌∷◌, [], ◌∙◌, ap, sym, subst, map}
 use Rattle.std.proofs.lemmas.List.{take_all}
-use Rattle.mesa_image_laws.specs.mesa_image.Checkpoint.{stating_table}
-use Rattle.mesa_shelf.specs.Meaning.{IsTable, stock_of}
+use Rattle.mesa_image.specs.Checkpoint.{stating_table}
+use Rattle.mesa_table.specs.Meaning.{IsTable, stock_of}
 use Rattle.mesa_catalog.proofs.Restored.{mapped_more}
 use Rattle.mesa_catalog.proofs.Stocks.{all_at}
 use Rattle.mesa_catalog.proofs.stating.state_tables.Goals as goal

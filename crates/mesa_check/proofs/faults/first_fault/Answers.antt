@@ -1,9 +1,9 @@
 use Rattle.std.proofs.Common.{◌≡◌, ◌∙◌, ◌+◌, ◌&&◌, ap, sym, subst, arith, true}
 use Rattle.std.specs.Prelude.{option_map, slice_get, IfSome}
 use Rattle.mesa_plans.specs.Lent.{now_if_any}
-use Rattle.mesa_shelf.specs.Meaning.{stock_of}
-use Rattle.mesa_verdict.specs.Faults.{fault_of, range_faults}
-use Rattle.mesa_verdict.specs.Ranges.{is_range}
+use Rattle.mesa_table.specs.Meaning.{stock_of}
+use Rattle.mesa_check.specs.Faults.{fault_of, range_faults}
+use Rattle.mesa_check.specs.Ranges.{is_range}
 use Rattle.mesa_check.specs.Shown.{is_found_in, tested_range}
 use Rattle.mesa_check.specs.Tested.{IsRead}
 use Rattle.mesa_check.specs.declared.testing.Test.{Test}

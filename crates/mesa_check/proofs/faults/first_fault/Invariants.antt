@@ -4,10 +4,10 @@ use Rattle.std.specs.List.{AllByRecursion}
 use Rattle.mesa_disk.specs.Image.{Image}
 use Rattle.mesa_disk.specs.Story.{Unmoved}
 use Rattle.mesa_plans.specs.Lent.{now_if_any}
-use Rattle.mesa_shelf.specs.Meaning.{stock_of}
+use Rattle.mesa_table.specs.Meaning.{stock_of}
 use Rattle.mesa_tasks.specs.Opening.{Counted}
-use Rattle.mesa_verdict.specs.Found.{Found}
-use Rattle.mesa_verdict.specs.Faults.{exceeds_totals, range_faults}
+use Rattle.mesa_check.specs.Found.{Found}
+use Rattle.mesa_check.specs.Faults.{exceeds_totals, range_faults}
 use Rattle.mesa_check.specs.Held.{IsHeld}
 use Rattle.mesa_check.specs.Shown.{is_found_in, tested_range}
 use Rattle.mesa_check.specs.Tested.{IsRead}

@@ -3,8 +3,8 @@ use Rattle.std.specs.Prelude.{slice_get}
 use Rattle.std.proofs.lemmas.Option.{IfSome_then}
 use Rattle.std.proofs.lemmas.Result.{IfOk-weaker}
 use Rattle.mesa_plans.specs.Lent.{now_if_any}
-use Rattle.mesa_shelf.specs.Meaning.{stock_of}
-use Rattle.mesa_verdict.specs.Faults.{view_keys}
+use Rattle.mesa_table.specs.Meaning.{stock_of}
+use Rattle.mesa_check.specs.Faults.{view_keys}
 use Rattle.mesa_check.specs.Held.{delta_of}
 use Rattle.mesa_check.specs.Shown.{key_list, tested_range}
 use Rattle.mesa_check.proofs.Told.{merged_in, merged_out}

@@ -1,7 +1,7 @@
 use Rattle.std.proofs.Common.{◌∙◌, ap, sym}
 use Rattle.std.specs.Prelude.{option_map, Some}
-use Rattle.mesa_shelf.specs.Meaning.{stock_of}
-use Rattle.mesa_verdict.specs.Faults.{fault_of}
+use Rattle.mesa_table.specs.Meaning.{stock_of}
+use Rattle.mesa_check.specs.Faults.{fault_of}
 use Rattle.mesa_check.specs.Shown.{tested_range}
 use Rattle.mesa_check.proofs.Told.{fault_shown, fault_stands, found_where, stands_as}
 use Rattle.mesa_check.proofs.faults.range_fault.Goals as goal

@@ -2,10 +2,10 @@ use Rattle.std.proofs.Common.{◌≡◌, ◌≤◌, ◌∙◌, ap, sym, subst, m
 use Rattle.std.specs.Prelude.{slice_get}
 use Rattle.std.specs.List.{AllByRecursion}
 use Rattle.std.proofs.lemmas.Result.{IfOk-weaker}
-use Rattle.mesa_image_laws.specs.mesa_image.Shape.{IsWithinBound}
+use Rattle.mesa_image.specs.Shape.{IsWithinBound}
 use Rattle.mesa_schema.specs.Changes.{epoch_of}
-use Rattle.mesa_shelf.specs.Meaning.{stock_of}
-use Rattle.mesa_verdict.specs.Ranges.{Range}
+use Rattle.mesa_table.specs.Meaning.{stock_of}
+use Rattle.mesa_check.specs.Ranges.{Range}
 use Rattle.mesa_check.specs.Held.{delta_of, range_in}
 use Rattle.mesa_check.specs.Shown.{is_found_in}
 use Rattle.mesa_check.specs.Tested.{IsRead, range_of}

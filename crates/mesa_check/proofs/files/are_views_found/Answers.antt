@@ -1,11 +1,11 @@
 use Rattle.std.proofs.Common.{◌+◌, ◌∙◌, ◌∷◌, [], sym, subst, take, ◌++◌}
 use Rattle.std.specs.List.{AllByRecursion}
 use Rattle.mesa_schema.proofs.Lists.{all_map}
-use Rattle.mesa_image_laws.proofs.Lists.{all_back, all_front, all_unmap}
-use Rattle.mesa_image_laws.specs.mesa_image.Fitting.{Shelved, view_shelved}
+use Rattle.mesa_image.proofs.Lists.{all_back, all_front, all_unmap}
+use Rattle.mesa_image.specs.Fitting.{Shelved, view_shelved}
 use Rattle.mesa_record.specs.declared.record.ViewRef.{ViewRef}
-use Rattle.mesa_verdict.specs.Found.{IsFoundAs}
-use Rattle.mesa_verdict.specs.Faults.{is_view_found}
+use Rattle.mesa_check.specs.Found.{IsFoundAs}
+use Rattle.mesa_check.specs.Faults.{is_view_found}
 use Rattle.mesa_check.specs.Tested.{HasRows}
 use Rattle.mesa_check.proofs.Lists.{all_item, all_more, all_more_pass, counted_more, one_fails, taken_more, unmoved_more}
 use Rattle.mesa_check.proofs.files.are_views_found.Goals as goal

@@ -2,10 +2,10 @@ use Rattle.std.proofs.Common.{◌≡◌, map, take, true, false, Some}
 use Rattle.std.specs.List.{AllByRecursion, list_all}
 use Rattle.mesa_disk.specs.Image.{Image}
 use Rattle.mesa_disk.specs.Story.{Unmoved}
-use Rattle.mesa_image_laws.specs.mesa_image.Fitting.{view_shelved}
+use Rattle.mesa_image.specs.Fitting.{view_shelved}
 use Rattle.mesa_tasks.specs.Opening.{Counted}
-use Rattle.mesa_verdict.specs.Found.{AreFound, Found}
-use Rattle.mesa_verdict.specs.Faults.{is_view_found}
+use Rattle.mesa_check.specs.Found.{AreFound, Found}
+use Rattle.mesa_check.specs.Faults.{is_view_found}
 use Rattle.mesa_check.specs.Tested.{HasRows}
 use Rattle.mesa_check.proofs.files.are_views_found.Given as goal
 

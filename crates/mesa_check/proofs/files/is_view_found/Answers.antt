@@ -1,10 +1,10 @@
 use Rattle.std.proofs.Common.{◌≡◌, ◌<◌, ◌∙◌, ◌&&◌, ap, sym, subst, length, arith}
 use Rattle.std.specs.Prelude.{IfSome, is_some, slice_get}
-use Rattle.mesa_image_laws.specs.mesa_image.Fitting.{Shelved}
+use Rattle.mesa_image.specs.Fitting.{Shelved}
 use Rattle.mesa_plans.specs.Files.{own_lineage}
 use Rattle.mesa_schema.specs.Changes.{Lineage}
 use Rattle.mesa_schema.specs.declared.views.View.{View}
-use Rattle.mesa_verdict.specs.Found.{IsFoundAs}
+use Rattle.mesa_check.specs.Found.{IsFoundAs}
 use Rattle.mesa_check.specs.Tested.{HasRows}
 use Rattle.mesa_check.proofs.Recorded.{view_shelf, view_there}
 use Rattle.mesa_check.proofs.files.is_view_found.Goals as goal

@@ -1,9 +1,9 @@
 use Rattle.std.proofs.Common.{◌≡◌, ◌<◌, ◌≤◌, ◌∙◌, ◌∷◌, [], ap, sym, subst, length, get_or, List}
 use Rattle.std.specs.Prelude.{slice_get}
-use Rattle.mesa_image_laws.specs.mesa_image.Fitting.{view_shelved}
+use Rattle.mesa_image.specs.Fitting.{view_shelved}
 use Rattle.mesa_record.specs.declared.record.ViewRef.{ViewRef}
 use Rattle.mesa_schema.specs.Changes.{columns_at}
-use Rattle.mesa_verdict.specs.Faults.{view_key, view_keys_in}
+use Rattle.mesa_check.specs.Faults.{view_key, view_keys_in}
 use Rattle.mesa_check.specs.Held.{delta_of}
 use Rattle.mesa_check.specs.Shown.{key_list}
 use Rattle.mesa_check.specs.Tested.{IsThere}

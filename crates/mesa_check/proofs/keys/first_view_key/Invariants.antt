@@ -4,10 +4,10 @@ use Rattle.mesa_disk.specs.Image.{Image}
 use Rattle.mesa_disk.specs.Story.{Unmoved}
 use Rattle.mesa_record.specs.declared.record.ViewRef.{ViewRef}
 use Rattle.mesa_schema.specs.Changes.{columns_of}
-use Rattle.mesa_image_laws.specs.mesa_image.Contents.{present}
+use Rattle.mesa_image.specs.Contents.{present}
 use Rattle.mesa_tasks.specs.Opening.{Counted}
-use Rattle.mesa_verdict.specs.Found.{Found, rows_found}
-use Rattle.mesa_verdict.specs.Faults.{keep_bound, view_key}
+use Rattle.mesa_check.specs.Found.{Found, rows_found}
+use Rattle.mesa_check.specs.Faults.{keep_bound, view_key}
 use Rattle.mesa_check.specs.Held.{delta_of}
 use Rattle.mesa_check.specs.Tested.{AreThere}
 use Rattle.mesa_check.proofs.keys.first_view_key.Given as goal

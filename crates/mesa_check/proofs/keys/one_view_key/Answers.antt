@@ -6,10 +6,10 @@ use Rattle.mesa_schema.specs.Changes.{Lineage, columns_of, epoch_of, lifted}
 use Rattle.mesa_schema.specs.Views.{view_rows}
 use Rattle.mesa_schema.specs.declared.rows.Row.{Row}
 use Rattle.mesa_schema.specs.declared.views.View.{View}
-use Rattle.mesa_difference.specs.Difference.{first_difference}
+use Rattle.mesa_compare.specs.Difference.{first_difference}
 use Rattle.mesa_compare.specs.Compared.{present_rows}
-use Rattle.mesa_verdict.specs.Found.{rows_found}
-use Rattle.mesa_verdict.specs.Faults.{keep_bound}
+use Rattle.mesa_check.specs.Found.{rows_found}
+use Rattle.mesa_check.specs.Faults.{keep_bound}
 use Rattle.mesa_check.specs.Tested.{IsThere}
 use Rattle.mesa_check.proofs.Rows.{keeps_sums, view_shown}
 use Rattle.mesa_check.proofs.Recorded.{own_rows, view_shelf, view_there}

@@ -1,12 +1,12 @@
 use Rattle.std.proofs.Common.{◌≡◌, ◌∙◌, ap, sym, false}
 use Rattle.std.specs.Prelude.{slice_get}
 use Rattle.std.proofs.lemmas.Result.{IfOk-weaker}
-use Rattle.mesa_image_laws.specs.mesa_history.mesa_batch.Totals.{abs_totals}
-use Rattle.mesa_image_laws.specs.mesa_image.Contents.{present}
+use Rattle.mesa_image.specs.mesa_history.mesa_batch.Totals.{abs_totals}
+use Rattle.mesa_image.specs.Contents.{present}
 use Rattle.mesa_plans.specs.Lent.{now_if_any}
 use Rattle.mesa_schema.specs.Changes.{columns_of}
-use Rattle.mesa_verdict.specs.Found.{rows_found}
-use Rattle.mesa_verdict.specs.Faults.{keep_bound, view_keys_in}
+use Rattle.mesa_check.specs.Found.{rows_found}
+use Rattle.mesa_check.specs.Faults.{keep_bound, view_keys_in}
 use Rattle.mesa_check.specs.Held.{delta_of}
 use Rattle.mesa_check.proofs.Rows.{are_there, no_keys}
 use Rattle.mesa_check.proofs.keys.view_key.Goals as goal

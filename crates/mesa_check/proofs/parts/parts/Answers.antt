@@ -1,12 +1,12 @@
 use Rattle.std.proofs.Common.{◌≡◌, ◌≤◌, ◌+◌, ◌-◌, ◌++◌, ◌∙◌, ap, drop, sym, subst, map, Some}
 use Rattle.std.specs.Prelude.{IfSome, Option}
 use Rattle.std.specs.List.{AllByRecursion}
-use Rattle.mesa_image_laws.specs.mesa_image.Catalog.{Delta, start_in}
+use Rattle.mesa_image.specs.Catalog.{Delta, start_in}
 use Rattle.mesa_plans.specs.Lent.{now_if_any, single_delta, with_rows}
 use Rattle.mesa_plans.proofs.Among.{epochs_chosen}
-use Rattle.mesa_shelf.specs.Meaning.{AreLoaded, stock_of}
-use Rattle.mesa_shelf.specs.Named.{through}
-use Rattle.mesa_verdict.specs.Faults.{merged_singles}
+use Rattle.mesa_table.specs.Meaning.{AreLoaded, stock_of}
+use Rattle.mesa_table.specs.Named.{through}
+use Rattle.mesa_check.specs.Faults.{merged_singles}
 use Rattle.mesa_check.specs.Parts.{parts_of}
 use Rattle.mesa_check.specs.declared.testing.Test.{Test}
 use Rattle.mesa_check.proofs.Behind.{lent_first, parts_epochs, since_lent}

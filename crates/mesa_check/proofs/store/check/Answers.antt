@@ -1,4 +1,4 @@
-use Rattle.mesa_verdict.specs.Verdict.{fault_told}
+use Rattle.mesa_check.specs.Verdict.{fault_told}
 use Rattle.mesa_check.proofs.Founded.{is_first}
 use Rattle.mesa_check.proofs.Lists.{if_both}
 use Rattle.mesa_check.proofs.store.check.Goals as goal

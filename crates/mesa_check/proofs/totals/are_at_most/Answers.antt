@@ -1,7 +1,7 @@
 use Rattle.std.proofs.Common.{◌≡◌, ◌∙◌, ap, sym, length, arith, false}
 use Rattle.std.specs.Prelude.{◌==◌}
 use Rattle.std.proofs.lemmas.Bool.Decides.{nat_tests}
-use Rattle.mesa_verdict.specs.Faults.{are_at_most}
+use Rattle.mesa_check.specs.Faults.{are_at_most}
 use Rattle.mesa_check.proofs.Sums.{most_counted, not_most, zip_most}
 use Rattle.mesa_check.proofs.totals.are_at_most.Goals as goal
 

@@ -6,7 +6,7 @@ use Rattle.mesa_schema.specs.Folded.{folded, rows_of}
 use Rattle.mesa_fold.specs.Bound.{KeepsBound}
 use Rattle.mesa_merge.specs.Inputs.{knowns_of, lifted_parts}
 use Rattle.mesa_merge.specs.Merged.{HasMerged, inputs_of}
-use Rattle.mesa_difference.specs.Difference.{first_difference}
+use Rattle.mesa_compare.specs.Difference.{first_difference}
 use Rattle.mesa_answer.proofs.Results.{if_ok}
 use Rattle.mesa_compare.proofs.GivenBack.{counted_more, counted_then, same_fresh, unmoved_more}
 use Rattle.mesa_compare.proofs.Openings.{not_damaged, one_told, rows_same}

@@ -5,7 +5,7 @@ use Rattle.mesa_schema.specs.Folded.{folded, rows_of}
 use Rattle.mesa_fold.specs.Bound.{KeepsBound}
 use Rattle.mesa_merge.specs.Inputs.{AreTold, knowns_of, lifted_parts}
 use Rattle.mesa_merge.specs.Merged.{HasMerged, inputs_of, nothing_given}
-use Rattle.mesa_difference.specs.Difference.{first_difference}
+use Rattle.mesa_compare.specs.Difference.{first_difference}
 use Rattle.mesa_answer.proofs.Results.{if_ok}
 use Rattle.mesa_compare.specs.Compared.{present_rows}
 use Rattle.mesa_compare.proofs.GivenBack.{same_fresh}

@@ -8,7 +8,7 @@ use Rattle.mesa_schema.specs.Rows.{keys_rise}
 use Rattle.mesa_schema.specs.Changes.{columns_of}
 use Rattle.mesa_delta.specs.Reading.{IsIndexed}
 use Rattle.mesa_cursor.specs.Cursors.{IsSameInput, at_hand, lift_by}
-use Rattle.mesa_difference.specs.Difference.{first_difference}
+use Rattle.mesa_compare.specs.Difference.{first_difference}
 use Rattle.mesa_examine.proofs.Streams.{same_input}
 use Rattle.mesa_compare.specs.Compared.{Shows}
 use Rattle.mesa_compare.proofs.Differing.{differs, front_rises, whole_of}

@@ -7,7 +7,7 @@ use Rattle.mesa_schema.specs.Rows.{keys_rise}
 use Rattle.mesa_schema.specs.Views.{view_key_places, view_rows, view_value_places}
 use Rattle.mesa_cursor.specs.Cursors.{lift_by}
 use Rattle.mesa_delta.specs.declared.error.FileError.TheVariants.{Memory, Read}
-use Rattle.mesa_difference.specs.Difference.{first_difference}
+use Rattle.mesa_compare.specs.Difference.{first_difference}
 use Rattle.mesa_answer.proofs.Results.{if_err, if_ok}
 use Rattle.mesa_view.proofs.Blocks.{if_some}
 use Rattle.mesa_compare.proofs.Counting.{none_failed, one_failed, second_cause}

@@ -9,7 +9,7 @@ use Rattle.mesa_schema.specs.Rows.{keys_rise}
 use Rattle.mesa_schema.specs.Changes.{columns_of}
 use Rattle.mesa_delta.specs.Reading.{IsIndexed}
 use Rattle.mesa_cursor.specs.Cursors.{HasGiven, IsSameInput, at_hand, lift_by}
-use Rattle.mesa_difference.specs.Difference.{first_difference}
+use Rattle.mesa_compare.specs.Difference.{first_difference}
 use Rattle.mesa_answer.proofs.Passing.{one_more_row}
 use Rattle.mesa_answer.proofs.Results.{if_err, if_ok}
 use Rattle.mesa_examine.proofs.Streams.{same_input}

@@ -10,7 +10,7 @@ use Rattle.mesa_fold.specs.Bound.{KeepsBound}
 use Rattle.mesa_delta.specs.declared.error.FileError.TheVariants.{Memory, Read}
 use Rattle.mesa_merge.specs.Inputs.{AreTold, knowns_of, lifted_parts}
 use Rattle.mesa_merge.specs.Merged.{HasMerged, failed_of, inputs_of, row_in}
-use Rattle.mesa_difference.specs.Difference.{first_difference}
+use Rattle.mesa_compare.specs.Difference.{first_difference}
 use Rattle.mesa_compare.specs.Compared.{Shows}
 use Rattle.mesa_compare.proofs.Counting.{failed_after, quiet_after}
 use Rattle.mesa_compare.proofs.Differing.{differs, fold_of}

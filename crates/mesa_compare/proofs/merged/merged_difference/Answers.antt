@@ -14,7 +14,7 @@ use Rattle.mesa_delta.specs.Reading.{IsIndexed}
 use Rattle.mesa_cursor.specs.Cursors.{IsSameInput, at_hand, lift_by}
 use Rattle.mesa_merge.specs.Inputs.{AreTold, knowns_of, lifted_parts}
 use Rattle.mesa_merge.specs.Merged.{HasMerged, failed_of, inputs_of, row_in}
-use Rattle.mesa_difference.specs.Difference.{first_difference}
+use Rattle.mesa_compare.specs.Difference.{first_difference}
 use Rattle.mesa_examine.proofs.Streams.{same_input}
 use Rattle.mesa_compare.specs.Compared.{Shows}
 use Rattle.mesa_compare.proofs.Counting.{failed_after, none_failed}

@@ -5,7 +5,7 @@ use Rattle.mesa_schema.specs.Changes.{Lineage, columns_of}
 use Rattle.mesa_schema.specs.Views.{view_rows}
 use Rattle.mesa_answer.specs.Answering.{KeepsSums}
 use Rattle.mesa_cursor.specs.Cursors.{lift_by}
-use Rattle.mesa_difference.specs.Difference.{first_difference}
+use Rattle.mesa_compare.specs.Difference.{first_difference}
 use Rattle.mesa_answer.proofs.Results.{if_ok}
 use Rattle.mesa_view.proofs.Blocks.{if_some}
 use Rattle.mesa_compare.specs.Compared.{present_rows}

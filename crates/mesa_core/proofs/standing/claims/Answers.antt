@@ -3,16 +3,16 @@ use Rattle.mesa_engine.specs.Engine.{Standing, starts_of}
 use Rattle.mesa_history.specs.Claims.{HasClaimAt}
 use Rattle.mesa_history.specs.Machine.{Machine}
 use Rattle.mesa_history.specs.Run.{place_of}
-use Rattle.mesa_engine.proofs.mesa_ledger.Beginning.{vault_claims}
-use Rattle.mesa_engine.specs.mesa_ledger.Vault.{Starts, outset_of}
-use Rattle.mesa_skeleton.specs.Rows.{no_rows}
-use Rattle.mesa_walk.specs.Walk.{run_at}
+use Rattle.mesa_engine.proofs.mesa_engine_state.Beginning.{vault_claims}
+use Rattle.mesa_engine.specs.mesa_engine_state.Vault.{Starts, outset_of}
+use Rattle.mesa_engine.specs.mesa_projection.Rows.{no_rows}
+use Rattle.mesa_engine.specs.mesa_invariant.Walk.{run_at}
 use Rattle.mesa_core.proofs.standing.claims.Goals as goal
 
 pub returns-clause-leases : goal.returns-clause-leases
 returns-clause-leases g c =
     let N = g.N.Naming in
-    subst (λ (s : Standing). s.ledger.leases ≡ (run_at N.script (N.start no_rows) s.shown.history).state.machine.leases) c.engine.view_is
+    subst (λ (s : Standing). s.state.leases ≡ (run_at N.script (N.start no_rows) s.shown.history).state.machine.leases) c.engine.view_is
     (sym (ap (λ (m : Machine). m.leases) (c.engine.invariant.vault no_rows false (λ is. absurd cc)).walk.state.machine))
 
 pub returns-clause-claims : goal.returns-clause-claims
@@ -21,7 +21,7 @@ returns-clause-claims g c = λ session.
     let n : Starts = starts_of N.script N.start N.sound N.origin N.since N.counted N.at_start in
     let i = c.engine.inside in
     subst (λ (s : Standing). HasClaimAt (run_at N.script (N.start no_rows) s.shown.history).state (place_of (run_at N.script (N.start no_rows) s.shown.history) session).stage) c.engine.view_is
-    (vault_claims (outset_of n no_rows) (N.origin no_rows) false i.metadata.ledger (g.D.Disk.story i.disk) (g.K.Sink.held i.log.printer.sink) i.log.history.items (not i.log.printer.broken) i.log.refused (c.engine.invariant.vault no_rows false (λ is. absurd cc)) session)
+    (vault_claims (outset_of n no_rows) (N.origin no_rows) false i.metadata.state (g.D.Disk.story i.disk) (g.K.Sink.held i.log.printer.sink) i.log.history.items (not i.log.printer.broken) i.log.refused (c.engine.invariant.vault no_rows false (λ is. absurd cc)) session)
 
 pub returns-clause-ranges : goal.returns-clause-ranges
 returns-clause-ranges g c = (c.engine.invariant.vault no_rows false (λ is. absurd cc)).ranges

@@ -1,9 +1,9 @@
 use Rattle.std.proofs.Common.{not, subst}
 use Rattle.mesa_engine.specs.Engine.{Standing, starts_of}
-use Rattle.mesa_engine.specs.mesa_ledger.Vault.{Starts}
-use Rattle.mesa_engine.proofs.mesa_ledger.Beginning.{vault_at_seen}
-use Rattle.mesa_skeleton.specs.Rows.{no_rows}
-use Rattle.mesa_walk.specs.Turns.{IsSeen}
+use Rattle.mesa_engine.specs.mesa_engine_state.Vault.{Starts}
+use Rattle.mesa_engine.proofs.mesa_engine_state.Beginning.{vault_at_seen}
+use Rattle.mesa_engine.specs.mesa_projection.Rows.{no_rows}
+use Rattle.mesa_engine.specs.mesa_invariant.Turns.{IsSeen}
 use Rattle.mesa_core.proofs.standing.standing.Goals as goal
 
 pub returns : goal.returns
@@ -13,4 +13,4 @@ returns g c =
     let i = c.engine.inside in
     let story = g.D.Disk.story i.disk in
     subst (λ (s : Standing). IsSeen N.script (N.start no_rows) s.shown) c.engine.view_is
-    (vault_at_seen n i.metadata.ledger story (g.K.Sink.held i.log.printer.sink) i.log.history.items (not i.log.printer.broken) i.log.refused story.moment c.engine.invariant.vault)
+    (vault_at_seen n i.metadata.state story (g.K.Sink.held i.log.printer.sink) i.log.history.items (not i.log.printer.broken) i.log.refused story.moment c.engine.invariant.vault)

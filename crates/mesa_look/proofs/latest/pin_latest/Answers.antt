@@ -1,5 +1,5 @@
 use Rattle.std.proofs.Common.{sym}
-use Rattle.mesa_answer.proofs.Results.{if_err, if_ok}
+use Rattle.mesa_query.proofs.mesa_answer.Results.{if_err, if_ok}
 use Rattle.mesa_look.proofs.Newest.{none_named}
 use Rattle.mesa_look.proofs.latest.pin_latest.Goals as goal
 

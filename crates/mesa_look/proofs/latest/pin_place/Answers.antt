@@ -3,20 +3,20 @@ use Rattle.std.specs.Prelude.{IfSome, map}
 use Rattle.std.specs.List.{AllByRecursion}
 use Rattle.mesa_catalog.proofs.Stocks.{all_at}
 use Rattle.mesa_filter.specs.Query.{IsQueryOf}
-use Rattle.mesa_image_laws.specs.mesa_image.Catalog.{Delta, Stock, no_stock, stock_at}
-use Rattle.mesa_image_laws.specs.mesa_image.Fitting.{deltas_of}
-use Rattle.mesa_image_laws.specs.mesa_image.Shape.{IsShaped}
-use Rattle.mesa_image_laws.specs.Planned.{planned}
+use Rattle.mesa_image.specs.Catalog.{Delta, Stock, no_stock, stock_at}
+use Rattle.mesa_image.specs.Fitting.{deltas_of}
+use Rattle.mesa_image.specs.Shape.{IsShaped}
+use Rattle.mesa_image.specs.Planned.{planned}
 use Rattle.mesa_look.proofs.Newest.{can_be, file_reason, is_latest, is_named, newest_is, no_version, none_unsound, opening_quiet, opening_rose}
 use Rattle.mesa_look.proofs.latest.pin_place.Goals as goal
 use Rattle.mesa_look.specs.Latest.{HasLookReason, all_asked}
-use Rattle.mesa_pinning.proofs.Opened.{opened_fresh}
-use Rattle.mesa_pinning.proofs.There.{name_there, view_within}
-use Rattle.mesa_pinning.specs.Read.{IsPinnedFor, SomeUnsound, relation_read}
+use Rattle.mesa_plans.proofs.Opened.{opened_fresh}
+use Rattle.mesa_plans.proofs.There.{name_there, view_within}
+use Rattle.mesa_plans.specs.Read.{IsPinnedFor, SomeUnsound, relation_read}
 use Rattle.mesa_plans.specs.Files.{want_in}
 use Rattle.mesa_rules.specs.Found.{columns_at}
-use Rattle.mesa_schema.specs.Changes.{epoch_of}
-use Rattle.mesa_shelf.specs.declared.relation.Relation.{Relation as Place}
+use Rattle.mesa_image.specs.mesa_schema.Changes.{epoch_of}
+use Rattle.mesa_catalog.specs.mesa_table.declared.relation.Relation.{Relation as Place}
 
 pub query_of_all-requires-clause-table : goal.query_of_all-requires-clause-table
 query_of_all-requires-clause-table g c = (name_there c.args.opened.now.catalog.catalogue c.requires.named.0 c.args.place c.requires.named.1).0

@@ -8,8 +8,8 @@ use Rattle.mesa_merge.proofs.Causing.{cause_other, cause_quiet}
 use Rattle.mesa_query.proofs.Differing.{query_differs}
 use Rattle.mesa_query.specs.Whole.{all_wanted}
 use Rattle.mesa_rules.specs.Found.{columns_at}
-use Rattle.mesa_schema.specs.Columns.{Columns}
-use Rattle.mesa_schema.specs.Rows.{AreRowsOf}
+use Rattle.mesa_image.specs.mesa_schema.Columns.{Columns}
+use Rattle.mesa_image.specs.mesa_schema.Rows.{AreRowsOf}
 
 pub digests-requires : goal.digests-requires
 digests-requires g c =

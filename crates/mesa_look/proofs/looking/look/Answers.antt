@@ -2,9 +2,9 @@ use Rattle.std.proofs.Common.{◌≡◌, ◌<◌, ap, ◌∙◌, sym, subst, ari
 use Rattle.std.specs.Prelude.{IfErr, IfOk, IfSome, is_some}
 use Rattle.std.proofs.lemmas.Result.{err_from_is_err_and}
 use Rattle.mesa_delta.specs.declared.error.FileError.TheVariants as file_error
-use Rattle.mesa_fault.specs.Causes.{Rose}
-use Rattle.mesa_file.specs.declared.damage.Damage.{Damage}
-use Rattle.mesa_image_laws.specs.mesa_image.Catalog.{stock_at}
+use Rattle.mesa_disk.specs.mesa_fault.Causes.{Rose}
+use Rattle.mesa_disk.specs.mesa_file.declared.damage.Damage.{Damage}
+use Rattle.mesa_image.specs.Catalog.{stock_at}
 use Rattle.mesa_look.proofs.Content.{err_is, given_quiet, given_rose, looked_is}
 use Rattle.mesa_look.proofs.Newest.{columns_named, file_reason, none_named}
 use Rattle.mesa_look.proofs.looking.look.Goals as goal
@@ -12,12 +12,12 @@ use Rattle.mesa_look.specs.Latest.{CanBeLookedAt, HasLookReason, IsLatest, all_a
 use Rattle.mesa_look.specs.Errors.{look_failure}
 use Rattle.mesa_look.specs.Looked.{AreDigests}
 use Rattle.mesa_merge.specs.Faults.{HaveFaultCause, faults_of}
-use Rattle.mesa_model.specs.Relations.{relation_columns}
-use Rattle.mesa_pinning.specs.Told.{TellContent}
+use Rattle.mesa_image.specs.mesa_model.Relations.{relation_columns}
+use Rattle.mesa_plans.specs.Told.{TellContent}
 use Rattle.mesa_recover.specs.declared.opened.Opened.{Opened}
 use Rattle.mesa_rules.specs.Found.{columns_at}
-use Rattle.mesa_schema.specs.Columns.{Columns}
-use Rattle.mesa_schema.specs.declared.rows.Row.{Row}
+use Rattle.mesa_image.specs.mesa_schema.Columns.{Columns}
+use Rattle.mesa_image.specs.mesa_schema.declared.rows.Row.{Row}
 use Rattle.mesa_tasks.specs.Errors.{Differs}
 use Rattle.mesa_tasks.specs.GivingBack.{pinned_inputs}
 use Rattle.mesa_tasks.specs.Pins.{IsPinned}

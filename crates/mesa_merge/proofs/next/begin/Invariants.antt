@@ -2,10 +2,11 @@ use Rattle.std.proofs.Common.{◌≡◌, ◌≤◌, ℕ, [], List, length, get_o
 use Rattle.std.specs.Prelude.{Option}
 use Rattle.std.specs.List.{AllByRecursion}
 use Rattle.mesa_schema.specs.declared.rows.Row.{Row}
+use Rattle.mesa_delta.specs.Ahead.{AreAhead}
 use Rattle.mesa_cursor.specs.Cursors.{IsInput}
 use Rattle.mesa_merge.specs.Faults.{faults_of}
 use Rattle.mesa_merge.specs.Hands.{hands_of}
-use Rattle.mesa_merge.specs.Inputs.{knowns_of}
+use Rattle.mesa_merge.specs.Inputs.{knowns_of, tolds_of}
 use Rattle.mesa_merge.specs.Matches.{IsTree}
 use Rattle.mesa_merge.specs.Merging.{AreReady, HasGivens}
 use Rattle.mesa_merge.proofs.next.begin.Given as goal
@@ -19,5 +20,6 @@ invariant-inputs g l = record {
   ready : AreReady l.i l.inputs l.cursors;
   known : knowns_of g.R.FileReader.bytes l.inputs ≡ knowns_of g.R.FileReader.bytes l.fn.inputs;
   kept : AllByRecursion (IsInput g.R.FileReader.bytes) l.fn.inputs → AllByRecursion (IsInput g.R.FileReader.bytes) l.inputs;
+  ahead : AreAhead (tolds_of (knowns_of g.R.FileReader.bytes l.fn.inputs)) l.ahead;
   faults : faults_of g.R.FileReader.faults l.inputs ≡ faults_of g.R.FileReader.faults l.fn.inputs;
 }

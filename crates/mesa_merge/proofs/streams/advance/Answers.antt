@@ -1,14 +1,13 @@
-use Rattle.std.proofs.Common.{inl, inr, ◌≡◌, ◌≢◌, ◌<◌, ℕ, [], ◌∷◌, ◌++◌, get_or, length, set, drop, refl, sym, ◌∙◌, ap, subst, arith, add-one}
+use Rattle.std.proofs.Common.{inl, inr, ◌≡◌, ◌≢◌, ◌<◌, ℕ, [], ◌∷◌, ◌++◌, get_or, length, set, drop, refl, sym, ◌∙◌, subst, arith}
 use Rattle.std.proofs.lemmas.List.{length-set}
 use Rattle.mesa_schema.specs.Rows.{AreRowsOf}
 use Rattle.mesa_cursor.specs.Cursors.{at_hand}
-use Rattle.mesa_cursor.proofs.Taken.{not_taken, stepped, taken}
+use Rattle.mesa_cursor.proofs.Taken.{stepped, taken}
 use Rattle.mesa_merge.specs.Fronts.{HasFront}
 use Rattle.mesa_merge.specs.Hands.{IsAhead, hands_of}
 use Rattle.mesa_merge.specs.Matches.{AreWinners}
-use Rattle.mesa_merge.specs.Merging.{AreReady, HasGivens}
 use Rattle.mesa_merge.proofs.Hands.{hand_of_get, hand_other, hand_same, hands_length}
-use Rattle.mesa_merge.proofs.Inputs.{alike_at, cause_at, given_at, given_set, inputs_set, known_get, known_set, ready_more, ready_set, set_same, told_at}
+use Rattle.mesa_merge.proofs.Inputs.{alike_at, cause_at, given_at, given_set, inputs_set, known_get, known_set, ready_set, told_at}
 use Rattle.mesa_merge.proofs.Stages.{ahead_of_hand}
 use Rattle.mesa_merge.proofs.Taking.{hand_form, stepped_given}
 use Rattle.mesa_merge.proofs.Trees.{changed_won}
@@ -48,19 +47,6 @@ returns-in-Ok-clause-given g c = λ row rows e low givens h.
     given_set bytes low is cs givens i c.fill-filled.new.input c.fill-filled.new.self (get_or givens i [] ++ row ∷ []) h
     (c.in-Ok.ensures.given low (get_or givens i [] ++ row ∷ []) (taken bytes low _ _ c.step.new.self (get_or givens i []) row was hand c.step.ensures.still))
 
-pub returns-in-Ok-clause-began : goal.returns-in-Ok-clause-began
-returns-in-Ok-clause-began g c = λ e low givens h.
-    let bytes = g.R.FileReader.bytes in
-    let is = c.args.inputs.now in
-    let cs = c.args.cursors.now in
-    let i = c.args.i in
-    let ltc : i < length cs = omega (arith, c.requires.count, c.requires.within) in
-    let none = sym (hand_of_get cs i c.index-cursors-i.result ltc) ∙ e in
-    let was = given_at bytes low is cs givens i c.index-inputs-i.result c.index-cursors-i.result h c.requires.within in
-    subst (λ gs. HasGivens bytes low (set is i c.fill-filled.new.input) (set cs i c.fill-filled.new.self) gs) (set_same givens i)
-    (given_set bytes low is cs givens i c.fill-filled.new.input c.fill-filled.new.self (get_or givens i []) h
-    (c.in-Ok.ensures.given low (get_or givens i []) (not_taken bytes low _ _ c.step.new.self (get_or givens i []) was none (c.step.ensures.rows ∙ ap (drop 1) none) c.step.ensures.still)))
-
 pub returns-in-Ok-clause-form : goal.returns-in-Ok-clause-form
 returns-in-Ok-clause-form g c = λ row rows e low s givens alike h.
     let bytes = g.R.FileReader.bytes in
@@ -89,11 +75,6 @@ returns-in-Ok-clause-above g c = λ row rows e low givens h.
 
 pub returns-in-Ok-clause-ready : goal.returns-in-Ok-clause-ready
 returns-in-Ok-clause-ready g c = λ n ready. ready_set n c.args.inputs.now c.args.cursors.now c.args.i c.fill-filled.new.input c.fill-filled.new.self ready c.in-Ok.ensures.ready
-
-pub returns-in-Ok-clause-more : goal.returns-in-Ok-clause-more
-returns-in-Ok-clause-more g c = λ ready.
-    subst (λ n. AreReady n (set c.args.inputs.now c.args.i c.fill-filled.new.input) (set c.args.cursors.now c.args.i c.fill-filled.new.self)) (sym (add-one c.args.i))
-    (ready_more c.args.inputs.now c.args.cursors.now c.args.i c.fill-filled.new.input c.fill-filled.new.self ready c.in-Ok.ensures.ready)
 
 pub returns-in-Ok-clause-known : goal.returns-in-Ok-clause-known
 returns-in-Ok-clause-known g c = known_set g.R.FileReader.bytes c.args.inputs.now c.args.i c.fill-filled.new.input c.index-inputs-i.result c.requires.within c.fill-filled.ensures.same

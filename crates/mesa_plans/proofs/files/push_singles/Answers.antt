@@ -1,5 +1,5 @@
 use Rattle.std.proofs.Common.{◌++◌, ◌∙◌, ap, map}
-use Rattle.mesa_shelf.proofs.Pushes.{pushed_all, pushed_more}
+use Rattle.mesa_table.proofs.Pushes.{pushed_all, pushed_more}
 use Rattle.mesa_plans.specs.Files.{table_wanted, want_of}
 use Rattle.mesa_plans.proofs.Filing.{single_wanted, singles_wanted}
 use Rattle.mesa_plans.proofs.files.push_singles.Goals as goal

@@ -1,11 +1,11 @@
 use Rattle.std.proofs.Common.{◌≤◌, ◌≡◌, ◌++◌, [], ◌∙◌, cond, map, sym, ap, subst}
 use Rattle.std.specs.Prelude.{option_map}
 use Rattle.std.specs.List.{AllByRecursion}
-use Rattle.mesa_image_laws.specs.mesa_image.Catalog.{Delta}
-use Rattle.mesa_image_laws.specs.mesa_image.Fitting.{base_deltas}
-use Rattle.mesa_image_laws.specs.Brought.{merged_of}
-use Rattle.mesa_shelf.specs.Meaning.{ending_of, stock_of}
-use Rattle.mesa_shelf.specs.Named.{through}
+use Rattle.mesa_image.specs.Catalog.{Delta}
+use Rattle.mesa_image.specs.Fitting.{base_deltas}
+use Rattle.mesa_image.specs.Brought.{merged_of}
+use Rattle.mesa_table.specs.Meaning.{ending_of, stock_of}
+use Rattle.mesa_table.specs.Named.{through}
 use Rattle.mesa_plans.specs.Lent.{lent_if_any, single_delta, with_rows}
 use Rattle.mesa_plans.proofs.Among.{all_merged, epochs_chosen}
 use Rattle.mesa_plans.proofs.Lending.{merged_lent}

@@ -1,7 +1,7 @@
 use Rattle.std.proofs.Common.{◌++◌, ◌∙◌, ap, subst, sym}
 use Rattle.std.specs.Prelude.{flat_map}
 use Rattle.std.proofs.lemmas.List.{take_all}
-use Rattle.mesa_shelf.proofs.Named.{flat_map-map}
+use Rattle.mesa_table.proofs.Named.{flat_map-map}
 use Rattle.mesa_plans.specs.Files.{AreSources, view_wanted}
 use Rattle.mesa_plans.specs.Lent.{single_delta}
 use Rattle.mesa_plans.proofs.Viewing.{single_seen}

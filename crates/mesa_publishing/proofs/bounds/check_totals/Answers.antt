@@ -5,8 +5,8 @@ use Rattle.mesa_schema.specs.Schema.{is_schema}
 use Rattle.mesa_batch.specs.Totals.{sum_places}
 use Rattle.mesa_catalog.specs.mesa_image.Catalog.{Catalog, stock_at}
 use Rattle.mesa_catalog.specs.mesa_image.Shape.{IsCatalog, IsShaped}
-use Rattle.mesa_catalog.proofs.mesa_image_laws.Lifted.{columns_now}
-use Rattle.mesa_catalog.proofs.mesa_image_laws.Lists.{stock_found}
+use Rattle.mesa_catalog.proofs.mesa_image.Lifted.{columns_now}
+use Rattle.mesa_catalog.proofs.mesa_image.Lists.{stock_found}
 use Rattle.mesa_publishing.proofs.Totals.{few_totals, over_within}
 use Rattle.mesa_publishing.proofs.bounds.check_totals.Goals as goal
 

@@ -4,7 +4,7 @@ use Rattle.mesa_disk.specs.Files.{files_of}
 use Rattle.mesa_model.specs.Warehouse.{max_versions}
 use Rattle.mesa_record.specs.declared.record.Record.TheVariants as record_of
 use Rattle.mesa_catalog.specs.mesa_image.Catalog.{Catalog}
-use Rattle.mesa_metadata.specs.mesa_ledger.Ledger.{next_id}
+use Rattle.mesa_metadata.specs.mesa_engine_state.EngineState.{next_id}
 use Rattle.mesa_tasks.specs.declared.prepared.PreparedPart.{PreparedPart}
 use Rattle.mesa_publishing.specs.Adopted.{ArePartsOf, files_of_parts, parts_under, told_under}
 use Rattle.mesa_publishing.specs.Bounds.{IsDue, parts_checked}
@@ -14,12 +14,12 @@ use Rattle.mesa_publishing.proofs.publishing.publish.Goals as goal
 pub returns-in_err-version-clause-refused : goal.returns-in_err-version-clause-refused
 returns-in_err-version-clause-refused g c =
     let p = err_from_is_err_and c.from_residual.result c.from_residual.ensures.1 in
-    let l = c.args.metadata.now.ledger in
+    let l = c.args.metadata.now.state in
     rw (p.1, p.2) (λ words batch unclosed read is. full_due l words batch c.in_err-version.field-0.0 unclosed read (ap (λ (k : Catalog). k.next) (sym c.catalog-catalog.ensures) ∙ c.in_err-version.ensures.full.0) c.in_err-version.ensures.full.1)
 
 pub check_bounds-requires-clause-parts : goal.check_bounds-requires-clause-parts
 check_bounds-requires-clause-parts g c κs within =
-    let l = c.args.metadata.now.ledger in
+    let l = c.args.metadata.now.state in
     let pre = c.requires.prepared in
     subst (λ (k : Catalog). ArePartsOf k c.deref.result.now) (sym c.catalog-catalog.ensures)
     (subst (λ (ps : List (PreparedPart _)). ArePartsOf l.catalogue ps) (sym c.deref.ensures.value) (are_there g.M.Made.bytes g.M.Made.id_of l c.requires.shaped pre.0 c.args.prepared pre.1))
@@ -27,7 +27,7 @@ check_bounds-requires-clause-parts g c κs within =
 pub returns-in_err-check_bounds-clause-refused : goal.returns-in_err-check_bounds-clause-refused
 returns-in_err-check_bounds-clause-refused g c =
     let p = err_from_is_err_and c.from_residual-in_err-check_bounds.result c.from_residual-in_err-check_bounds.ensures.1 in
-    let l = c.args.metadata.now.ledger in
+    let l = c.args.metadata.now.state in
     let e = c.in_err-check_bounds.field-0.0 in
     let few = (ap (λ (k : Catalog). k.next) (sym c.catalog-catalog.ensures)) in
     let due : IsDue (parts_checked l.catalogue c.args.prepared.parts.items) e = subst (λ r. IsDue r e) (λ i. parts_checked (c.catalog-catalog.ensures i) (c.deref.ensures.value i)) c.in_err-check_bounds.ensures.refused in
@@ -35,13 +35,13 @@ returns-in_err-check_bounds-clause-refused g c =
 
 pub parts-requires-clause-there : goal.parts-requires-clause-there
 parts-requires-clause-there g c κs within =
-    let l = c.args.metadata.now.ledger in
+    let l = c.args.metadata.now.state in
     let pre = c.requires.prepared in
     subst (λ (k : Catalog). ArePartsOf k c.args.prepared.parts.items) (sym c.catalog-catalog.ensures) (are_there g.M.Made.bytes g.M.Made.id_of l c.requires.shaped pre.0 c.args.prepared pre.1)
 
 pub parts-requires-clause-room : goal.parts-requires-clause-room
 parts-requires-clause-room g c κs within =
-    let l = c.args.metadata.now.ledger in
+    let l = c.args.metadata.now.state in
     let pre = c.requires.prepared in
     let few = few_there g.M.Made.bytes g.M.Made.id_of l c.requires.shaped pre.0 c.args.prepared pre.1 in
     let run = ap (λ (k : Catalog). k.run) c.catalog-catalog.ensures in
@@ -50,7 +50,7 @@ parts-requires-clause-room g c κs within =
 pub returns-clause-published : goal.returns-clause-published
 returns-clause-published g c =
     let bytes = g.M.Made.bytes in
-    let l = c.args.metadata.now.ledger in
+    let l = c.args.metadata.now.state in
     let parts = c.args.prepared.parts.items in
     let same = c.catalog-catalog.ensures in
     let run = ap (λ (k : Catalog). k.run) same in
@@ -67,7 +67,7 @@ returns-clause-published g c =
 
 pub returns-clause-loaded : goal.returns-clause-loaded
 returns-clause-loaded g c =
-    let l = c.args.metadata.now.ledger in
+    let l = c.args.metadata.now.state in
     let parts = c.args.prepared.parts.items in
     let same = c.catalog-catalog.ensures in
     let version : c.in_ok-version.version ≡ l.catalogue.next = c.in_ok-version.ensures.next.0 ∙ ap (λ (k : Catalog). k.next) same in

@@ -1,10 +1,10 @@
 use Rattle.std.proofs.Common.{◌≡◌, ◌∙◌, Ok, true, ap, subst, sym}
 use Rattle.std.proofs.lemmas.Result.{err_from_is_err_and}
-use Rattle.mesa_image_laws.specs.mesa_image.Catalog.{applied}
-use Rattle.mesa_image_laws.specs.mesa_image.Fitting.{fits}
-use Rattle.mesa_opening.specs.Opening.{IsHeldAs}
-use Rattle.mesa_opening.specs.Strays.{AreStrays}
-use Rattle.mesa_opening.proofs.Beginnings.{begins_run, counts_err, found_unmoved, images_after}
+use Rattle.mesa_image.specs.Catalog.{applied}
+use Rattle.mesa_image.specs.Fitting.{fits}
+use Rattle.mesa_recover.specs.Opening.{IsHeldAs}
+use Rattle.mesa_recover.specs.Strays.{AreStrays}
+use Rattle.mesa_recover.proofs.Beginnings.{begins_run, counts_err, found_unmoved, images_after}
 use Rattle.mesa_recover.proofs.Restating.{moves, states_anew}
 use Rattle.mesa_recover.proofs.beginning.append_run.Goals as goal
 

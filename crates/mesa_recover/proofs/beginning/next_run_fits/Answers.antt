@@ -1,7 +1,7 @@
 use Rattle.std.proofs.Common.{◌≡◌, ◌+◌, ◌-◌, ◌<◌, ◌^◌, true, sym, subst}
-use Rattle.mesa_image_laws.specs.mesa_image.Fitting.{fits}
-use Rattle.mesa_opening.specs.Opening.{run_record}
-use Rattle.mesa_opening.proofs.Beginnings.{fits_run}
+use Rattle.mesa_image.specs.Fitting.{fits}
+use Rattle.mesa_recover.specs.Opening.{run_record}
+use Rattle.mesa_recover.proofs.Beginnings.{fits_run}
 use Rattle.mesa_recover.proofs.beginning.next_run_fits.Goals as goal
 
 pub returns : goal.returns

@@ -1,6 +1,6 @@
 use Rattle.std.proofs.Common.{◌∙◌, ap, sym, arith}
 use Rattle.mesa_list.specs.Bytes.{same_bytes}
-use Rattle.mesa_catalog.specs.mesa_shelf.Lookups.{view_names}
+use Rattle.mesa_catalog.specs.mesa_table.Lookups.{view_names}
 use Rattle.mesa_schema.specs.Columns.{place_of}
 use Rattle.mesa_rules.proofs.Finding.{found_nowhere, found_table, found_view, found_later}
 use Rattle.mesa_rules.proofs.lookups.relation_asked.Goals as goal

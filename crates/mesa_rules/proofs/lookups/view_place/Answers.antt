@@ -4,8 +4,8 @@ use Rattle.std.proofs.lemmas.List.{length-map}
 use Rattle.std.proofs.lemmas.Option.{get_or_from_slice_get, slice_get_within}
 use Rattle.mesa_list.specs.Bytes.{same_bytes}
 use Rattle.mesa_schema.specs.declared.views.View.{View}
-use Rattle.mesa_catalog.specs.mesa_shelf.Lookups.{view_names}
-use Rattle.mesa_catalog.proofs.mesa_shelf.Places.{place_here, place_later, place_nowhere}
+use Rattle.mesa_catalog.specs.mesa_table.Lookups.{view_names}
+use Rattle.mesa_catalog.proofs.mesa_table.Places.{place_here, place_later, place_nowhere}
 use Rattle.mesa_rules.proofs.lookups.view_place.Goals as goal
 
 pub loop-view-init : goal.loop-view-init

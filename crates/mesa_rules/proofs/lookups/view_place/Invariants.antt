@@ -2,7 +2,7 @@ use Rattle.std.proofs.Common.{◌≡◌, drop}
 use Rattle.std.specs.List.{position_from}
 use Rattle.mesa_list.specs.Bytes.{same_bytes}
 use Rattle.mesa_schema.specs.Columns.{place_of}
-use Rattle.mesa_catalog.specs.mesa_shelf.Lookups.{view_names}
+use Rattle.mesa_catalog.specs.mesa_table.Lookups.{view_names}
 use Rattle.mesa_rules.proofs.lookups.view_place.Given as goal
 
 -- the views that are left decide

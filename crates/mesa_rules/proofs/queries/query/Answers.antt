@@ -6,7 +6,7 @@ use Rattle.mesa_schema.specs.Changes.{epoch_of}
 use Rattle.mesa_filter.specs.Query.{BuiltQuery, IsQueryOf, query_of}
 use Rattle.mesa_model.specs.declared.replies.Refusal.{Refusal}
 use Rattle.mesa_model.specs.Refusals.{query_refusal}
-use Rattle.mesa_asked.specs.Told.{IsDue}
+use Rattle.mesa_binding.specs.Told.{IsDue}
 use Rattle.mesa_rules.proofs.Answering.{built_answer, built_at, unbuilt, unversioned}
 use Rattle.mesa_rules.proofs.queries.query.Goals as goal
 

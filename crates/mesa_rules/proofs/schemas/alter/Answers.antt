@@ -6,8 +6,8 @@ use Rattle.mesa_model.specs.declared.replies.Reply.TheVariants as reply
 use Rattle.mesa_model.specs.Refusals.{change_refusal}
 use Rattle.mesa_model.specs.Tables.{change_asked, changed_name}
 use Rattle.mesa_catalog.specs.mesa_image.Catalog.{stock_at}
-use Rattle.mesa_asked.specs.Asked.{change_allowed}
-use Rattle.mesa_asked.specs.Told.{IsDue}
+use Rattle.mesa_binding.specs.Asked.{change_allowed}
+use Rattle.mesa_binding.specs.Told.{IsDue}
 use Rattle.mesa_rules.specs.Seen.{number_of}
 use Rattle.mesa_rules.proofs.Doing.{change_due, nowhere_change, refused_change, ruled_change, stock_named}
 use Rattle.mesa_rules.proofs.schemas.alter.Goals as goal

@@ -1,7 +1,7 @@
 use Rattle.std.proofs.Common.{◌≡◌, ◌∙◌, inl, refl, sym, ap, subst, arith, None, true}
 use Rattle.std.proofs.lemmas.Result.{on_ok_weaker}
 use Rattle.mesa_core.specs.Handing.{AllAreRested, IsRecastHeld}
-use Rattle.mesa_service.specs.Recasts.{KnownRecast}
+use Rattle.mesa_session_laws.specs.Recasts.{KnownRecast}
 use Rattle.mesa_session.proofs.Regrouped.{claim_known, claim_longer, rest_closes}
 use Rattle.mesa_session.proofs.outside.regrouped_now.Goals as goal
 
@@ -28,7 +28,7 @@ returns-in-Ok-clause-rested g c =
     let known = c.regrouped_more-made.ensures.known in
     on_ok_weaker c.regrouped_more-made.result
     (λ (none : c.regrouped_more-made.new.task.damage ≡ None) (runs : c.rest.new.self.shown.running ≡ true).
-    subst (AllAreRested read c.rest.new.self.ledger) (sym known) (c.in-Ok.ensures.rested runs (sym (ap (λ (k : KnownRecast). k.damage) known) ∙ none)))
+    subst (AllAreRested read c.rest.new.self.state) (sym known) (c.in-Ok.ensures.rested runs (sym (ap (λ (k : KnownRecast). k.damage) known) ∙ none)))
     c.regrouped_more-made.ensures.whole
 
 pub returns-in-Ok-clause-made : goal.returns-in-Ok-clause-made

@@ -1,5 +1,5 @@
-use Rattle.mesa_skeleton.specs.Rows.{no_rows}
-use Rattle.mesa_service.specs.Sight.{sight_after}
+use Rattle.mesa_engine.specs.mesa_projection.Rows.{no_rows}
+use Rattle.mesa_session_laws.specs.Sight.{sight_after}
 use Rattle.mesa_session.proofs.Prepared.{first_stays}
 use Rattle.mesa_session.proofs.preparing.prepared_first.Goals as goal
 

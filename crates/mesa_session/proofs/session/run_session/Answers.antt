@@ -1,14 +1,14 @@
 use Rattle.std.proofs.Common.{rules, ◌≡◌, ◌<◌, ◌+◌, ◌*◌, true, false, not, List, length, get_or, arith, subst}
-use Rattle.mesa_history.specs.Run.{Finished, commands_of}
-use Rattle.mesa_history.specs.Turns.{place_then}
-use Rattle.mesa_history.proofs.Due.{command_there}
+use Rattle.mesa_core.specs.mesa_history.Run.{Finished, commands_of}
+use Rattle.mesa_core.specs.mesa_history.Turns.{place_then}
+use Rattle.mesa_core.proofs.mesa_history.Due.{command_there}
 use Rattle.mesa_model.specs.declared.commands.Command.{Command}
-use Rattle.mesa_skeleton.specs.Rows.{no_rows}
-use Rattle.mesa_core.specs.mesa_passes.Passes.{Mine}
-use Rattle.mesa_core.proofs.mesa_passes.Answering.{answers_both}
-use Rattle.mesa_core.proofs.mesa_passes.Dividing.{gains}
-use Rattle.mesa_core.proofs.mesa_passes.Ending.{ended_cut, ended_whole}
-use Rattle.mesa_core.proofs.mesa_passes.Turning.{took_both, took_fewer}
+use Rattle.mesa_engine.specs.mesa_projection.Rows.{no_rows}
+use Rattle.mesa_core.specs.mesa_session_laws.Passes.{Mine}
+use Rattle.mesa_core.proofs.mesa_session_laws.Answering.{answers_both}
+use Rattle.mesa_core.proofs.mesa_session_laws.Dividing.{gains}
+use Rattle.mesa_core.proofs.mesa_session_laws.Ending.{ended_cut, ended_whole}
+use Rattle.mesa_core.proofs.mesa_session_laws.Turning.{took_both, took_fewer}
 use Rattle.mesa_session.proofs.session.run_session.Goals as goal
 
 pub run_command-next-requires-clause-known : goal.run_command-next-requires-clause-known

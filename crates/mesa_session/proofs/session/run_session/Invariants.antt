@@ -1,8 +1,8 @@
 use Rattle.std.proofs.Common.{◌+◌, ◌*◌}
-use Rattle.mesa_history.specs.Run.{First}
-use Rattle.mesa_skeleton.specs.Rows.{no_rows}
-use Rattle.mesa_core.specs.mesa_passes.Answers.{Answers}
-use Rattle.mesa_core.specs.mesa_passes.Passes.{Mine, Took, at_stage}
+use Rattle.mesa_core.specs.mesa_history.Run.{First}
+use Rattle.mesa_engine.specs.mesa_projection.Rows.{no_rows}
+use Rattle.mesa_core.specs.mesa_session_laws.Answers.{Answers}
+use Rattle.mesa_core.specs.mesa_session_laws.Passes.{Mine, Took, at_stage}
 use Rattle.mesa_session.specs.Drafts.{AreOf}
 use Rattle.mesa_session.proofs.session.run_session.Given as goal
 

@@ -3,15 +3,15 @@ use Rattle.std.specs.Prelude.{Err, Result}
 use Rattle.mesa_core.specs.Vault.{Stand}
 use Rattle.mesa_model.specs.Entry.{numbers_of}
 use Rattle.mesa_core.specs.Handing.{IsRecastGranted}
-use Rattle.mesa_walk.specs.Turns.{is_recast}
-use Rattle.mesa_history.specs.Run.{Finished, Granted}
+use Rattle.mesa_engine.specs.mesa_invariant.Turns.{is_recast}
+use Rattle.mesa_core.specs.mesa_history.Run.{Finished, Granted}
 use Rattle.mesa_model.specs.declared.entries.Kind.TheVariants as kind
-use Rattle.mesa_skeleton.specs.Rows.{no_rows}
-use Rattle.mesa_core.proofs.mesa_passes.Answering.{step_drafts}
-use Rattle.mesa_core.proofs.mesa_passes.Turning.{Step, step_took}
+use Rattle.mesa_engine.specs.mesa_projection.Rows.{no_rows}
+use Rattle.mesa_core.proofs.mesa_session_laws.Answering.{step_drafts}
+use Rattle.mesa_core.proofs.mesa_session_laws.Turning.{Step, step_took}
 use Rattle.mesa_tasks.specs.declared.merging.CompactError.{CompactError}
 use Rattle.mesa_tasks.specs.declared.merging.CompactError.TheVariants as compact
-use Rattle.mesa_service.specs.Drafts.{owed_by_error}
+use Rattle.mesa_session_laws.specs.Drafts.{owed_by_error}
 use Rattle.mesa_tasks.specs.Recasts.{claim_of_recast}
 use Rattle.mesa_session.proofs.Prepared.{owed_error}
 use Rattle.mesa_session.proofs.Found.{granted_found}

@@ -1,12 +1,12 @@
 use Rattle.std.proofs.Common.{ap, refl, sym}
 use Rattle.mesa_core.specs.Vault.{Stand}
 use Rattle.mesa_model.specs.Entry.{numbers_of}
-use Rattle.mesa_history.specs.Run.{Finished}
+use Rattle.mesa_core.specs.mesa_history.Run.{Finished}
 use Rattle.mesa_model.specs.declared.commands.Command.TheVariants as command
 use Rattle.mesa_model.specs.declared.entries.Kind.TheVariants as kind
-use Rattle.mesa_skeleton.specs.Rows.{no_rows}
-use Rattle.mesa_core.proofs.mesa_passes.Answering.{step_none}
-use Rattle.mesa_core.proofs.mesa_passes.Turning.{Step, step_took}
+use Rattle.mesa_engine.specs.mesa_projection.Rows.{no_rows}
+use Rattle.mesa_core.proofs.mesa_session_laws.Answering.{step_none}
+use Rattle.mesa_core.proofs.mesa_session_laws.Turning.{Step, step_took}
 use Rattle.mesa_session.proofs.Found.{open_found}
 use Rattle.mesa_session.proofs.Stepping.{Enters, finds_numbers, goes_on, one, room_for, step}
 use Rattle.mesa_session.proofs.turns.close_turn.Goals as goal

@@ -3,15 +3,15 @@ use Rattle.std.specs.Prelude.{Err, is_ok}
 use Rattle.mesa_core.specs.Vault.{Stand}
 use Rattle.mesa_model.specs.Entry.{numbers_of}
 use Rattle.mesa_core.specs.Handing.{IsGranted}
-use Rattle.mesa_walk.specs.Turns.{is_merge}
-use Rattle.mesa_history.specs.Run.{Finished}
+use Rattle.mesa_engine.specs.mesa_invariant.Turns.{is_merge}
+use Rattle.mesa_core.specs.mesa_history.Run.{Finished}
 use Rattle.mesa_model.specs.declared.entries.Kind.TheVariants as kind
-use Rattle.mesa_skeleton.specs.Rows.{no_rows}
-use Rattle.mesa_walk.specs.Works.{closing_stage}
-use Rattle.mesa_core.proofs.mesa_passes.Answering.{step_drafts}
-use Rattle.mesa_core.proofs.mesa_passes.Turning.{Step, step_took}
+use Rattle.mesa_engine.specs.mesa_projection.Rows.{no_rows}
+use Rattle.mesa_engine.specs.mesa_invariant.Works.{closing_stage}
+use Rattle.mesa_core.proofs.mesa_session_laws.Answering.{step_drafts}
+use Rattle.mesa_core.proofs.mesa_session_laws.Turning.{Step, step_took}
 use Rattle.mesa_tasks.specs.declared.merging.CompactError.TheVariants as compact
-use Rattle.mesa_service.specs.Drafts.{owed_by_work}
+use Rattle.mesa_session_laws.specs.Drafts.{owed_by_work}
 use Rattle.mesa_tasks.specs.Tasks.{claim_in}
 use Rattle.mesa_session.proofs.Prepared.{owed_merged}
 use Rattle.mesa_session.proofs.Found.{granted_found}

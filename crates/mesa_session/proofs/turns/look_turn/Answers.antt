@@ -2,14 +2,14 @@ use Rattle.std.proofs.Common.{refl, ◌≡◌, ap, sym, subst, List}
 use Rattle.std.specs.Prelude.{IfOk}
 use Rattle.mesa_core.specs.Vault.{Stand}
 use Rattle.mesa_model.specs.Entry.{numbers_of}
-use Rattle.mesa_history.specs.Run.{First, Looked}
+use Rattle.mesa_core.specs.mesa_history.Run.{First, Looked}
 use Rattle.mesa_model.specs.declared.entries.Entry.{Entry}
 use Rattle.mesa_model.specs.declared.entries.Kind.TheVariants as kind
-use Rattle.mesa_skeleton.specs.Rows.{no_rows}
-use Rattle.mesa_walk.specs.Turns.{is_load}
-use Rattle.mesa_core.proofs.mesa_passes.Answering.{none_looking, step_none}
-use Rattle.mesa_core.proofs.mesa_passes.Turning.{Step, step_took, step_seen}
-use Rattle.mesa_service.specs.Sight.{sight_after}
+use Rattle.mesa_engine.specs.mesa_projection.Rows.{no_rows}
+use Rattle.mesa_engine.specs.mesa_invariant.Turns.{is_load}
+use Rattle.mesa_core.proofs.mesa_session_laws.Answering.{none_looking, step_none}
+use Rattle.mesa_core.proofs.mesa_session_laws.Turning.{Step, step_took, step_seen}
+use Rattle.mesa_session_laws.specs.Sight.{sight_after}
 use Rattle.mesa_session.proofs.Stepping.{Enters, asks, goes_on, one, room_for, step}
 use Rattle.mesa_session.proofs.turns.look_turn.Goals as goal
 use Rattle.mesa_session.proofs.turns.look_turn.Goals.{After-leave}

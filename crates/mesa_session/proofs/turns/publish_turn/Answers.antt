@@ -2,16 +2,16 @@ use Rattle.std.proofs.Common.{◌≡◌, refl, ap, sym}
 use Rattle.std.specs.Prelude.{Err}
 use Rattle.mesa_core.specs.Vault.{Stand}
 use Rattle.mesa_model.specs.Entry.{numbers_of}
-use Rattle.mesa_history.specs.Run.{Looked, Finished}
+use Rattle.mesa_core.specs.mesa_history.Run.{Looked, Finished}
 use Rattle.mesa_model.specs.declared.commands.Command.TheVariants as command
 use Rattle.mesa_model.specs.declared.entries.Kind.TheVariants as kind
-use Rattle.mesa_skeleton.specs.Rows.{no_rows}
-use Rattle.mesa_walk.specs.Turns.{is_load}
-use Rattle.mesa_core.proofs.mesa_passes.Answering.{answers_within, step_drafts}
-use Rattle.mesa_core.proofs.mesa_passes.Turning.{Step, step_took}
+use Rattle.mesa_engine.specs.mesa_projection.Rows.{no_rows}
+use Rattle.mesa_engine.specs.mesa_invariant.Turns.{is_load}
+use Rattle.mesa_core.proofs.mesa_session_laws.Answering.{answers_within, step_drafts}
+use Rattle.mesa_core.proofs.mesa_session_laws.Turning.{Step, step_took}
 use Rattle.mesa_tasks.specs.declared.prepared.LoadError.TheVariants as load
-use Rattle.mesa_service.specs.Drafts.{owed_by_load}
-use Rattle.mesa_service.specs.Sight.{sight_after}
+use Rattle.mesa_session_laws.specs.Drafts.{owed_by_load}
+use Rattle.mesa_session_laws.specs.Sight.{sight_after}
 use Rattle.mesa_session.proofs.Prepared.{owed_made}
 use Rattle.mesa_session.proofs.Found.{prepared_found}
 use Rattle.mesa_session.proofs.Stepping.{Enters, asks, finds_numbers, goes_on, one, room_for, step}

@@ -3,14 +3,14 @@ use Rattle.std.specs.Prelude.{Err}
 use Rattle.mesa_core.specs.Vault.{Stand}
 use Rattle.mesa_model.specs.Entry.{numbers_of}
 use Rattle.mesa_core.specs.Handing.{IsRecastGranted}
-use Rattle.mesa_walk.specs.Turns.{AnswersDraft, Shown, is_recast}
-use Rattle.mesa_history.specs.Run.{Finished, Renewed}
+use Rattle.mesa_engine.specs.mesa_invariant.Turns.{AnswersDraft, Shown, is_recast}
+use Rattle.mesa_core.specs.mesa_history.Run.{Finished, Renewed}
 use Rattle.mesa_model.specs.declared.entries.Kind.TheVariants as kind
-use Rattle.mesa_skeleton.specs.Rows.{no_rows}
-use Rattle.mesa_core.proofs.mesa_passes.Answering.{answers_within, step_drafts}
-use Rattle.mesa_core.proofs.mesa_passes.Turning.{Step, step_took}
+use Rattle.mesa_engine.specs.mesa_projection.Rows.{no_rows}
+use Rattle.mesa_core.proofs.mesa_session_laws.Answering.{answers_within, step_drafts}
+use Rattle.mesa_core.proofs.mesa_session_laws.Turning.{Step, step_took}
 use Rattle.mesa_tasks.specs.declared.merging.CompactError.TheVariants as compact
-use Rattle.mesa_service.specs.Drafts.{owed_by_work}
+use Rattle.mesa_session_laws.specs.Drafts.{owed_by_work}
 use Rattle.mesa_tasks.specs.Recasts.{claim_of_recast}
 use Rattle.mesa_session.proofs.Prepared.{owed_merged}
 use Rattle.mesa_session.proofs.Found.{granted_found}

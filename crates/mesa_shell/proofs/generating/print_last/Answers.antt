@@ -1,4 +1,4 @@
-use Rattle.mesa_printer.proofs.Printing.{printed_then}
+use Rattle.mesa_print.proofs.Printing.{printed_then}
 use Rattle.mesa_shell.proofs.generating.print_last.Goals as goal
 
 pub returns : goal.returns

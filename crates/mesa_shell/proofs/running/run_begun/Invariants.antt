@@ -1,9 +1,9 @@
 use Rattle.std.specs.Prelude.{◌+◌}
-use Rattle.mesa_skeleton.specs.Rows.{no_rows}
-use Rattle.mesa_telling.specs.mesa_ending.Start.{start_of}
-use Rattle.mesa_telling.proofs.mesa_ending.Alike.{start_alike}
+use Rattle.mesa_look.specs.mesa_projection.Rows.{no_rows}
+use Rattle.mesa_exit.specs.mesa_exit_spec.Start.{start_of}
+use Rattle.mesa_exit.proofs.mesa_exit_spec.Alike.{start_alike}
 use Rattle.mesa_shell.specs.Begun.{IsSoundBegun}
-use Rattle.mesa_passes.specs.Passes.{turns_of}
+use Rattle.mesa_session.specs.mesa_session_laws.Passes.{turns_of}
 use Rattle.mesa_shell.specs.Start.{origin_of}
 use Rattle.mesa_shell.proofs.running.run_begun.Given as goal
 

@@ -1,18 +1,18 @@
 use Rattle.std.proofs.Common.{◌≡◌, [], length, true, false, not, refl, sym, ◌∙◌, ap, subst, arith, Bool}
-use Rattle.mesa_fault.specs.Causes.{Rose}
+use Rattle.mesa_disk.specs.mesa_fault.Causes.{Rose}
 use Rattle.mesa_model.specs.declared.commands.Script.{Script}
 use Rattle.mesa_model.specs.Warehouse.{Warehouse}
-use Rattle.mesa_passes.specs.Passes.{turns_of}
-use Rattle.mesa_skeleton.specs.Rows.{no_rows}
-use Rattle.mesa_sessions.specs.mesa_core.Vault.{Stand}
-use Rattle.mesa_history.specs.Refused.{some_refused}
-use Rattle.mesa_history.specs.Run.{begins}
-use Rattle.mesa_walk.specs.Printing.{IsPrinted, IsPrintedButRows}
-use Rattle.mesa_walk.specs.Walk.{AllFound}
-use Rattle.mesa_catalog.specs.declared.begun.Begun.{Begun}
-use Rattle.mesa_ledger.specs.Vault.{IsRead}
-use Rattle.mesa_telling.specs.mesa_ending.Run.{RanAnyhow, RanSoundly, outset_from}
-use Rattle.mesa_telling.proofs.mesa_ending.Small.{session_small}
+use Rattle.mesa_session.specs.mesa_session_laws.Passes.{turns_of}
+use Rattle.mesa_look.specs.mesa_projection.Rows.{no_rows}
+use Rattle.mesa_session.specs.mesa_core.Vault.{Stand}
+use Rattle.mesa_check.specs.mesa_history.Refused.{some_refused}
+use Rattle.mesa_check.specs.mesa_history.Run.{begins}
+use Rattle.mesa_engine_state.specs.mesa_invariant.Printing.{IsPrinted, IsPrintedButRows}
+use Rattle.mesa_engine_state.specs.mesa_invariant.Walk.{AllFound}
+use Rattle.mesa_check.specs.mesa_catalog.declared.begun.Begun.{Begun}
+use Rattle.mesa_engine_state.specs.Vault.{IsRead}
+use Rattle.mesa_exit.specs.mesa_exit_spec.Run.{RanAnyhow, RanSoundly, outset_from}
+use Rattle.mesa_exit.proofs.mesa_exit_spec.Small.{session_small}
 use Rattle.mesa_shell.proofs.Parts.{benches_counted, fits_room, ran_anyhow, read_first, refilled}
 use Rattle.mesa_shell.proofs.running.run_named.Goals as goal
 

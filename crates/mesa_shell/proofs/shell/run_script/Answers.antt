@@ -1,5 +1,5 @@
-use Rattle.mesa_telling.specs.mesa_ending.Ports.{ports}
-use Rattle.mesa_telling.proofs.mesa_ending.Ends.{ended_with, lacked, opening_failed}
+use Rattle.mesa_exit.specs.mesa_exit_spec.Ports.{ports}
+use Rattle.mesa_exit.proofs.mesa_exit_spec.Ends.{ended_with, lacked, opening_failed}
 use Rattle.mesa_shell.proofs.Ran.{script_ran, unrun_sound}
 use Rattle.mesa_shell.proofs.shell.run_script.Goals as goal
 

@@ -25,7 +25,7 @@ returns-then-not-is_behind-clause-put c = λ given put.
       values = put.values;
       form = all_more (IsRowOf g.schema.now) given row put.form c.requires.form;
       kinds = put.kinds;
-      cut = put.cut;
+      window = put.window;
       aggs = put.aggs;
       held = put.held ∙ sym (first_groups-before (wanted_of g) given row before);
     }
@@ -59,7 +59,7 @@ returns-clause-put c = λ given put.
       values = put.values;
       form = all_more (IsRowOf g.schema.now) given row put.form c.requires.form;
       kinds = put.kinds;
-      cut = put.cut;
+      window = put.window;
       aggs = put.aggs;
       held = held_with (wanted_of g) given row part c.deref.result.now g.held c.put.new.self its behind c.in_default.ensures.put;
     }

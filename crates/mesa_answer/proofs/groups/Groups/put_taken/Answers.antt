@@ -35,7 +35,7 @@ returns-then-not-is_behind-clause-put c = λ given put.
       values = put.values;
       form = all_more (IsRowOf g.schema.now) given row put.form c.requires.form;
       kinds = put.kinds;
-      cut = put.cut;
+      window = put.window;
       aggs = put.aggs;
       held = put.held ∙ sym (first_groups-before (wanted_of g) given row before);
     }
@@ -72,7 +72,7 @@ returns-clause-put c =
       values = put.values;
       form = all_more (IsRowOf g.schema.now) given row put.form c.requires.form;
       kinds = put.kinds;
-      cut = put.cut;
+      window = put.window;
       aggs = put.aggs;
       held = held_with (wanted_of g) given row part _ g.held _ its behind held;
     }) c.put.ensures.put

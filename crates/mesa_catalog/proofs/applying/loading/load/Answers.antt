@@ -2,9 +2,9 @@ use Rattle.std.proofs.Common.{◌≢◌, ◌+◌, ◌<◌, ◌++◌, ◌∙◌, 
 use Rattle.std.specs.List.{AllByRecursion}
 use Rattle.std.proofs.lemmas.List.{append-nil, drop_all, get_or_default, take_all}
 use Rattle.mesa_record.specs.declared.record.Part.{Part}
-use Rattle.mesa_image_laws.specs.mesa_image.Catalog.{stock_loaded, stocks_loaded}
-use Rattle.mesa_shelf.specs.Meaning.{IsTable, stock_of}
-use Rattle.mesa_shelf.specs.Readied.{part_in}
+use Rattle.mesa_image.specs.Catalog.{stock_loaded, stocks_loaded}
+use Rattle.mesa_table.specs.Meaning.{IsTable, stock_of}
+use Rattle.mesa_table.specs.Readied.{part_in}
 use Rattle.std.specs.Prelude.{◌==◌, option_map}
 use Rattle.mesa_catalog.proofs.Loads.{find_mapped, loads_step, part_here}
 use Rattle.mesa_catalog.proofs.applying.loading.load.Goals as goal

@@ -1,7 +1,7 @@
 use Rattle.std.proofs.Common.{◌∙◌, ap, sym, subst}
-use Rattle.mesa_image_laws.specs.mesa_image.Catalog.{Stock}
-use Rattle.mesa_shelf.specs.Meaning.{IsTable, stock_of}
-use Rattle.mesa_shelf.specs.Ranged.{delta_at}
+use Rattle.mesa_image.specs.Catalog.{Stock}
+use Rattle.mesa_table.specs.Meaning.{IsTable, stock_of}
+use Rattle.mesa_table.specs.Ranged.{delta_at}
 use Rattle.mesa_catalog.specs.Kept.{Reserved}
 use Rattle.mesa_catalog.proofs.catalog.Catalog.delta.Goals as goal
 

@@ -1,9 +1,9 @@
 use Rattle.std.proofs.Common.{◌++◌, ◌∙◌, ap, sym, subst, arith}
 use Rattle.std.specs.Prelude.{flat_map}
 use Rattle.std.specs.List.{AllByRecursion}
-use Rattle.mesa_image_laws.specs.Ids.{named}
-use Rattle.mesa_shelf.specs.Meaning.{IsTable}
-use Rattle.mesa_shelf.specs.Named.{table_ids}
+use Rattle.mesa_image.specs.Ids.{named}
+use Rattle.mesa_table.specs.Meaning.{IsTable}
+use Rattle.mesa_table.specs.Named.{table_ids}
 use Rattle.mesa_catalog.specs.Kept.{Reserved}
 use Rattle.mesa_catalog.proofs.Ids.{named_held}
 use Rattle.mesa_catalog.proofs.catalog.Catalog.named_files.Goals as goal

@@ -1,8 +1,8 @@
 use Rattle.std.proofs.Common.{◌∙◌, ap, sym, arith, length}
 use Rattle.std.proofs.lemmas.Bool.Decides.{nat_tests}
-use Rattle.mesa_image_laws.specs.mesa_image.Catalog.{ranges_of, stock_at}
+use Rattle.mesa_image.specs.Catalog.{ranges_of, stock_at}
 use Rattle.mesa_catalog.specs.Kept.{Reserved}
-use Rattle.mesa_shelf.proofs.Tests.{if_ok}
+use Rattle.mesa_table.proofs.Tests.{if_ok}
 use Rattle.mesa_catalog.proofs.catalog.Catalog.ranges.Goals as goal
 
 pub table-requires-clause-there : goal.table-requires-clause-there

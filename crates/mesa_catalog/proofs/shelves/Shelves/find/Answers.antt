@@ -1,7 +1,7 @@
 use Rattle.std.proofs.Common.{◌∙◌, ap, sym, map, ◌+◌, drop}
 use Rattle.std.specs.Option.{option_or}
 use Rattle.mesa_catalog.specs.Lookups.{relation_from}
-use Rattle.mesa_shelf.specs.Meaning.{stock_of}
+use Rattle.mesa_table.specs.Meaning.{stock_of}
 use Rattle.mesa_catalog.proofs.Relations.{relation_end, relation_step}
 use Rattle.mesa_catalog.proofs.shelves.Shelves.find.Goals as goal
 

@@ -1,7 +1,7 @@
 use Rattle.std.proofs.Common.{◌≡◌, drop, map}
 use Rattle.mesa_catalog.specs.Lookups.{relation_from, relation_of}
 use Rattle.mesa_catalog.specs.Meaning.{catalogue_of}
-use Rattle.mesa_shelf.specs.Meaning.{stock_of}
+use Rattle.mesa_table.specs.Meaning.{stock_of}
 use Rattle.mesa_catalog.proofs.shelves.Shelves.find.Given as goal
 
 -- the tables that are left decide

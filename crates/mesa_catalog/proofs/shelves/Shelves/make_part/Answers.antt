@@ -1,8 +1,8 @@
 use Rattle.std.proofs.Common.{◌∙◌, ap, sym}
 use Rattle.std.specs.Prelude.{is_none}
 use Rattle.mesa_batch.specs.Totals.{over_bound}
-use Rattle.mesa_image_laws.specs.mesa_image.Catalog.{Stock}
-use Rattle.mesa_shelf.proofs.Tests.{both}
+use Rattle.mesa_image.specs.Catalog.{Stock}
+use Rattle.mesa_table.proofs.Tests.{both}
 use Rattle.mesa_catalog.proofs.shelves.Shelves.make_part.Goals as goal
 
 pub table-requires-clause-there : goal.table-requires-clause-there

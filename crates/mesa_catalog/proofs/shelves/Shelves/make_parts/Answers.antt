@@ -3,13 +3,13 @@ use Rattle.std.specs.Prelude.{◌&&◌}
 use Rattle.std.specs.List.{AllByRecursion}
 use Rattle.std.proofs.lemmas.List.{map_push, take_all, take_more}
 use Rattle.mesa_record.specs.declared.record.Part.{Part}
-use Rattle.mesa_image_laws.specs.mesa_image.Catalog.{stock_at}
-use Rattle.mesa_image_laws.specs.mesa_image.Fitting.{is_there, part_fits}
+use Rattle.mesa_image.specs.Catalog.{stock_at}
+use Rattle.mesa_image.specs.Fitting.{is_there, part_fits}
 use Rattle.mesa_catalog.specs.Meaning.{catalogue_of}
 use Rattle.mesa_catalog.specs.Readied.{IsMadePart}
-use Rattle.mesa_shelf.specs.Readied.{part_in}
+use Rattle.mesa_table.specs.Readied.{part_in}
 use Rattle.mesa_catalog.proofs.Stocks.{all_pushed}
-use Rattle.mesa_shelf.proofs.Tests.{passes_at}
+use Rattle.mesa_table.proofs.Tests.{passes_at}
 use Rattle.mesa_catalog.proofs.shelves.Shelves.make_parts.Goals as goal
 
 pub make_part-requires-clause-fits : goal.make_part-requires-clause-fits

@@ -2,7 +2,7 @@ use Rattle.std.proofs.Common.{◌≡◌, map, take}
 use Rattle.std.specs.List.{AllByRecursion}
 use Rattle.mesa_catalog.specs.Meaning.{catalogue_of}
 use Rattle.mesa_catalog.specs.Readied.{IsMadePart}
-use Rattle.mesa_shelf.specs.Readied.{part_in}
+use Rattle.mesa_table.specs.Readied.{part_in}
 use Rattle.mesa_catalog.proofs.shelves.Shelves.make_parts.Given as goal
 
 -- the parts so far

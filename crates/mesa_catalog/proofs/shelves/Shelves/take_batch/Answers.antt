@@ -2,13 +2,13 @@ use Rattle.std.proofs.Common.{◌+◌, ◌∙◌, List, ap, sym, subst, arith, l
 use Rattle.std.specs.Prelude.{slice_get, IfSome}
 use Rattle.std.specs.List.{AllByRecursion}
 use Rattle.std.proofs.lemmas.List.{with_items_is}
-use Rattle.mesa_image_laws.specs.mesa_image.Catalog.{stocks_loaded}
-use Rattle.mesa_shelf.specs.declared.table.Table.{Table}
-use Rattle.mesa_shelf.specs.declared.ready.ReadyPart.{ReadyPart}
+use Rattle.mesa_image.specs.Catalog.{stocks_loaded}
+use Rattle.mesa_table.specs.declared.table.Table.{Table}
+use Rattle.mesa_table.specs.declared.ready.ReadyPart.{ReadyPart}
 use Rattle.mesa_catalog.specs.declared.ready.Ready.TheVariants as ready_of
-use Rattle.mesa_shelf.specs.Meaning.{IsTable, stock_of}
+use Rattle.mesa_table.specs.Meaning.{IsTable, stock_of}
 use Rattle.mesa_catalog.specs.Meaning.{catalogue_of}
-use Rattle.mesa_shelf.specs.Readied.{HasSpare, IsPartOf, part_in}
+use Rattle.mesa_table.specs.Readied.{HasSpare, IsPartOf, part_in}
 use Rattle.mesa_catalog.specs.Readied.{record_in}
 use Rattle.mesa_catalog.proofs.Applies.{kind_of_fits, next_version, parts_made}
 use Rattle.mesa_catalog.proofs.shelves.Shelves.take_batch.Goals as goal

@@ -3,13 +3,13 @@ use Rattle.std.specs.Prelude.{nat_le, nat_lt}
 use Rattle.std.specs.List.{AllByRecursion}
 use Rattle.std.proofs.lemmas.Bool.Decides.{nat_tests}
 use Rattle.std.proofs.lemmas.List.{with_items_is}
-use Rattle.mesa_image_laws.specs.mesa_image.Catalog.{stock_from}
-use Rattle.mesa_shelf.specs.Meaning.{IsTable, stock_of}
+use Rattle.mesa_image.specs.Catalog.{stock_from}
+use Rattle.mesa_table.specs.Meaning.{IsTable, stock_of}
 use Rattle.mesa_catalog.specs.Meaning.{catalogue_of}
 use Rattle.mesa_catalog.specs.Readied.{record_in}
 use Rattle.mesa_catalog.specs.declared.ready.Ready.TheVariants as ready_of
 use Rattle.mesa_catalog.proofs.Applies.{kind_of_fits}
-use Rattle.mesa_shelf.proofs.Tests.{both}
+use Rattle.mesa_table.proofs.Tests.{both}
 use Rattle.mesa_catalog.proofs.shelves.Shelves.take_floor.Goals as goal
 
 pub returns-clause-applied : goal.returns-clause-applied

@@ -1,11 +1,11 @@
 use Rattle.std.proofs.Common.{◌≡◌, ◌∙◌, ap, sym, subst, arith}
 use Rattle.std.proofs.lemmas.List.{length-set}
-use Rattle.mesa_image_laws.specs.mesa_image.Catalog.{Stock, merged_delta, stock_swapped}
-use Rattle.mesa_image_laws.specs.mesa_image.Fitting.{may_be_work}
+use Rattle.mesa_image.specs.Catalog.{Stock, merged_delta, stock_swapped}
+use Rattle.mesa_image.specs.Fitting.{may_be_work}
 use Rattle.mesa_catalog.specs.declared.ready.Ready.TheVariants as ready_of
-use Rattle.mesa_shelf.specs.Meaning.{IsTable, stock_of}
+use Rattle.mesa_table.specs.Meaning.{IsTable, stock_of}
 use Rattle.mesa_catalog.specs.Meaning.{catalogue_of}
-use Rattle.mesa_shelf.specs.Readied.{HasSpare}
+use Rattle.mesa_table.specs.Readied.{HasSpare}
 use Rattle.mesa_catalog.specs.Readied.{record_in}
 use Rattle.mesa_catalog.proofs.Applies.{kind_of_fits, put_stock, swap_of, swap_there}
 use Rattle.mesa_catalog.proofs.Stocks.{all_at, all_set, stock_here, there_within}

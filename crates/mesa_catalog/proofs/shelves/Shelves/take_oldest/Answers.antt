@@ -2,15 +2,15 @@ use Rattle.std.proofs.Common.{◌∙◌, ◌<◌, ap, sym, subst, arith}
 use Rattle.std.specs.Prelude.{nat_le, nat_lt}
 use Rattle.std.proofs.lemmas.Bool.Decides.{nat_tests}
 use Rattle.std.proofs.lemmas.List.{length-set}
-use Rattle.mesa_image_laws.specs.mesa_image.Catalog.{stock_at, stock_from}
-use Rattle.mesa_image_laws.specs.mesa_image.Fitting.{expire_fits, is_there}
-use Rattle.mesa_shelf.specs.Meaning.{IsTable, stock_of}
+use Rattle.mesa_image.specs.Catalog.{stock_at, stock_from}
+use Rattle.mesa_image.specs.Fitting.{expire_fits, is_there}
+use Rattle.mesa_table.specs.Meaning.{IsTable, stock_of}
 use Rattle.mesa_catalog.specs.Meaning.{catalogue_of}
 use Rattle.mesa_catalog.specs.Readied.{record_in}
 use Rattle.mesa_catalog.specs.declared.ready.Ready.TheVariants as ready_of
 use Rattle.mesa_catalog.proofs.Applies.{kind_of_fits, put_stock}
 use Rattle.mesa_catalog.proofs.Stocks.{all_at, all_set, stock_here, there_within}
-use Rattle.mesa_shelf.proofs.Tests.{both}
+use Rattle.mesa_table.proofs.Tests.{both}
 use Rattle.mesa_catalog.proofs.shelves.Shelves.take_oldest.Goals as goal
 
 pub index_mut-table-requires : goal.index_mut-table-requires

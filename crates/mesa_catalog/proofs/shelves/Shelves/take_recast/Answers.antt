@@ -1,9 +1,9 @@
 use Rattle.std.proofs.Common.{◌∙◌, ap, sym, subst, arith}
 use Rattle.std.proofs.lemmas.List.{length-set}
-use Rattle.mesa_image_laws.specs.mesa_image.Catalog.{Stock, stock_recast}
-use Rattle.mesa_image_laws.specs.mesa_image.Fitting.{recast_fits}
-use Rattle.mesa_shelf.specs.Meaning.{IsTable, stock_of}
-use Rattle.mesa_shelf.specs.Readied.{IsRecast, recasting_in}
+use Rattle.mesa_image.specs.Catalog.{Stock, stock_recast}
+use Rattle.mesa_image.specs.Fitting.{recast_fits}
+use Rattle.mesa_table.specs.Meaning.{IsTable, stock_of}
+use Rattle.mesa_table.specs.Readied.{IsRecast, recasting_in}
 use Rattle.mesa_catalog.specs.Meaning.{catalogue_of}
 use Rattle.mesa_catalog.proofs.Applies.{put_stock, recast_there}
 use Rattle.mesa_catalog.proofs.Stocks.{all_at, all_set, stock_here, there_within}

@@ -2,20 +2,20 @@ use Rattle.std.proofs.Common.{◌≡◌, Err, true, length, not, sym, ap, ◌∙
 use Rattle.std.specs.Prelude.{OnOk, is_ok}
 use Rattle.mesa_history.specs.Run.{Granted, Renewed}
 use Rattle.mesa_model.specs.declared.commands.Command.TheVariants as command
-use Rattle.mesa_granted.specs.mesa_service.Works.{HasMerged, WasGranted, known_task}
-use Rattle.mesa_recasting.specs.mesa_completing.Swept.{ClaimHolds, HasStood, IsSwept}
-use Rattle.mesa_skeleton.specs.Rows.{no_rows}
+use Rattle.mesa_session_laws.specs.Works.{HasMerged, WasGranted, known_task}
+use Rattle.mesa_recast_turns.specs.mesa_close_turns.Swept.{ClaimHolds, HasStood, IsSwept}
+use Rattle.mesa_engine.specs.mesa_projection.Rows.{no_rows}
 use Rattle.mesa_tasks.specs.Tasks.{claim_in}
 use Rattle.mesa_tasks.specs.declared.merging.CompactError.TheVariants as compact
-use Rattle.mesa_walk.specs.Turns.{AnswersDisk, AnswersDraft, Asks, SomeRose, is_merge}
-use Rattle.mesa_walk.specs.Walk.{run_at}
-use Rattle.mesa_walk.specs.Works.{closing_stage}
+use Rattle.mesa_engine.specs.mesa_invariant.Turns.{AnswersDisk, AnswersDraft, Asks, SomeRose, is_merge}
+use Rattle.mesa_engine.specs.mesa_invariant.Walk.{run_at}
+use Rattle.mesa_engine.specs.mesa_invariant.Works.{closing_stage}
 use Rattle.mesa_core.specs.Handing.{IsGranted}
 use Rattle.mesa_core.specs.Vault.{Stand}
 use Rattle.mesa_core.proofs.Due.{due_of, sort_of}
 use Rattle.mesa_history.specs.Claims.{is_live}
 use Rattle.mesa_history.specs.mesa_lease.Book.{Book}
-use Rattle.mesa_walk.proofs.Alike.{begun_alike}
+use Rattle.mesa_engine.proofs.mesa_invariant.Alike.{begun_alike}
 use Rattle.mesa_core.proofs.Merged.{answers_more, finished_as, unmerged_differed, unmerged_failed, unmerged_whole}
 use Rattle.mesa_core.proofs.vault.Vault.complete.Goals as goal
 
@@ -39,7 +39,7 @@ complete-requires-clause-finished g c κs within live =
     let N = g.N.Naming in
     let read = g.D.Reader.FileReader.bytes in
     let t = c.args.task in
-    finished_as g.M.Made.bytes g.M.Made.id_of read g.D.Reader.FileReader.faults N.script N.start N.origin N.sound (N.origin no_rows).generation c.self.inside.engine.shown.history c.self.inside.engine.ledger.catalogue t c.in-Ok.delta c.catalogue.ensures
+    finished_as g.M.Made.bytes g.M.Made.id_of read g.D.Reader.FileReader.faults N.script N.start N.origin N.sound (N.origin no_rows).generation c.self.inside.engine.shown.history c.self.inside.engine.state.catalogue t c.in-Ok.delta c.catalogue.ensures
     (subst (λ (s : Stand). WasGranted (IsGranted read N.script N.start N.origin N.sound) s.shown.history (known_task read t)) (sym c.self.view_is) c.requires.granted)
     (subst (HasMerged g.M.Made.bytes g.M.Made.id_of read g.D.Reader.FileReader.faults t) c.in-Ok.is c.requires.merged)
     c.merges_are_known.ensures c.leases_hold.ensures c.ranges_go_on.ensures c.tables_go_on.ensures.becomes c.tables_become.ensures.grown c.claims.ensures.ranges
@@ -97,8 +97,8 @@ returns-in-Ok-clause-swept g c =
     let who = c.args.who in
     let claim = claim_in c.args.task in
     let now = c.complete.new.engine in
-    subst (λ m. OnOk m (HasStood c.args.self.now.shown now.shown who.session who.command → ClaimHolds c.args.self.now.ledger (length c.args.self.now.shown.history) claim → IsSwept now.told now.ledger now.shown.history)) (sym c.in-Ok.is)
-    (subst (λ (s : Stand). HasStood s.shown now.shown who.session who.command → ClaimHolds s.ledger (length s.shown.history) claim → IsSwept now.told now.ledger now.shown.history) c.self.view_is c.complete.ensures.swept)
+    subst (λ m. OnOk m (HasStood c.args.self.now.shown now.shown who.session who.command → ClaimHolds c.args.self.now.state (length c.args.self.now.shown.history) claim → IsSwept now.told now.state now.shown.history)) (sym c.in-Ok.is)
+    (subst (λ (s : Stand). HasStood s.shown now.shown who.session who.command → ClaimHolds s.state (length s.shown.history) claim → IsSwept now.told now.state now.shown.history) c.self.view_is c.complete.ensures.swept)
 
 pub returns-in-Ok-clause-disk : goal.returns-in-Ok-clause-disk
 returns-in-Ok-clause-disk g c =

@@ -1,9 +1,9 @@
 use Rattle.std.proofs.Common.{sym, subst}
 use Rattle.mesa_history.specs.Run.{First, place_of}
 use Rattle.mesa_model.specs.declared.commands.Command.TheVariants as command
-use Rattle.mesa_skeleton.specs.Rows.{no_rows}
-use Rattle.mesa_walk.specs.Turns.{AnswersDisk, Asks, SomeRose, is_merge}
-use Rattle.mesa_walk.specs.Walk.{run_at}
+use Rattle.mesa_engine.specs.mesa_projection.Rows.{no_rows}
+use Rattle.mesa_engine.specs.mesa_invariant.Turns.{AnswersDisk, Asks, SomeRose, is_merge}
+use Rattle.mesa_engine.specs.mesa_invariant.Walk.{run_at}
 use Rattle.mesa_core.specs.Standing.{IsCatalogAfter}
 use Rattle.mesa_core.specs.Vault.{Stand}
 use Rattle.mesa_core.proofs.Due.{due_of, sort_of}
@@ -24,7 +24,7 @@ pub returns-clause-task : goal.returns-clause-task
 returns-clause-task g c =
     let N = g.N.Naming in
     let e = c.grant-granted.ensures in
-    mergeable_if g.D.Reader.FileReader.bytes N.script N.start N.origin N.sound (N.origin no_rows).generation c.grant-granted.new.engine.shown.history c.self.inside.engine.ledger.catalogue
+    mergeable_if g.D.Reader.FileReader.bytes N.script N.start N.origin N.sound (N.origin no_rows).generation c.grant-granted.new.engine.shown.history c.self.inside.engine.state.catalogue
     (subst (IsCatalogAfter N.script N.start (N.origin no_rows).generation c.grant-granted.new.engine.shown.history) e.catalogue c.catalogue.ensures)
     c.grant-granted.result _ e.task e.damage e.spare
 
@@ -32,7 +32,7 @@ pub returns-clause-granted : goal.returns-clause-granted
 returns-clause-granted g c =
     let N = g.N.Naming in
     let e = c.grant-granted.ensures in
-    granted_if g.D.Reader.FileReader.bytes N.script N.start N.origin N.sound (N.origin no_rows).generation c.grant-granted.new.engine.shown.history c.self.inside.engine.ledger.catalogue
+    granted_if g.D.Reader.FileReader.bytes N.script N.start N.origin N.sound (N.origin no_rows).generation c.grant-granted.new.engine.shown.history c.self.inside.engine.state.catalogue
     (subst (IsCatalogAfter N.script N.start (N.origin no_rows).generation c.grant-granted.new.engine.shown.history) e.catalogue c.catalogue.ensures)
     c.grant-granted.result e.low e.there e.next
     (claim_if (run_at N.script (N.start no_rows) c.grant-granted.new.engine.shown.history).state c.args.who.command c.self.inside.engine.shown.running (place_of (run_at N.script (N.start no_rows) c.grant-granted.new.engine.shown.history) c.args.who.session)

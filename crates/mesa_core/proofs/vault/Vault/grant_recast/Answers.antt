@@ -1,9 +1,9 @@
 use Rattle.std.proofs.Common.{sym, subst}
 use Rattle.mesa_history.specs.Run.{First}
 use Rattle.mesa_model.specs.declared.commands.Command.TheVariants as command
-use Rattle.mesa_skeleton.specs.Rows.{no_rows}
-use Rattle.mesa_walk.specs.Turns.{AnswersDisk, Asks, SomeRose, is_recast}
-use Rattle.mesa_walk.specs.Walk.{run_at}
+use Rattle.mesa_engine.specs.mesa_projection.Rows.{no_rows}
+use Rattle.mesa_engine.specs.mesa_invariant.Turns.{AnswersDisk, Asks, SomeRose, is_recast}
+use Rattle.mesa_engine.specs.mesa_invariant.Walk.{run_at}
 use Rattle.mesa_core.specs.Standing.{IsCatalogAfter}
 use Rattle.mesa_core.specs.Vault.{Stand}
 use Rattle.mesa_core.proofs.Due.{due_of, sort_of}
@@ -24,7 +24,7 @@ pub returns-clause-granted : goal.returns-clause-granted
 returns-clause-granted g c =
     let N = g.N.Naming in
     let e = c.in-Some.ensures in
-    recast_granted_as g.D.Reader.FileReader.bytes N.script N.start N.origin N.sound (N.origin no_rows).generation c.grant_recast-granted.new.engine.shown.history c.self.inside.engine.ledger.catalogue
+    recast_granted_as g.D.Reader.FileReader.bytes N.script N.start N.origin N.sound (N.origin no_rows).generation c.grant_recast-granted.new.engine.shown.history c.self.inside.engine.state.catalogue
     (subst (IsCatalogAfter N.script N.start (N.origin no_rows).generation c.grant_recast-granted.new.engine.shown.history) c.grant_recast-granted.ensures.catalogue c.catalogue.ensures)
     c.in-Some.task e.low e.there e.next e.lineage e.whole e.bounded e.ranges c.recasts_are_known.ensures.ranges c.recasts_are_known.ensures.bounded
 

@@ -1,15 +1,15 @@
 use Rattle.std.proofs.Common.{◌≡◌, ◌∙◌, ap, sym, subst, Some}
 use Rattle.std.specs.Prelude.{IfSome}
-use Rattle.mesa_recasting.specs.mesa_completing.mesa_asking.Opening.{HasItsFiles}
+use Rattle.mesa_recast_turns.specs.mesa_close_turns.mesa_query_turns.Opening.{HasItsFiles}
 use Rattle.mesa_filter.specs.declared.words.QueryWords.{QueryWords}
 use Rattle.mesa_history.specs.Legal.{is_query}
 use Rattle.mesa_history.specs.Run.{First, command_at}
 use Rattle.mesa_model.specs.declared.commands.Command.TheVariants as command
 use Rattle.mesa_model.specs.declared.commands.Script.{Script}
-use Rattle.mesa_granted.specs.mesa_service.Pins.{TakesQuery}
-use Rattle.mesa_skeleton.specs.Rows.{no_rows}
-use Rattle.mesa_walk.specs.Turns.{AnswersDisk, Asks, SomeRose}
-use Rattle.mesa_walk.specs.Walk.{run_at}
+use Rattle.mesa_session_laws.specs.Pins.{TakesQuery}
+use Rattle.mesa_engine.specs.mesa_projection.Rows.{no_rows}
+use Rattle.mesa_engine.specs.mesa_invariant.Turns.{AnswersDisk, Asks, SomeRose}
+use Rattle.mesa_engine.specs.mesa_invariant.Walk.{run_at}
 use Rattle.mesa_core.specs.Handing.{Tells}
 use Rattle.mesa_core.specs.Vault.{Stand}
 use Rattle.mesa_core.proofs.Due.{due_of, sort_of}
@@ -43,6 +43,6 @@ returns g c =
           let both : Some (command.Query c.words_of-words.result.now) ≡ Some (command.Query words) =
           sym c.words_of-words.ensures ∙ ap (λ (script : Script). command_at script who.session who.command) c.self.invariant.script ∙ known in
           let same : c.words_of-words.result.now ≡ words = cc in
-          subst (λ (s : Stand). IfSome c.pin_query.result (HasItsFiles bytes faults s.told s.ledger who.session words)) c.self.view_is
-          (subst (λ (asked : QueryWords). IfSome c.pin_query.result (HasItsFiles bytes faults c.self.inside.engine.told c.self.inside.engine.ledger who.session asked)) same e.files);
+          subst (λ (s : Stand). IfSome c.pin_query.result (HasItsFiles bytes faults s.told s.state who.session words)) c.self.view_is
+          (subst (λ (asked : QueryWords). IfSome c.pin_query.result (HasItsFiles bytes faults c.self.inside.engine.told c.self.inside.engine.state who.session asked)) same e.files);
     }

@@ -2,26 +2,26 @@ use Rattle.std.proofs.Common.{◌≡◌, ◌⊎◌, ◌++◌, ◌∷◌, [], len
 use Rattle.std.proofs.lemmas.Result.{on_ok_weaker}
 use Rattle.std.specs.Prelude.{IfErr, OnOk}
 use Rattle.mesa_delta.specs.declared.error.FileError.TheVariants as file_error
-use Rattle.mesa_granted.specs.mesa_service.Recasts.{HasRegrouped, known_recast}
-use Rattle.mesa_granted.specs.mesa_service.Works.{WasGranted}
-use Rattle.mesa_granted.specs.mesa_swapping.Recasts.{stock_of_recast}
+use Rattle.mesa_session_laws.specs.Recasts.{HasRegrouped, known_recast}
+use Rattle.mesa_session_laws.specs.Works.{WasGranted}
+use Rattle.mesa_session_laws.specs.mesa_publishing.Recasts.{stock_of_recast}
 use Rattle.mesa_history.specs.Machine.{still_checked}
 use Rattle.mesa_history.specs.Run.{Renewed}
 use Rattle.mesa_model.specs.declared.commands.Command.TheVariants as command
 use Rattle.mesa_model.specs.declared.entries.Kind.TheVariants as kind
-use Rattle.mesa_recasting.specs.mesa_completing.Swept.{ClaimHolds, HasStood, IsSwept}
-use Rattle.mesa_recasting.specs.mesa_completing.Unmerged.{closing_cause}
-use Rattle.mesa_recasting.specs.Rested.{HasUnpaid}
-use Rattle.mesa_schema.specs.Changes.{epoch_of}
-use Rattle.mesa_skeleton.specs.Rows.{no_rows}
+use Rattle.mesa_recast_turns.specs.mesa_close_turns.Swept.{ClaimHolds, HasStood, IsSwept}
+use Rattle.mesa_recast_turns.specs.mesa_close_turns.Unmerged.{closing_cause}
+use Rattle.mesa_recast_turns.specs.Rested.{HasUnpaid}
+use Rattle.mesa_model.specs.mesa_schema.Changes.{epoch_of}
+use Rattle.mesa_engine.specs.mesa_projection.Rows.{no_rows}
 use Rattle.mesa_tasks.specs.Recasts.{claim_of_recast, recast_in}
 use Rattle.mesa_tasks.specs.declared.merging.CompactError.TheVariants as compact
-use Rattle.mesa_walk.specs.mesa_output.Output.{block}
-use Rattle.mesa_walk.specs.Causes.{outcome_of, reply_of, told_at}
-use Rattle.mesa_walk.specs.Printing.{IsPut}
-use Rattle.mesa_walk.specs.Turns.{AnswersDisk, AnswersDraft, Asks, SomeRose, entry, is_recast}
-use Rattle.mesa_walk.specs.Walk.{run_at}
-use Rattle.mesa_walk.specs.Works.{closing_stage}
+use Rattle.mesa_engine.specs.mesa_invariant.mesa_output.Output.{block}
+use Rattle.mesa_engine.specs.mesa_invariant.Causes.{outcome_of, reply_of, told_at}
+use Rattle.mesa_engine.specs.mesa_invariant.Printing.{IsPut}
+use Rattle.mesa_engine.specs.mesa_invariant.Turns.{AnswersDisk, AnswersDraft, Asks, SomeRose, entry, is_recast}
+use Rattle.mesa_engine.specs.mesa_invariant.Walk.{run_at}
+use Rattle.mesa_engine.specs.mesa_invariant.Works.{closing_stage}
 use Rattle.mesa_core.specs.Handing.{AllAreRested, IsRecastGranted, IsRecastHeld}
 use Rattle.mesa_core.specs.Vault.{Stand}
 use Rattle.mesa_core.proofs.Due.{due_of, sort_of}
@@ -67,8 +67,8 @@ recast-requires-clause-rested g c κs within =
     let read = g.D.Reader.FileReader.bytes in
     let k = known_recast read c.args.task in
     on_ok_weaker c.args.made
-    (λ (rested : (c.self.inside.engine.shown.running ≡ true) → AllAreRested read c.self.inside.engine.ledger k) (runs : c.self.inside.engine.shown.running ≡ true). rested runs c.args.task refl c.requires.task.task)
-    (subst (λ (s : Stand). OnOk c.args.made ((s.shown.running ≡ true) → AllAreRested read s.ledger k)) (sym c.self.view_is) c.requires.rested)
+    (λ (rested : (c.self.inside.engine.shown.running ≡ true) → AllAreRested read c.self.inside.engine.state k) (runs : c.self.inside.engine.shown.running ≡ true). rested runs c.args.task refl c.requires.task.task)
+    (subst (λ (s : Stand). OnOk c.args.made ((s.shown.running ≡ true) → AllAreRested read s.state k)) (sym c.self.view_is) c.requires.rested)
 
 pub recast-requires-clause-rewritten : goal.recast-requires-clause-rewritten
 recast-requires-clause-rewritten g c κs within = made_is g.M.Made.bytes g.M.Made.id_of g.D.Reader.FileReader.bytes g.D.Reader.FileReader.faults c.args.task _ c.args.made c.requires.made
@@ -78,7 +78,7 @@ recast-requires-clause-ranges g c κs within =
     let N = g.N.Naming in
     let now = c.self.inside.engine in
     let t = c.args.task in
-    on_ok c.args.made (λ w ok same. c.held.ensures.ranges w ok (ap epoch_of (sym (lineage_is N.script N.start (N.origin no_rows).generation now.shown.history now.ledger.catalogue c.catalogue.ensures t.table)) ∙ same) t refl)
+    on_ok c.args.made (λ w ok same. c.held.ensures.ranges w ok (ap epoch_of (sym (lineage_is N.script N.start (N.origin no_rows).generation now.shown.history now.state.catalogue c.catalogue.ensures t.table)) ∙ same) t refl)
 
 pub recast-requires-clause-read : goal.recast-requires-clause-read
 recast-requires-clause-read g c κs within =
@@ -114,19 +114,19 @@ pub returns-clause-outcome : goal.returns-clause-outcome
 returns-clause-outcome g c =
     let who = c.args.who in
     let new = c.recast.new.engine.shown in
-    subst (λ (s : Stand). IfErr c.args.made (λ e. (s.shown.running ≡ true) → new.history ≡ s.shown.history ++ entry who.session who.command kind.Close (outcome_of (closing_cause s.ledger.closed e)) new.clock ∷ [])) c.self.view_is c.recast.ensures.outcome
+    subst (λ (s : Stand). IfErr c.args.made (λ e. (s.shown.running ≡ true) → new.history ≡ s.shown.history ++ entry who.session who.command kind.Close (outcome_of (closing_cause s.state.closed e)) new.clock ∷ [])) c.self.view_is c.recast.ensures.outcome
 
 pub returns-clause-prints : goal.returns-clause-prints
 returns-clause-prints g c =
     let who = c.args.who in
     let new = c.recast.new.engine in
     subst (λ (s : Stand). IfErr c.args.made (λ e. (s.shown.running ≡ true)
-    → IsPut (block (entry who.session who.command kind.Close (outcome_of (closing_cause s.ledger.closed e)) new.shown.clock) (Some (told_at (length s.shown.history) (reply_of (closing_cause s.ledger.closed e))))) new.shown.running s.sink new.sink)) c.self.view_is c.recast.ensures.prints
+    → IsPut (block (entry who.session who.command kind.Close (outcome_of (closing_cause s.state.closed e)) new.shown.clock) (Some (told_at (length s.shown.history) (reply_of (closing_cause s.state.closed e))))) new.shown.running s.sink new.sink)) c.self.view_is c.recast.ensures.prints
 
 pub returns-clause-swept : goal.returns-clause-swept
 returns-clause-swept g c =
     let who = c.args.who in
     let t = c.args.task in
     let now = c.recast.new.engine in
-    subst (λ (s : Stand). OnOk c.args.made (HasStood s.shown now.shown who.session who.command → ClaimHolds s.ledger (length s.shown.history) (claim_of_recast t) → still_checked (stock_of_recast s.ledger t).lineage t.epoch (recast_in t) ≡ Ok tt
-    → IsSwept now.told now.ledger now.shown.history)) c.self.view_is c.recast.ensures.swept
+    subst (λ (s : Stand). OnOk c.args.made (HasStood s.shown now.shown who.session who.command → ClaimHolds s.state (length s.shown.history) (claim_of_recast t) → still_checked (stock_of_recast s.state t).lineage t.epoch (recast_in t) ≡ Ok tt
+    → IsSwept now.told now.state now.shown.history)) c.self.view_is c.recast.ensures.swept

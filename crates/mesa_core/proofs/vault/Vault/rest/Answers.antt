@@ -1,13 +1,13 @@
 use Rattle.std.proofs.Common.{◌≡◌, ◌<◌, inl, sym, ap, ◌∙◌, subst, true, Ok, Err}
-use Rattle.mesa_granted.specs.mesa_service.Recasts.{known_recast}
-use Rattle.mesa_granted.specs.mesa_service.Works.{WasGranted}
-use Rattle.mesa_granted.specs.mesa_swapping.Grown.{HasBecome}
+use Rattle.mesa_session_laws.specs.Recasts.{known_recast}
+use Rattle.mesa_session_laws.specs.Works.{WasGranted}
+use Rattle.mesa_session_laws.specs.mesa_publishing.Grown.{HasBecome}
 use Rattle.mesa_engine.specs.Engine.{Standing}
-use Rattle.mesa_engine.specs.mesa_ledger.Ledger.{Ledger}
-use Rattle.mesa_skeleton.specs.Rows.{no_rows}
+use Rattle.mesa_engine.specs.mesa_engine_state.EngineState.{EngineState}
+use Rattle.mesa_engine.specs.mesa_projection.Rows.{no_rows}
 use Rattle.mesa_tasks.specs.Recasts.{recast_table}
-use Rattle.mesa_recasting.specs.Rested.{MayRest}
-use Rattle.mesa_walk.specs.Turns.{Shown, SomeRose}
+use Rattle.mesa_recast_turns.specs.Rested.{MayRest}
+use Rattle.mesa_engine.specs.mesa_invariant.Turns.{Shown, SomeRose}
 use Rattle.mesa_core.specs.Handing.{AllAreRested, IsRecastGranted, IsRecastHeld}
 use Rattle.mesa_core.specs.Vault.{Stand}
 use Rattle.mesa_core.proofs.RecastHeld.{held_longer, rested_known}
@@ -24,13 +24,13 @@ pub rest-found-requires-clause-there : goal.rest-found-requires-clause-there
 rest-found-requires-clause-there g c κs within =
     let N = g.N.Naming in
     let now = c.self.inside.engine in
-    subst (λ n. c.args.task.table < n) (sym (counted_is N.script N.start (N.origin no_rows).generation now.shown.history now.ledger.catalogue c.catalogue.ensures)) c.held.ensures.there
+    subst (λ n. c.args.task.table < n) (sym (counted_is N.script N.start (N.origin no_rows).generation now.shown.history now.state.catalogue c.catalogue.ensures)) c.held.ensures.there
 
 pub rest-found-requires-clause-grown : goal.rest-found-requires-clause-grown
 rest-found-requires-clause-grown g c κs within =
     let N = g.N.Naming in
     let now = c.self.inside.engine in
-    subst (HasBecome (recast_table c.args.task)) (sym (lineage_is N.script N.start (N.origin no_rows).generation now.shown.history now.ledger.catalogue c.catalogue.ensures c.args.task.table)) c.held.ensures.become
+    subst (HasBecome (recast_table c.args.task)) (sym (lineage_is N.script N.start (N.origin no_rows).generation now.shown.history now.state.catalogue c.catalogue.ensures c.args.task.table)) c.held.ensures.become
 
 pub returns-clause-task : goal.returns-clause-task
 returns-clause-task g c = record { task = c.rest-found.ensures.kept; damage = c.rest-found.ensures.differs }
@@ -63,9 +63,9 @@ returns-clause-rested g c runs whole =
     let e = c.rest-found.ensures in
     let now = c.self.inside.engine in
     let t = c.args.task in
-    subst (λ (l : Ledger). AllAreRested read l (known_recast read c.rest-found.new.task)) (sym e.ledger)
-    (rested_known read now.ledger t c.rest-found.new.task e.longer
-    (subst (HasBecome (recast_table t)) (sym (lineage_is N.script N.start (N.origin no_rows).generation now.shown.history now.ledger.catalogue c.catalogue.ensures t.table)) c.held.ensures.become)
+    subst (λ (l : EngineState). AllAreRested read l (known_recast read c.rest-found.new.task)) (sym e.state)
+    (rested_known read now.state t c.rest-found.new.task e.longer
+    (subst (HasBecome (recast_table t)) (sym (lineage_is N.script N.start (N.origin no_rows).generation now.shown.history now.state.catalogue c.catalogue.ensures t.table)) c.held.ensures.become)
     (λ opened same. c.in-Ok.ensures.holds (ap (λ (s : Shown). s.running) (sym e.shown) ∙ runs) opened whole same) c.recasts_are_known.ensures.holds)
 
 -- ---- a fault, and nothing more to open
@@ -75,13 +75,13 @@ returns-in-Err-clause-cause g c is = subst (λ (s : Stand). SomeRose s.faults c.
 
 pub returns-clause-stays : goal.returns-clause-stays
 returns-clause-stays g c none =
-    let never = subst (λ (x : Stand). (x.shown.running ≡ true) → MayRest x.ledger c.args.task → ⊥) (sym c.self.view_is) none in
+    let never = subst (λ (x : Stand). (x.shown.running ≡ true) → MayRest x.state c.args.task → ⊥) (sym c.self.view_is) none in
     let so = c.rest-found.ensures.stays never in
     (ap Ok so.1, ap (λ (s : Standing). s.faults) so.2 ∙ ap (λ (s : Stand). s.faults) c.self.view_is)
 
 pub returns-in-Err-clause-stays : goal.returns-in-Err-clause-stays
 returns-in-Err-clause-stays g c none =
-    let never = subst (λ (x : Stand). (x.shown.running ≡ true) → MayRest x.ledger c.args.task → ⊥) (sym c.self.view_is) none in
+    let never = subst (λ (x : Stand). (x.shown.running ≡ true) → MayRest x.state c.args.task → ⊥) (sym c.self.view_is) none in
     let so = c.rest-found.ensures.stays never in
     let went = so.0 in
     let failed = c.in-Err.is in

@@ -2,18 +2,18 @@ use Rattle.std.proofs.Common.{◌≡◌, ◌∷◌, ◌++◌, [], length, true, 
 use Rattle.mesa_metadata.specs.mesa_catalog.mesa_history.Refused.{is_refusal}
 use Rattle.mesa_metadata.specs.mesa_catalog.mesa_history.Replay.{closes}
 use Rattle.mesa_metadata.specs.mesa_catalog.mesa_history.Run.{Finished}
-use Rattle.mesa_metadata.specs.mesa_ledger.Ledger.{books_of}
-use Rattle.mesa_metadata.specs.mesa_ledger.Vault.{Starts, IsVault, outset_of}
-use Rattle.mesa_metadata.proofs.mesa_ledger.Beginning.{vault_at_seen}
-use Rattle.mesa_log.specs.Failure.{cause_in}
-use Rattle.mesa_metadata.specs.mesa_ledger.mesa_output.Output.{block}
-use Rattle.mesa_metadata.specs.mesa_ledger.mesa_skeleton.Rows.{no_rows}
-use Rattle.mesa_metadata.specs.mesa_ledger.mesa_walk.Causes.{outcome_of, reply_of, told_at}
-use Rattle.mesa_metadata.specs.mesa_ledger.mesa_walk.Printing.{IsPut}
-use Rattle.mesa_metadata.specs.mesa_ledger.mesa_walk.Turns.{AnswersDisk, AnswersDraft, Shown, Takes, entry}
-use Rattle.mesa_metadata.specs.mesa_ledger.mesa_walk.Walk.{run_at}
-use Rattle.mesa_metadata.proofs.mesa_ledger.mesa_walk.Alike.{due_alike}
-use Rattle.mesa_metadata.proofs.mesa_ledger.mesa_walk.Faulting.{disk_never}
+use Rattle.mesa_metadata.specs.mesa_engine_state.EngineState.{books_of}
+use Rattle.mesa_metadata.specs.mesa_engine_state.Vault.{Starts, IsVault, outset_of}
+use Rattle.mesa_metadata.proofs.mesa_engine_state.Beginning.{vault_at_seen}
+use Rattle.mesa_engine.specs.Failure.{cause_in}
+use Rattle.mesa_metadata.specs.mesa_engine_state.mesa_output.Output.{block}
+use Rattle.mesa_metadata.specs.mesa_engine_state.mesa_projection.Rows.{no_rows}
+use Rattle.mesa_metadata.specs.mesa_engine_state.mesa_invariant.Causes.{outcome_of, reply_of, told_at}
+use Rattle.mesa_metadata.specs.mesa_engine_state.mesa_invariant.Printing.{IsPut}
+use Rattle.mesa_metadata.specs.mesa_engine_state.mesa_invariant.Turns.{AnswersDisk, AnswersDraft, Shown, Takes, entry}
+use Rattle.mesa_metadata.specs.mesa_engine_state.mesa_invariant.Walk.{run_at}
+use Rattle.mesa_metadata.proofs.mesa_engine_state.mesa_invariant.Alike.{due_alike}
+use Rattle.mesa_metadata.proofs.mesa_engine_state.mesa_invariant.Faulting.{disk_never}
 use Rattle.mesa_engine.specs.Engine.{Standing, IsEngine, starts_of}
 use Rattle.mesa_engine.specs.Failing.{Fails, deciding_stage, deciding_kind}
 use Rattle.mesa_engine.proofs.Drafting.{answers_none, quiet_cause, quiet_disk}
@@ -22,9 +22,9 @@ use Rattle.mesa_engine.proofs.Turning.{told_engine}
 use Rattle.mesa_engine.proofs.engine.Engine.fail.Goals as goal
 
 fails_at : (g : _) (c : goal.After-fail g)
-    → Fails g.N.Naming.script (run_at g.N.Naming.script (g.N.Naming.start no_rows) c.self.inside.log.history.items) (books_of no_rows c.self.inside.metadata.ledger) (length c.self.inside.log.history.items) c.args.who.session c.args.who.command c.args.kind (cause_in c.args.failure)
+    → Fails g.N.Naming.script (run_at g.N.Naming.script (g.N.Naming.start no_rows) c.self.inside.log.history.items) (books_of no_rows c.self.inside.metadata.state) (length c.self.inside.log.history.items) c.args.who.session c.args.who.command c.args.kind (cause_in c.args.failure)
 fails_at g c =
-    subst (λ (s : Standing). Fails g.N.Naming.script (run_at g.N.Naming.script (g.N.Naming.start no_rows) s.shown.history) (books_of no_rows s.ledger) (length s.shown.history) c.args.who.session c.args.who.command c.args.kind (cause_in c.args.failure))
+    subst (λ (s : Standing). Fails g.N.Naming.script (run_at g.N.Naming.script (g.N.Naming.start no_rows) s.shown.history) (books_of no_rows s.state) (length s.shown.history) c.args.who.session c.args.who.command c.args.kind (cause_in c.args.failure))
     (sym c.self.view_is) c.requires.fails
 
 runs : (g : _) (c : goal.After-fail g) → not c.self.inside.log.printer.broken ≡ true
@@ -38,7 +38,7 @@ kept g c =
     let i = c.self.inside in
     let s = c.args.who.session in
     let number = c.args.who.command in
-    let l = i.metadata.ledger in
+    let l = i.metadata.state in
     let story = g.D.Disk.story i.disk in
     let h = i.log.history.items in
     let old = c.self.invariant in
@@ -68,7 +68,7 @@ returns-clause-turn g c =
     let i = c.self.inside in
     let s = c.args.who.session in
     let number = c.args.who.command in
-    let l = i.metadata.ledger in
+    let l = i.metadata.state in
     let story = g.D.Disk.story i.disk in
     let h = i.log.history.items in
     let old = c.self.invariant in

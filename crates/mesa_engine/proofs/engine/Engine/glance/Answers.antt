@@ -1,10 +1,10 @@
 use Rattle.std.proofs.Common.{◌≡◌, false, ◌∙◌, ap}
 use Rattle.mesa_batch.specs.Glance.{Sight, tables_of}
 use Rattle.mesa_metadata.specs.mesa_catalog.Lookups.{sight_of}
-use Rattle.mesa_metadata.specs.mesa_ledger.Vault.{Starts, outset_of}
-use Rattle.mesa_metadata.specs.mesa_ledger.mesa_skeleton.Rows.{no_rows}
-use Rattle.mesa_metadata.specs.mesa_ledger.mesa_walk.Sight.{tables_seen}
-use Rattle.mesa_metadata.specs.mesa_ledger.mesa_walk.Walk.{run_at}
+use Rattle.mesa_metadata.specs.mesa_engine_state.Vault.{Starts, outset_of}
+use Rattle.mesa_metadata.specs.mesa_engine_state.mesa_projection.Rows.{no_rows}
+use Rattle.mesa_metadata.specs.mesa_engine_state.mesa_invariant.Sight.{tables_seen}
+use Rattle.mesa_metadata.specs.mesa_engine_state.mesa_invariant.Walk.{run_at}
 use Rattle.mesa_engine.specs.Engine.{Standing, starts_of}
 use Rattle.mesa_engine.proofs.Seeing.{ok_also, tables_are_seen}
 use Rattle.mesa_engine.proofs.engine.Engine.glance.Goals as goal
@@ -14,7 +14,7 @@ returns-clause-tables g c =
     let N = g.N.Naming in
     let n : Starts = starts_of N.script N.start N.sound N.origin N.since N.counted N.at_start in
     let i = c.self.inside in
-    let l = i.metadata.ledger in
+    let l = i.metadata.state in
     let h = i.log.history.items in
     let seen : tables_of (sight_of l.catalogue) ≡ tables_seen (run_at N.script (N.start no_rows) h) =
     tables_are_seen (outset_of n no_rows) (n.origin no_rows) false l (g.D.Disk.story i.disk) (g.K.Sink.held i.log.printer.sink) h _ i.log.refused (c.self.invariant.vault no_rows false (λ is. absurd cc)) in

@@ -1,12 +1,12 @@
 use Rattle.std.proofs.Common.{◌≡◌, [], ◌∷◌, ◌++◌, false, not, refl, sym, ◌∙◌, ap, subst, arith}
 use Rattle.mesa_model.specs.Entry.{IsShort}
 use Rattle.mesa_model.specs.declared.entries.Outcome.TheVariants as outcome
-use Rattle.mesa_metadata.specs.mesa_ledger.Vault.{Starts, outset_of}
-use Rattle.mesa_metadata.proofs.mesa_ledger.Beginning.{vault_at_seen}
-use Rattle.mesa_metadata.specs.mesa_ledger.mesa_skeleton.Rows.{Rows, no_rows}
-use Rattle.mesa_metadata.specs.mesa_ledger.mesa_walk.Turns.{AnswersDisk, AnswersDraft, Shown, Takes, entry}
-use Rattle.mesa_metadata.specs.mesa_ledger.mesa_walk.Walk.{run_at}
-use Rattle.mesa_metadata.proofs.mesa_ledger.mesa_walk.Faulting.{disk_never}
+use Rattle.mesa_metadata.specs.mesa_engine_state.Vault.{Starts, outset_of}
+use Rattle.mesa_metadata.proofs.mesa_engine_state.Beginning.{vault_at_seen}
+use Rattle.mesa_metadata.specs.mesa_engine_state.mesa_projection.Rows.{Rows, no_rows}
+use Rattle.mesa_metadata.specs.mesa_engine_state.mesa_invariant.Turns.{AnswersDisk, AnswersDraft, Shown, Takes, entry}
+use Rattle.mesa_metadata.specs.mesa_engine_state.mesa_invariant.Walk.{run_at}
+use Rattle.mesa_metadata.proofs.mesa_engine_state.mesa_invariant.Faulting.{disk_never}
 use Rattle.mesa_engine.specs.Engine.{Standing, IsEngine, starts_of}
 use Rattle.mesa_engine.specs.Failing.{Comes}
 use Rattle.mesa_engine.proofs.Drafting.{answers_none}
@@ -34,7 +34,7 @@ kept g c =
     let short : IsShort e = subst IsShort c.turn-turn.ensures.same c.turn-turn.ensures.short in
     passed_engine g.K.Sink.held g.K.Sink.faults n N.room N.sink_faults i.metadata i.metadata story story i.log c.pass.new.self e old
     (c.pass.ensures.items ∙ ap (λ x. h ++ x ∷ []) c.turn-turn.ensures.same) c.pass.ensures.room c.clock.ensures (omega arith) (omega (arith, old.leased)) (λ w sound. refl) c.pass.ensures.printer c.pass.ensures.refused
-    (λ w b is. skipped_vault (outset_of n w) (n.origin w) b i.metadata.ledger story (g.K.Sink.held i.log.printer.sink) h (not i.log.printer.broken) i.log.refused (old.vault w b is)
+    (λ w b is. skipped_vault (outset_of n w) (n.origin w) b i.metadata.state story (g.K.Sink.held i.log.printer.sink) h (not i.log.printer.broken) i.log.refused (old.vault w b is)
     who.session who.command short.session short.command c.clock.result c.clock.ensures (due_at g c w).asked (due_at g c w).stage c.args.kind (due_at g c w).due (due_at g c w).comes (has_failed g c))
 
 pub invariant_of-self : goal.invariant_of-self
@@ -55,7 +55,7 @@ returns-clause-turn g c stage =
     (skipped_takes N.script (N.start no_rows) (record { history = h; running = not i.log.printer.broken; clock = story.moment }) new who.session who.command due.asked due.stage c.args.kind stage due.due
     (c.pass.ensures.items ∙ ap (λ x. h ++ x ∷ []) c.turn-turn.ensures.same ∙ ap (λ m. h ++ entry who.session who.command c.args.kind outcome.Skipped m ∷ []) c.clock.ensures)
     (has_failed g c) (λ on. sym (ap (λ p. not p.broken) c.pass.ensures.printer) ∙ on)
-    (vault_at_seen n i.metadata.ledger story (g.K.Sink.held later.printer.sink) later.history.items (not later.printer.broken) later.refused story.moment (kept g c).vault))
+    (vault_at_seen n i.metadata.state story (g.K.Sink.held later.printer.sink) later.history.items (not later.printer.broken) later.refused story.moment (kept g c).vault))
 
 pub returns-clause-draft : goal.returns-clause-draft
 returns-clause-draft g c =

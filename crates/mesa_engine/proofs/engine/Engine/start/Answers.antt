@@ -1,10 +1,10 @@
 use Rattle.std.proofs.Common.{◌≡◌, ◌≤◌, [], true, false, sym, ap, subst, arith}
 use Rattle.std.specs.List.{AllByRecursion}
 use Rattle.mesa_metadata.specs.Memory.{Memory}
-use Rattle.mesa_metadata.specs.mesa_ledger.mesa_skeleton.Rows.{no_rows}
+use Rattle.mesa_metadata.specs.mesa_engine_state.mesa_projection.Rows.{no_rows}
 use Rattle.mesa_model.specs.declared.entries.Entry.{Entry}
-use Rattle.mesa_metadata.specs.mesa_ledger.Vault.{Starts, IsVault, outset_of}
-use Rattle.mesa_metadata.specs.mesa_ledger.mesa_walk.Undamaged.{NoneDamaged}
+use Rattle.mesa_metadata.specs.mesa_engine_state.Vault.{Starts, IsVault, outset_of}
+use Rattle.mesa_metadata.specs.mesa_engine_state.mesa_invariant.Undamaged.{NoneDamaged}
 use Rattle.mesa_engine.specs.Engine.{starts_of}
 use Rattle.mesa_engine.proofs.Beginning.{begun_vault}
 use Rattle.mesa_engine.proofs.engine.Engine.start.Goals as goal
@@ -18,8 +18,8 @@ invariant_of-result g c =
     let held = g.K.Sink.held a.sink in
     record {
       vault = λ w b is.
-          subst (λ h. IsVault (outset_of n w) (n.origin w) b c.new.result.ledger story held h true false) (sym c.requires.empty)
-          (subst (λ (m : Memory). IsVault (outset_of n w) (n.origin w) b m.ledger story held [] true false) (sym c.new.ensures)
+          subst (λ h. IsVault (outset_of n w) (n.origin w) b c.new.result.state story held h true false) (sym c.requires.empty)
+          (subst (λ (m : Memory). IsVault (outset_of n w) (n.origin w) b m.state story held [] true false) (sym c.new.ensures)
           (begun_vault n w b a.catalog.catalogue a.area a.end a.lease story held (c.requires.begun w b is)));
       room = c.requires.room;
       few = c.requires.few;

@@ -1,11 +1,11 @@
 use Rattle.std.proofs.Common.{◌≡◌, true, false, not, refl, subst, IsTrue}
-use Rattle.mesa_fault.specs.Causes.{Rose}
+use Rattle.mesa_disk.specs.mesa_fault.Causes.{Rose}
 use Rattle.mesa_metadata.specs.mesa_catalog.mesa_history.Legal.{fits_sink}
 use Rattle.mesa_metadata.specs.mesa_catalog.mesa_history.Run.{begins}
-use Rattle.mesa_metadata.specs.mesa_ledger.mesa_walk.Printing.{IsPrinted, IsPrintedButRows}
-use Rattle.mesa_metadata.specs.mesa_ledger.mesa_walk.Walk.{run_at}
-use Rattle.mesa_metadata.specs.mesa_ledger.mesa_skeleton.Rows.{no_rows}
-use Rattle.mesa_metadata.specs.mesa_ledger.Vault.{Starts}
+use Rattle.mesa_metadata.specs.mesa_engine_state.mesa_invariant.Printing.{IsPrinted, IsPrintedButRows}
+use Rattle.mesa_metadata.specs.mesa_engine_state.mesa_invariant.Walk.{run_at}
+use Rattle.mesa_metadata.specs.mesa_engine_state.mesa_projection.Rows.{no_rows}
+use Rattle.mesa_metadata.specs.mesa_engine_state.Vault.{Starts}
 use Rattle.mesa_engine.specs.Engine.{Standing, starts_of}
 use Rattle.mesa_engine.proofs.Ending.{reads_state}
 use Rattle.mesa_engine.proofs.engine.Engine.stop.Goals as goal
@@ -67,4 +67,4 @@ returns-clause-reads g c w is =
     let N = g.N.Naming in
     let n : Starts = starts_of N.script N.start N.sound N.origin N.since N.counted N.at_start in
     let i = c.self.inside in
-    reads_state n w i.metadata.ledger (g.D.Disk.story i.disk) (g.K.Sink.held i.log.printer.sink) i.log.history.items (not i.log.printer.broken) i.log.refused (c.self.invariant.vault w true (λ ok. is))
+    reads_state n w i.metadata.state (g.D.Disk.story i.disk) (g.K.Sink.held i.log.printer.sink) i.log.history.items (not i.log.printer.broken) i.log.refused (c.self.invariant.vault w true (λ ok. is))

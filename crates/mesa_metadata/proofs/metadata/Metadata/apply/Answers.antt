@@ -23,4 +23,5 @@ invariant_of-self c =
       few = c.requires.few;
       fitting = subst (λ (o : Option Record). IfSome o (λ q. IsTrue (fits c.apply.new.self.catalogue q))) (sym c.apply.ensures.spent) tt;
       spare = (let ok = m.trash.ok in omega arith);
+      indexed = c.self.invariant.indexed;
     }

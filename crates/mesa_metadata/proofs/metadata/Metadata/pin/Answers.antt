@@ -1,11 +1,10 @@
-use Rattle.std.proofs.Common.{◌≡◌, ◌∙◌, ◌++◌, [], ◌∷◌, List, ap, map, sym}
-use Rattle.std.proofs.lemmas.List.{map-append}
+use Rattle.std.proofs.Common.{◌≡◌, ◌∙◌, ◌++◌, [], ◌∷◌, ap, map, sym}
 use Rattle.mesa_catalog.specs.Kept.{Reserved}
-use Rattle.mesa_ledger.specs.Ledger.{HeldPin, next_id}
-use Rattle.mesa_ledger.specs.Turned.{pin_now, pinned_ledger}
+use Rattle.mesa_engine_state.specs.EngineState.{HeldPin, next_id}
+use Rattle.mesa_engine_state.specs.Turned.{pin_now, pinned_state}
 use Rattle.mesa_metadata.specs.declared.holders.Pin.{Pin}
-use Rattle.mesa_metadata.specs.Meaning.{pin_as, pins_in}
-use Rattle.mesa_metadata.specs.Memory.{Memory, hold_now, with_ledger}
+use Rattle.mesa_metadata.specs.Meaning.{pin_as, pins_in, queries_in, query_as}
+use Rattle.mesa_metadata.specs.Memory.{Memory, hold_now, with_state}
 use Rattle.mesa_metadata.specs.contracts.metadata.Metadata.{the_view}
 use Rattle.mesa_metadata.proofs.metadata.Metadata.pin.Goals as goal
 
@@ -17,10 +16,11 @@ returns-clause-pinned c =
     let version = c.args.version in
     let position = c.args.position in
     let made : Pin = record { session = session; token = c.in_ok-token.token; version = version; hold = c.hold_now-hold.result; copy = c.in_ok-copy.copy } in
-    let hold : c.hold_now-hold.result ≡ hold_now before.ledger position = λ i. record { at = c.hold_now-hold.ensures.at i; next = (c.hold_now-hold.ensures.next ∙ ap (λ (m : Memory). next_id m.ledger) (sym c.self.view_is)) i } in
-    let one : pin_as made ≡ pin_now before.ledger session version (hold_now before.ledger position) =
+    let hold : c.hold_now-hold.result ≡ hold_now before.state position = λ i. record { at = c.hold_now-hold.ensures.at i; next = (c.hold_now-hold.ensures.next ∙ ap (λ (m : Memory). next_id m.state) (sym c.self.view_is)) i } in
+    let one : pin_as made ≡ pin_now before.state session version (hold_now before.state position) =
     λ i. record { session = session; token = c.in_ok-token.ensures.count i; version = version; hold = hold i; copy = ap (λ (r : Reserved). r.catalogue) c.in_ok-copy.ensures i } in
-    let pins : map pin_as c.push_reserved.new.self.items ≡ pins_in inside.holders ++ pin_now before.ledger session version (hold_now before.ledger position) ∷ [] =
-    ap (map pin_as) (c.push_reserved.ensures.items ∙ ap (λ (xs : List Pin). xs ++ made ∷ []) c.reserve.ensures.items) ∙ map-append pin_as inside.holders.pins.items (made ∷ []) ∙ ap (λ (p : HeldPin). pins_in inside.holders ++ p ∷ []) one in
-    (λ i. record before { ledger = record before.ledger { pins = pins i; given = c.in_ok-token.ensures.counted i } })
-    ∙ ap (λ (m : Memory). with_ledger (pinned_ledger m.ledger session version (hold_now m.ledger position)) m) c.self.view_is
+    let pins : pins_in c.add_pin.new.self ≡ pins_in inside.holders ++ pin_now before.state session version (hold_now before.state position) ∷ [] =
+    c.add_pin.ensures.pins ∙ (λ i. map pin_as (c.reserve_pin.ensures.pins i) ++ one i ∷ []) in
+    let queries : queries_in c.add_pin.new.self ≡ queries_in inside.holders = ap (λ qs. map query_as qs.items) (c.add_pin.ensures.queries ∙ c.reserve_pin.ensures.queries) in
+    (λ i. record before { state = record before.state { pins = pins i; queries = queries i; given = c.in_ok-token.ensures.counted i } })
+    ∙ ap (λ (m : Memory). with_state (pinned_state m.state session version (hold_now m.state position)) m) c.self.view_is

@@ -1,6 +1,0 @@
-use Rattle.std.proofs.Common.{refl}
-use Rattle.mesa_answer.proofs.Cuts.{is_cut}
-use Rattle.mesa_answer.proofs.cut.Cut.of.Goals as goal
-
-pub returns : goal.returns
-returns c = is_cut c.args.kinds.now c.args.columns.now c.args.values.now c.in_ok-first.first c.in_ok-first_of_run.field-0 _ c.in_ok-first.ensures.run c.in_ok-first_of_run.ensures.run (c.are_ints.ensures cc) refl

@@ -1,0 +1,6 @@
+use Rattle.std.proofs.Common.{take}
+use Rattle.mesa_schema.specs.Rows.{AreRowsOf}
+use Rattle.mesa_base_tests.proofs.schema.digests.have_form.Given as goal
+
+abbrev pub invariant-loop-row : goal.invariant-loop-row
+invariant-loop-row l = AreRowsOf l.schema (take l.row-index l.rows)

@@ -1,0 +1,23 @@
+use Rattle.std.proofs.Common.{◌∙◌, List, ap, subst, map}
+use Rattle.std.specs.List.{list_all}
+use Rattle.std.proofs.lemmas.Result.{err_from_is_err_and}
+use Rattle.mesa_list.specs.Checks.{refuse_unless}
+use Rattle.mesa_schema.specs.declared.columns.KeyColumn.{KeyColumn}
+use Rattle.mesa_schema.specs.declared.views.ViewError.TheVariants as view
+use Rattle.mesa_schema.specs.Changes.{columns_of}
+use Rattle.mesa_schema.specs.Columns.{Columns, key_names}
+use Rattle.mesa_schema.specs.Names.{has_name}
+use Rattle.mesa_model.specs.declared.replies.Refusal.TheVariants as no
+use Rattle.mesa_binding.specs.Told.{IsDue}
+use Rattle.mesa_binding.proofs.Viewings.{choice_missing}
+use Rattle.mesa_binding.proofs.viewing.chosen_keys.Goals as goal
+
+pub returns-in_err-names-clause-refused : goal.returns-in_err-names-clause-refused
+returns-in_err-names-clause-refused c =
+    let p = err_from_is_err_and c.from_residual.result c.from_residual.ensures.1 in
+    let words = c.args.words.now in
+    let failure = c.in_err-names.field-0.0 in
+    let s : Columns = columns_of c.args.evolving.now in
+    let same = c.keys.ensures.same ∙ ap (λ (s : Columns). s.keys) c.present.ensures.columns in
+    let due = subst (λ (columns : List KeyColumn). IsDue (refuse_unless (list_all (λ word. has_name word (map (λ (column : KeyColumn). column.name) columns)) words) no.NoColumn) failure) same c.in_err-names.ensures.refused in
+    rw (p.1, p.2) (choice_missing (key_names s) view.NoKey words failure due)

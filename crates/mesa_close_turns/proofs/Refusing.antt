@@ -1,0 +1,93 @@
+-- How the close of a work whose range isn't swapped in keeps a vault.
+use Rattle.std.proofs.Common.{◌≡◌, ◌∙◌, ℕ, ◌+◌, ◌<◌, ◌≤◌, ◌^◌, List, [], ◌∷◌, ◌++◌, length, Bool, true, false, ◌||◌, not, refl, sym, ap, subst, arith, Option, Some}
+use Rattle.std.specs.Prelude.{vec_capacity}
+use Rattle.mesa_disk.specs.Story.{Story}
+use Rattle.mesa_publishing.specs.mesa_history.Counting.{answers_bench, answers_disk}
+use Rattle.mesa_publishing.specs.mesa_history.Machine.{Claim}
+use Rattle.mesa_publishing.specs.mesa_history.Refused.{is_refusal}
+use Rattle.mesa_publishing.specs.mesa_history.Run.{Renewed, Finished}
+use Rattle.mesa_publishing.specs.mesa_history.Turns.{IsDue}
+use Rattle.mesa_lease.specs.Book.{ended}
+use Rattle.mesa_engine.specs.mesa_engine_state.EngineState.{EngineState, books_of}
+use Rattle.mesa_engine.specs.mesa_engine_state.Vault.{Starts, IsVault, outset_of}
+use Rattle.mesa_engine.proofs.mesa_engine_state.Staying.{leased_vault, still_vault}
+use Rattle.mesa_engine.proofs.mesa_engine_state.Swapping.{ended_granted}
+use Rattle.mesa_engine.specs.declared.log.Log.{Log}
+use Rattle.mesa_engine.specs.Printing.{PrintsBlock}
+use Rattle.mesa_engine.specs.mesa_metadata.Memory.{Memory, with_state}
+use Rattle.mesa_model.specs.declared.commands.Command.TheVariants as command
+use Rattle.mesa_model.specs.declared.commands.WorkWords.{WorkWords}
+use Rattle.mesa_model.specs.declared.entries.Entry.{Entry}
+use Rattle.mesa_model.specs.declared.entries.Kind.TheVariants as kind
+use Rattle.mesa_engine.specs.mesa_output.Output.{block}
+use Rattle.mesa_engine.specs.mesa_projection.Rows.{Rows, no_rows}
+use Rattle.mesa_engine.specs.mesa_engine_state.mesa_invariant.Causes.{Cause, outcome_of, reply_of, told_at}
+use Rattle.mesa_engine.specs.mesa_engine_state.mesa_invariant.Printing.{IsPut}
+use Rattle.mesa_engine.specs.mesa_engine_state.mesa_invariant.Turns.{Shown, IsSeen, Takes, entry}
+use Rattle.mesa_engine.specs.mesa_engine_state.mesa_invariant.Undamaged.{is_damaged}
+use Rattle.mesa_engine.specs.mesa_engine_state.mesa_invariant.Walk.{run_at, run_of}
+use Rattle.mesa_engine.proofs.mesa_engine_state.mesa_invariant.Going.{complete_takes}
+use Rattle.mesa_engine.proofs.mesa_engine_state.mesa_invariant.Turning.{counts_same, stays}
+use Rattle.mesa_engine.proofs.mesa_engine_state.mesa_invariant.Working.{lost_turn, starved_turn}
+use Rattle.mesa_engine.specs.Engine.{IsEngine}
+use Rattle.mesa_engine.proofs.Turning.{told_engine}
+use Rattle.mesa_engine.proofs.Undone.{not_skipped}
+use Rattle.mesa_close_turns.specs.Merged.{HasNotSwapped, cause_met, unswapped_state}
+use Rattle.mesa_close_turns.specs.declared.completing.Unswapped.{Unswapped}
+use Rattle.mesa_close_turns.specs.declared.completing.Unswapped.TheVariants as why
+
+-- ---- the vault behind it
+
+module _ (n : Starts) (w : Rows) (sound : Bool) (l : EngineState) (story : Story) (held : Option (List ℕ)) (h : List Entry) (running refused : Bool) (v : IsVault (outset_of n w) (n.origin w) sound l story held h running refused)
+    (s number : ℕ) (low : s < 2 ^ 16) (few : number < 2 ^ 32) (words : WorkWords) (m : ℕ) (moment : m ≡ story.moment) (ran : running ≡ true) (at : ℕ) (place : at ≡ length h) (claim : Claim) (due : IsDue n.script (run_of (outset_of n w) h) s number (command.Work words) (Renewed claim))
+    (now : Bool) (new_held : Option (List ℕ)) where
+  few_granted : (ended claim.table claim.lease l.leases).granted ≤ l.leases.granted + 1
+  few_granted = subst (λ q. q ≤ l.leases.granted + 1) (sym (ended_granted claim.table claim.lease l.leases)) (omega arith)
+
+  pub unswapped_vault : (e : Unswapped) → HasNotSwapped (books_of no_rows l) at claim e → IsPut (block (entry s number kind.Close (outcome_of (cause_met e)) m) (Some (told_at at (reply_of (cause_met e))))) now held new_held
+      → IsVault (outset_of n w) (n.origin w) sound (unswapped_state e claim.table claim.lease l) story new_held (h ++ entry s number kind.Close (outcome_of (cause_met e)) m ∷ []) now (refused || is_refusal (reply_of (cause_met e)))
+  unswapped_vault (why.Refused x) has put =
+      still_vault (outset_of n w) (n.origin w) sound l story held h running refused v (entry s number kind.Close (outcome_of (cause_met (why.Refused x))) m) story new_held now (refused || true) (stays story)
+      (lost_turn (outset_of n w) sound (books_of v.rows l) story held h running refused v.walk s number low few (command.Work words) refl m ran at place moment story (stays story) claim due x has (counts_same story) now new_held put)
+  unswapped_vault why.Memory has put =
+      leased_vault (outset_of n w) (n.origin w) sound l story held h running refused v (entry s number kind.Close (outcome_of (cause_met why.Memory)) m) story new_held now (refused || true) (stays story) (ended claim.table claim.lease l.leases) few_granted
+      (starved_turn (outset_of n w) sound (books_of v.rows l) story held h running refused v.walk s number low few (command.Work words) refl m ran at place moment story (stays story) claim due has (counts_same story) now new_held put)
+
+-- no damage keeps a range from being swapped in
+refused_undamaged : (e : Unswapped) → is_damaged (outcome_of (cause_met e)) ≡ false
+refused_undamaged (why.Refused refusal) = refl
+refused_undamaged why.Memory = refl
+
+-- ---- the engine behind it
+
+module _ {K : Type 0} (held : K → Option (List ℕ)) (faults : K → ℕ) (n : Starts) (turns sinks : ℕ) (m after : Memory) (story : Story) (log later : Log K) (v : IsEngine held faults n turns sinks m story log)
+    (s number : ℕ) (low : s < 2 ^ 16) (few : number < 2 ^ 32) (words : WorkWords) (mo : ℕ) (moment : mo ≡ story.moment) (ran : not log.printer.broken ≡ true) (claim : Claim)
+    (due : (w : Rows) → IsDue n.script (run_at n.script (n.start w) log.history.items) s number (command.Work words) (Renewed claim)) (e : Unswapped) (has : HasNotSwapped (books_of no_rows m.state) (length log.history.items) claim e)
+    (cause : Cause) (cause_is : cause ≡ cause_met e)
+    (grew : later.history.items ≡ log.history.items ++ entry s number kind.Close (outcome_of cause) mo ∷ []) (roomy : vec_capacity log.history ≤ vec_capacity later.history)
+    (is : after ≡ with_state (unswapped_state e claim.table claim.lease m.state) m) where
+  pub unswapped_engine : PrintsBlock held faults log.printer later.printer (entry s number kind.Close (outcome_of cause) mo) (told_at (length log.history.items) (reply_of cause)) → later.refused ≡ (log.refused || is_refusal (reply_of cause)) → IsEngine held faults n turns sinks after story later
+  unswapped_engine prints refused =
+      told_engine held faults n turns sinks m after story story log later (entry s number kind.Close (outcome_of cause) mo) v grew roomy moment (omega arith) (let same = ap (λ (x : Memory). x.leased) is in omega (arith, same, v.leased)) (λ w sound. ap (λ k. is_damaged (outcome_of k)) cause_is ∙ refused_undamaged e) (told_at (length log.history.items) (reply_of cause)) (is_refusal (reply_of cause)) prints refused
+      (λ put w b ok.
+      subst (λ (x : Memory). IsVault (outset_of n w) (n.origin w) b x.state story (held later.printer.sink) (log.history.items ++ entry s number kind.Close (outcome_of cause) mo ∷ []) (not later.printer.broken) (log.refused || is_refusal (reply_of cause))) (sym is)
+      (subst (λ (x : Cause). IsPut (block (entry s number kind.Close (outcome_of x) mo) (Some (told_at (length log.history.items) (reply_of x)))) (not later.printer.broken) (held log.printer.sink) (held later.printer.sink)
+      → IsVault (outset_of n w) (n.origin w) b (unswapped_state e claim.table claim.lease m.state) story (held later.printer.sink) (log.history.items ++ entry s number kind.Close (outcome_of x) mo ∷ []) (not later.printer.broken) (log.refused || is_refusal (reply_of x))) (sym cause_is)
+      (unswapped_vault n w b m.state story (held log.printer.sink) log.history.items (not log.printer.broken) log.refused (v.vault w b ok) s number low few words mo moment ran (length log.history.items) refl claim (due w) (not later.printer.broken) (held later.printer.sink) e has) put))
+
+-- ---- where it takes its session, as every close of a work that was renewed
+
+pub closed_takes : (n : Starts) (w : Rows) (old new : Shown) (s number : ℕ) (words : WorkWords) (claim : Claim) → IsDue n.script (run_at n.script (n.start w) old.history) s number (command.Work words) (Renewed claim) → (cause : Cause)
+    → new.history ≡ old.history ++ entry s number kind.Close (outcome_of cause) new.clock ∷ [] → old.running ≡ true → IsSeen n.script (n.start w) new → Takes n.script (n.start w) old new s number kind.Close Finished
+closed_takes n w old new s number words claim due cause grew ran seen =
+    complete_takes n.script (n.start w) old new s number (command.Work words) claim due (record { outcome = outcome_of cause; grew = grew; skipped = not_skipped cause ∙ ap not (sym ran); still = λ on. ran }) seen
+
+-- no file was being built
+pub no_draft : (closing : Bool) (u : Unswapped) → answers_bench closing (outcome_of (cause_met u)) ≡ false
+no_draft closing (why.Refused refusal) = refl
+no_draft closing why.Memory = refl
+
+-- nor a fault of the disk
+pub no_fault : (closing : Bool) (u : Unswapped) → answers_disk closing (outcome_of (cause_met u)) ≡ false
+no_fault closing (why.Refused refusal) = refl
+no_fault closing why.Memory = refl

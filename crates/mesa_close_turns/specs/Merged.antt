@@ -1,0 +1,26 @@
+-- Works whose merge is finished.
+use Rattle.std.specs.Prelude.{◌≡◌, ℕ, None, Err}
+use Rattle.mesa_publishing.specs.mesa_history.Machine.{Claim, claim_checked}
+use Rattle.mesa_lease.specs.Book.{ended}
+use Rattle.mesa_engine.specs.mesa_engine_state.EngineState.{EngineState}
+use Rattle.mesa_engine.specs.mesa_engine_state.Turned.{leased_state}
+use Rattle.mesa_model.specs.declared.replies.Reply.TheVariants as reply
+use Rattle.mesa_engine.specs.mesa_engine_state.mesa_invariant.Books.{Books}
+use Rattle.mesa_engine.specs.mesa_engine_state.mesa_invariant.Causes.{Cause, Replies, NoMemory}
+use Rattle.mesa_close_turns.specs.declared.completing.Unswapped.{Unswapped}
+use Rattle.mesa_close_turns.specs.declared.completing.Unswapped.TheVariants as why
+
+-- why a range isn't swapped in
+abbrev pub cause_met : Unswapped → Cause
+cause_met (why.Refused refusal) = Replies (reply.Refused refusal)
+cause_met why.Memory = NoMemory
+
+-- Why a claim's range isn't swapped in: the books refuse the claim; or they are open, and there was no memory.
+abbrev pub HasNotSwapped : Books → ℕ → Claim → Unswapped → Type 0
+HasNotSwapped books position claim (why.Refused refusal) = claim_checked books.bare books.machine position claim ≡ Err refusal
+HasNotSwapped books position claim why.Memory = books.bare.closed ≡ None
+
+-- The state behind it: a claim that is refused changes nothing, and want of memory ends its lease.
+abbrev pub unswapped_state : Unswapped → ℕ → ℕ → EngineState → EngineState
+unswapped_state (why.Refused refusal) table lease l = l
+unswapped_state why.Memory table lease l = leased_state l (ended table lease l.leases)

@@ -1,4 +1,0 @@
-pub mod Same
-pub mod Least
-pub mod Beside
-pub mod Differing

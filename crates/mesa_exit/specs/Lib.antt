@@ -1,0 +1,1 @@
+pub use Rattle.mesa_exit_spec.specs as mesa_exit_spec

@@ -1,5 +1,0 @@
-use Rattle.mesa_granted.proofs.Merged.{grant_known}
-use Rattle.mesa_granted.proofs.laws.grants_are_known.Goals as goal
-
-pub returns : goal.returns
-returns g c was task unread = grant_known g.R.FileReader.bytes was c.args.task.now task unread

@@ -1,6 +1,0 @@
-use Rattle.std.proofs.Common.{◌∙◌}
-use Rattle.mesa_opening.proofs.Unnamed.{found_so}
-use Rattle.mesa_opening.proofs.strays.is_among.Goals as goal
-
-pub returns : goal.returns
-returns c = c.is_ok.ensures.value ∙ found_so c.args.numbers.now c.args.number c.binary_search.result c.requires c.binary_search.ensures.position

@@ -1,6 +1,0 @@
-use Rattle.std.proofs.Common.{◌≡◌, map, take}
-use Rattle.mesa_shelf.specs.Files.{recorded_id}
-use Rattle.mesa_opening.proofs.strays.numbers_of.Given as goal
-
-abbrev pub invariant-loop-file : goal.invariant-loop-file
-invariant-loop-file l = l.numbers.items ≡ map recorded_id (take l.file-index l.files)

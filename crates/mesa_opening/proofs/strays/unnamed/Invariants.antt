@@ -1,6 +1,0 @@
-use Rattle.std.proofs.Common.{◌≡◌, take}
-use Rattle.mesa_opening.specs.Strays.{unnamed_of}
-use Rattle.mesa_opening.proofs.strays.unnamed.Given as goal
-
-abbrev pub invariant-loop-id : goal.invariant-loop-id
-invariant-loop-id l = l.strays.items ≡ unnamed_of l.named (take l.id-index l.ids)

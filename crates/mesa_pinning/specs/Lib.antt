@@ -1,3 +1,0 @@
-pub use Rattle.mesa_plans.specs as mesa_plans
-pub mod Read
-pub mod Told

@@ -1,6 +1,0 @@
-use Rattle.mesa_plain.specs.Plain.{GaveAtMost}
-use Rattle.mesa_plain_tests.proofs.trial.do_session.Given as goal
-
--- no session was given more tokens than there were commands
-abbrev pub invariant-commands : goal.invariant-commands
-invariant-commands g l = GaveAtMost l.done l.warehouse

@@ -1,6 +1,0 @@
-use Rattle.mesa_plain.specs.Plain.{GaveAtMost}
-use Rattle.mesa_plain_tests.proofs.trial.do_sessions.Given as goal
-
--- no session was given more tokens than there were commands
-abbrev pub invariant-sessions : goal.invariant-sessions
-invariant-sessions g l = GaveAtMost l.done l.warehouse

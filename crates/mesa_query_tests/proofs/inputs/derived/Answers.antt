@@ -1,8 +1,0 @@
-use Rattle.std.proofs.Common.{sym, subst}
-use Rattle.std.specs.Prelude.{Some}
-use Rattle.mesa_schema.specs.Changes.{Lineage, columns_of}
-use Rattle.mesa_tasks.specs.Pins.{HasViewOf, view_at}
-use Rattle.mesa_query_tests.proofs.inputs.derived.Goals as goal
-
-pub returns : goal.returns
-returns g c = λ s has. record { input = c.input_of-input.ensures.input; relation = subst (λ (k : Lineage). HasViewOf s (columns_of k) (view_at k (Some 0))) (sym c.input_of-input.ensures.table) has }

@@ -1,8 +1,0 @@
-use Rattle.std.proofs.Common.{sym, subst}
-use Rattle.std.specs.Prelude.{None}
-use Rattle.std.specs.List.{AllByRecursion}
-use Rattle.mesa_tasks.specs.Pins.{IsPinnedInput}
-use Rattle.mesa_query_tests.proofs.warmed.pinned_of.Goals as goal
-
-pub returns : goal.returns
-returns g c = (_, record { query = c.query_of-query.ensures; inputs = subst (AllByRecursion (IsPinnedInput g.R.FileReader.bytes _ None)) (sym c.one.ensures) (c.own-file.ensures None, tt) })

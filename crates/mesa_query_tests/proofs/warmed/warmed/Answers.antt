@@ -1,7 +1,0 @@
-use Rattle.mesa_query_tests.proofs.warmed.warmed.Goals as goal
-
-pub new-requires-clause-pinned : goal.new-requires-clause-pinned
-new-requires-clause-pinned g c κs within = c.requires
-
-pub returns : goal.returns
-returns g c = (c.requires.0, c.in-Ok.ensures.same.pinned c.requires.0 c.requires.1)

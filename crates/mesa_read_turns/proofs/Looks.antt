@@ -1,0 +1,45 @@
+-- How a look keeps a vault.
+use Rattle.std.proofs.Common.{◌≡◌, ℕ, ◌<◌, ◌^◌, List, [], ◌∷◌, ◌++◌, Bool, true, false, not, refl, Option, IsTrue}
+use Rattle.mesa_batch.specs.declared.words.RowWords.{RowWords}
+use Rattle.mesa_disk.specs.Story.{Story}
+use Rattle.mesa_model.specs.declared.commands.Command.{Command}
+use Rattle.mesa_model.specs.declared.commands.Command.TheVariants as command
+use Rattle.mesa_model.specs.declared.entries.Entry.{Entry}
+use Rattle.mesa_model.specs.declared.entries.Kind.TheVariants as kind
+use Rattle.mesa_engine.specs.mesa_history.Replay.{is_skip}
+use Rattle.mesa_engine.specs.mesa_history.Run.{First}
+use Rattle.mesa_engine.specs.mesa_history.Turns.{IsDue}
+use Rattle.mesa_engine.specs.mesa_engine_state.mesa_invariant.Turns.{entry, is_load, looking}
+use Rattle.mesa_engine.specs.mesa_engine_state.mesa_invariant.Walk.{Outset, run_of}
+use Rattle.mesa_engine.proofs.mesa_engine_state.mesa_invariant.Reading.{look_turn}
+use Rattle.mesa_engine.proofs.mesa_engine_state.mesa_invariant.Turning.{stays}
+use Rattle.mesa_engine.specs.mesa_engine_state.EngineState.{EngineState, books_of}
+use Rattle.mesa_engine.specs.mesa_engine_state.Vault.{Origin, IsVault}
+use Rattle.mesa_engine.proofs.mesa_engine_state.Staying.{still_vault}
+
+-- what a command that loads is
+pub load_of : (c : Command) → IsTrue (is_load c) → (rows : List RowWords) × (c ≡ command.Load rows)
+load_of (command.Load rows) is = (rows, refl)
+load_of (command.Table words) is = absurd cc
+load_of (command.View words) is = absurd cc
+load_of (command.Alter words) is = absurd cc
+load_of (command.Query words) is = absurd cc
+load_of (command.Explain words) is = absurd cc
+load_of (command.Pin asked) is = absurd cc
+load_of (command.Release token) is = absurd cc
+load_of (command.Expire table version) is = absurd cc
+load_of (command.Work words) is = absurd cc
+load_of (command.Recast words) is = absurd cc
+
+-- a look is skipped exactly where the sink has failed
+pub skips : (running found : Bool) → is_skip (looking running found) ≡ not running
+skips true true = refl
+skips true false = refl
+skips false found = refl
+
+pub looked_vault : (o : Outset) (g : Origin) (sound : Bool) (l : EngineState) (story : Story) (held : Option (List ℕ)) (h : List Entry) (running refused : Bool) → IsVault o g sound l story held h running refused
+    → (s number : ℕ) → s < 2 ^ 16 → number < 2 ^ 32 → (m : ℕ) → m ≡ story.moment → (rows : List RowWords) → IsDue o.script (run_of o h) s number (command.Load rows) First → (found : Bool)
+    → IsVault o g sound l story held (h ++ entry s number kind.Look (looking running found) m ∷ []) running refused
+looked_vault o g sound l story held h running refused v s number low few m moment rows due found =
+    still_vault o g sound l story held h running refused v (entry s number kind.Look (looking running found) m) story held running refused (stays story)
+    (look_turn o sound (books_of v.rows l) story held h running refused v.walk s number low few m moment rows due found)

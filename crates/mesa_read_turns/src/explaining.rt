@@ -1,0 +1,90 @@
+// A plan that is told.
+ghost use Rattle.std.specs.Prelude.{◌≡◌, ◌<◌, false, length, IfErr, IfOk, Ok};
+ghost use Rattle.mesa_engine.specs.Failing.{is_of_device};
+ghost use Rattle.mesa_engine.specs.mesa_history.Machine.{explained};
+ghost use Rattle.mesa_engine.specs.mesa_history.Replay.{no_rows as no_heading};
+ghost use Rattle.mesa_engine.specs.mesa_history.Run.{First, Finished};
+ghost use Rattle.mesa_engine.specs.mesa_history.Turns.{IsDue};
+ghost use Rattle.mesa_engine.specs.mesa_image.Shape.{IsCatalog};
+ghost use Rattle.mesa_engine.specs.mesa_engine_state.EngineState.{books_of};
+ghost use Rattle.mesa_engine.specs.Failure.{cause_in};
+ghost use Rattle.mesa_model.specs.declared.commands.Command.TheVariants as command;
+ghost use Rattle.mesa_model.specs.declared.entries.Kind.TheVariants as kind;
+ghost use Rattle.mesa_read_turns.specs.Asked.{cause_asked};
+ghost use Rattle.mesa_engine.specs.mesa_script.Rows.{body_of};
+ghost use Rattle.mesa_engine.specs.mesa_projection.Rows.{no_rows};
+ghost use Rattle.mesa_engine.specs.mesa_engine_state.mesa_invariant.Changes.{HasNoPlan};
+ghost use Rattle.mesa_engine.specs.mesa_engine_state.mesa_invariant.Turns.{AnswersDisk, Takes};
+ghost use Rattle.mesa_engine.specs.mesa_engine_state.mesa_invariant.Walk.{run_at};
+
+use crate::spans::lines_of;
+use mesa_disk::{Disk, Made};
+use mesa_engine::{Engine, Failure, Metadata, Naming, Who};
+use mesa_io::Sink;
+use mesa_model::{ExplainWords, Kind, Outcome, Refusal, Reply};
+use std::alloc::Global;
+
+// A reply, and the lines behind its head line.
+struct Told {
+    reply: Reply,
+    lines: Vec<u8>,
+}
+
+// Why the rules tell no plan.
+fn failed(failure: mesa_binding::Failure) -> Failure
+    ensures { cause_in result ≡ cause_asked failure }
+{
+    match failure {
+        mesa_binding::Failure::Refused(refusal) => Failure::Refused(refusal),
+        mesa_binding::Failure::Memory => Failure::Memory,
+    }
+}
+
+// What is told of how a query would be answered, or why it isn't told.
+fn planned(alloc: Global, metadata: &Metadata, words: &ExplainWords) -> Result<Told, Failure>
+    requires { IsCatalog metadata.now.state.catalogue }
+    ensures explained { IfOk result (λ t. explained (books_of no_rows metadata.now.state).bare (books_of no_rows metadata.now.state).machine words.now ≡ Ok t.reply) }
+    ensures lines { IfOk result (λ t. t.lines.items ≡ body_of no_heading t.reply) }
+    ensures refused { IfErr result (λ failure. HasNoPlan (books_of no_rows metadata.now.state) words.now (cause_in failure)) }
+    ensures quiet { IfErr result (λ failure. is_of_device (cause_in failure) ≡ false) }
+{
+    if let Some(position) = metadata.closed() {
+        return Err(Failure::Refused(Refusal::Closed { position }));
+    }
+    let reply = match mesa_rules::explain(alloc, metadata.catalog(), words) {
+        Ok(reply) => reply,
+        Err(failure) => return Err(failed(failure)),
+    };
+    match lines_of(alloc, &reply) {
+        Ok(lines) => Ok(Told { reply, lines }),
+        Err(_) => Err(Failure::Memory),
+    }
+}
+
+/// The turn of an explain: the ranges are told that a query of a relation would read, and where its filter is named the relation in whose order it would be answered.
+pub fn explain<N: Naming, M: Made, D: Disk<M>, K: Sink>(
+    alloc: Global,
+    engine: &mut Engine<N, M, D, K>,
+    who: Who,
+    words: &ExplainWords,
+)
+    requires due { IsDue N.script (run_at N.script (N.start no_rows) engine.old.shown.history) who.session who.command (command.Explain words.now) First }
+    requires room { length engine.old.shown.history < N.room }
+    ensures turn { Takes N.script (N.start no_rows) engine.old.shown engine.new.shown who.session who.command kind.Decide Finished }
+    ensures disk { AnswersDisk N.script (N.start no_rows) engine.old.shown engine.new.shown ⊥ }
+    ensures told { engine.new.told ≡ engine.old.told }
+    ensures state { engine.new.state ≡ engine.old.state }
+{
+    if !engine.running() {
+        engine.skip(who, Kind::Decide);
+        return;
+    }
+    let found = match planned(alloc, &engine.metadata, words) {
+        Ok(found) => found,
+        Err(failure) => return engine.fail(who, Kind::Decide, failure),
+    };
+    let at = engine.log.position();
+    let turn = who.turn(Kind::Decide, Outcome::Stands, engine.disk.clock());
+    let Told { reply, lines } = found;
+    engine.log.tell(turn, at, &reply, &lines);
+}

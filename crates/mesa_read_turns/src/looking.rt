@@ -1,0 +1,61 @@
+// A load's first turn.
+ghost use Rattle.std.specs.Prelude.{◌≡◌, ◌<◌, true, length, IfOk, OnOk};
+ghost use Rattle.mesa_batch.specs.Glance.{tables_of};
+ghost use Rattle.mesa_rules.specs.mesa_catalog.Lookups.{sight_of};
+ghost use Rattle.mesa_engine.specs.mesa_history.Run.{First, Looked};
+ghost use Rattle.mesa_model.specs.declared.entries.Kind.TheVariants as kind;
+ghost use Rattle.mesa_engine.specs.mesa_projection.Rows.{no_rows};
+ghost use Rattle.mesa_engine.specs.mesa_engine_state.mesa_invariant.Sight.{tables_seen};
+ghost use Rattle.mesa_engine.specs.mesa_engine_state.mesa_invariant.Turns as spec;
+ghost use Rattle.mesa_engine.specs.mesa_engine_state.mesa_invariant.Turns.{AnswersDisk, Asks, Takes, is_load};
+ghost use Rattle.mesa_engine.specs.mesa_engine_state.mesa_invariant.Walk.{run_at};
+
+use mesa_batch::Glance;
+use mesa_disk::{Disk, Made};
+use mesa_engine::{Engine, Naming, Who};
+use mesa_io::Sink;
+use mesa_model::{Kind, Outcome};
+use std::alloc::AllocError;
+
+// How a look ends.
+fn looking(running: bool, found: bool) -> Outcome
+    ensures { result ≡ spec.looking running found }
+{
+    if !running {
+        return Outcome::Skipped;
+    }
+    if found {
+        Outcome::Stands
+    } else {
+        Outcome::Memory
+    }
+}
+
+/// A load's first turn: what it sees of the tables, unless the sink has failed or there is no memory.
+pub fn look<N: Naming, M: Made, D: Disk<M>, K: Sink>(
+    engine: &mut Engine<N, M, D, K>,
+    who: Who,
+) -> Result<Glance, AllocError>
+    requires due { Asks N.script (run_at N.script (N.start no_rows) engine.old.shown.history) who.session who.command First is_load }
+    requires room { length engine.old.shown.history < N.room }
+    ensures turn { Takes N.script (N.start no_rows) engine.old.shown engine.new.shown who.session who.command kind.Look Looked }
+    ensures disk { AnswersDisk N.script (N.start no_rows) engine.old.shown engine.new.shown ⊥ }
+    ensures glance { IfOk result (λ g. g ≡ sight_of engine.new.state.catalogue) }
+    ensures tables { IfOk result (λ g. tables_of g ≡ tables_seen (run_at N.script (N.start no_rows) engine.new.shown.history)) }
+    ensures ran { OnOk result (engine.old.shown.running ≡ true) }
+    ensures state { engine.new.state ≡ engine.old.state }
+{
+    let running = engine.running();
+    let glance = if running {
+        engine.glance()
+    } else {
+        Err(AllocError)
+    };
+    let turn = who.turn(
+        Kind::Look,
+        looking(running, glance.is_ok()),
+        engine.disk.clock(),
+    );
+    engine.log.pass(turn);
+    glance
+}

@@ -1,0 +1,59 @@
+// A pin's release.
+ghost use Rattle.std.specs.Prelude.{◌≡◌, ◌<◌, length, IfNone, IfSome, None, Err};
+ghost use Rattle.mesa_engine.specs.mesa_history.Run.{First, Finished};
+ghost use Rattle.mesa_engine.specs.mesa_history.Turns.{IsDue};
+ghost use Rattle.mesa_engine.specs.mesa_engine_state.EngineState.{books_of};
+ghost use Rattle.mesa_model.specs.Pins.{release_pin};
+ghost use Rattle.mesa_model.specs.declared.commands.Command.TheVariants as command;
+ghost use Rattle.mesa_model.specs.declared.entries.Kind.TheVariants as kind;
+ghost use Rattle.mesa_engine.specs.mesa_projection.Rows.{no_rows};
+ghost use Rattle.mesa_engine.specs.mesa_engine_state.mesa_invariant.Changes.{ReleasesPin};
+ghost use Rattle.mesa_engine.specs.mesa_engine_state.mesa_invariant.Turns.{AnswersDisk, Takes};
+ghost use Rattle.mesa_engine.specs.mesa_engine_state.mesa_invariant.Walk.{run_at};
+
+use mesa_disk::{Disk, Made};
+use mesa_engine::{Engine, Failure, Metadata, Naming, Who};
+use mesa_io::Sink;
+use mesa_model::{Kind, Outcome, Refusal, Reply};
+
+// Why a session's pin isn't released, if it isn't.
+fn unreleased(metadata: &Metadata, session: u16, token: u32) -> Option<Refusal>
+    ensures refused { IfSome result (λ x. release_pin (books_of no_rows metadata.now.state).bare session token ≡ Err x) }
+    ensures released { IfNone result (ReleasesPin (books_of no_rows metadata.now.state) session token) }
+    ensures opened { IfNone result (metadata.now.state.closed ≡ None) }
+{
+    if let Some(position) = metadata.closed() {
+        return Some(Refusal::Closed { position });
+    }
+    if metadata.pin_of(session, token).is_none() {
+        return Some(Refusal::NoPin { token });
+    }
+    None
+}
+
+/// The turn of a release: the session's pin goes, and what it held may be removed by a later turn.
+pub fn release<N: Naming, M: Made, D: Disk<M>, K: Sink>(
+    engine: &mut Engine<N, M, D, K>,
+    who: Who,
+    token: u32,
+)
+    requires due { IsDue N.script (run_at N.script (N.start no_rows) engine.old.shown.history) who.session who.command (command.Release token) First }
+    requires room { length engine.old.shown.history < N.room }
+    ensures turn { Takes N.script (N.start no_rows) engine.old.shown engine.new.shown who.session who.command kind.Decide Finished }
+    ensures disk { AnswersDisk N.script (N.start no_rows) engine.old.shown engine.new.shown ⊥ }
+    ensures told { engine.new.told ≡ engine.old.told }
+    ensures catalogue { engine.new.state.catalogue ≡ engine.old.state.catalogue }
+{
+    if !engine.running() {
+        engine.skip(who, Kind::Decide);
+        return;
+    }
+    if let Some(refusal) = unreleased(&engine.metadata, who.session, token) {
+        return engine.fail(who, Kind::Decide, Failure::Refused(refusal));
+    }
+    engine.metadata.release(who.session, token);
+    let at = engine.log.position();
+    let turn = who.turn(Kind::Decide, Outcome::Stands, engine.disk.clock());
+    let reply = Reply::Released { token };
+    engine.log.tell(turn, at, &reply, b"");
+}

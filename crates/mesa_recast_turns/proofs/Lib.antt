@@ -1,0 +1,9 @@
+pub use Rattle.mesa_close_turns.proofs as mesa_close_turns
+pub use Rattle.mesa_close_turns.proofs.mesa_write_turns as mesa_write_turns
+pub mod Unfits
+pub mod Checks
+pub mod Dues
+pub mod Paid
+pub mod Further
+pub mod Regroups
+pub mod RegroupEngines

@@ -1,0 +1,299 @@
+-- How the close of a recast whose table is recast keeps a vault.
+use Rattle.std.proofs.Common.{◌≡◌, inl, inr, ◌∙◌, ℕ, ◌+◌, ◌<◌, ◌^◌, List, [], ◌∷◌, ◌++◌, map, length, Bool, true, false, ◌||◌, refl, sym, ap, subst, arith, Option, None, Some, Ok, IsTrue}
+use Rattle.std.specs.List.{AllByRecursion}
+use Rattle.mesa_disk.specs.mesa_key.Spelling.{AreBytes}
+use Rattle.mesa_plans.proofs.mesa_schema.Lists.{map_at}
+use Rattle.mesa_disk.specs.Files.{AreGone, files_of}
+use Rattle.mesa_disk.specs.Image.{Image}
+use Rattle.mesa_disk.specs.Story.{Spans, Steps, Story}
+use Rattle.mesa_plans.specs.mesa_commit.Images.{Stands}
+use Rattle.mesa_plans.specs.mesa_commit.Turn.{MovesOnly, made_ids, told_files}
+use Rattle.mesa_lease.specs.Book.{ended}
+use Rattle.mesa_model.specs.Tables.{recast_reply}
+use Rattle.mesa_model.specs.Warehouse.{Table, table_at}
+use Rattle.mesa_model.specs.declared.commands.Command.TheVariants as command
+use Rattle.mesa_model.specs.declared.commands.RecastWords.{RecastWords}
+use Rattle.mesa_model.specs.declared.entries.Entry.{Entry}
+use Rattle.mesa_model.specs.declared.entries.Kind.TheVariants as kind
+use Rattle.mesa_model.specs.declared.entries.Outcome.TheVariants as outcome
+use Rattle.mesa_model.specs.declared.replies.Reply.{Reply}
+use Rattle.mesa_model.specs.declared.replies.Reply.TheVariants as reply
+use Rattle.mesa_plans.specs.mesa_schema.Changes.{epoch_of}
+use Rattle.mesa_engine.specs.mesa_history.Law.{Regroups as Grouping}
+use Rattle.mesa_engine.specs.mesa_history.Machine.{Claim, claim_checked, still_checked}
+use Rattle.mesa_engine.specs.mesa_history.Run.{Renewed}
+use Rattle.mesa_engine.specs.mesa_history.Sources.{Written}
+use Rattle.mesa_engine.specs.mesa_history.Turns.{IsDue}
+use Rattle.mesa_close_turns.specs.mesa_record.Reading.{record_at}
+use Rattle.mesa_close_turns.specs.mesa_record.Rules.{IsTyped, keeps_rules}
+use Rattle.mesa_close_turns.specs.mesa_record.declared.record.Record.{Record}
+use Rattle.mesa_close_turns.specs.mesa_record.declared.record.Record.TheVariants as record_of
+use Rattle.mesa_close_turns.specs.mesa_record.declared.recasting.Recasting.{Recasting}
+use Rattle.mesa_engine.specs.mesa_image.Catalog.{Catalog, applied, no_stock, stock_at}
+use Rattle.mesa_engine.specs.mesa_image.Contents.{kept_of}
+use Rattle.mesa_engine.specs.mesa_image.Fitting.{brought, fits, kind_fits, shelved}
+use Rattle.mesa_engine.specs.mesa_image.Held.{IsHeld, IsUnnamed}
+use Rattle.mesa_engine.specs.mesa_image.Sound.{AreStocked, StandsFor, wants}
+use Rattle.mesa_engine.proofs.mesa_engine_state.mesa_image.Agreeing.{agree_stocked, agree_wants}
+use Rattle.mesa_engine.proofs.mesa_engine_state.mesa_image.AllSourced.{agree_sourced, recast_sources as recast_sourced}
+use Rattle.mesa_engine.proofs.mesa_engine_state.mesa_image.CatalogRewriting.{catalog_brings}
+use Rattle.mesa_engine.proofs.mesa_engine_state.mesa_image.CountedRecords.{fits_counted}
+use Rattle.mesa_engine.proofs.mesa_engine_state.mesa_image.Ids.{own_ids}
+use Rattle.mesa_engine.proofs.mesa_engine_state.mesa_image.Recordable.{applied_recordable}
+use Rattle.mesa_engine.proofs.mesa_engine_state.mesa_image.Moving.{kind_of}
+use Rattle.mesa_engine.proofs.mesa_engine_state.mesa_image.RecastKept.{recast_moves}
+use Rattle.mesa_engine.proofs.mesa_engine_state.mesa_image.ShapedRecasts.{recast_there}
+use Rattle.mesa_engine.proofs.mesa_engine_state.mesa_image.Wholes.{fits_shaped}
+use Rattle.mesa_engine.specs.mesa_engine_state.mesa_image.Brought.{AreTold, BringsRecast}
+use Rattle.mesa_engine.specs.mesa_engine_state.mesa_image.Ids.{brought_ids, dropped_ids, named}
+use Rattle.mesa_engine.specs.mesa_engine_state.mesa_image.Moves.{Moves, kept_recast}
+use Rattle.mesa_engine.specs.mesa_engine_state.mesa_image.Rewritten.{recasting_of}
+use Rattle.mesa_engine.specs.mesa_engine_state.mesa_image.Sourced.{HasSources, written_behind}
+use Rattle.mesa_engine.specs.mesa_metadata.mesa_catalog.Lookups.{generation_of, turns_generation}
+use Rattle.mesa_store.specs.Store.{Writes as IsWritten}
+use Rattle.mesa_engine.specs.mesa_output.Output.{block}
+use Rattle.mesa_engine.specs.mesa_projection.Rows.{Rows, no_rows}
+use Rattle.mesa_close_turns.proofs.mesa_trash.Filing.{freed_unnamed}
+use Rattle.mesa_close_turns.specs.mesa_trash.Filed.{Renames}
+use Rattle.mesa_close_turns.specs.mesa_trash.Holding.{Among, freed, ids_of}
+use Rattle.mesa_tasks.specs.Recasts.{claim_of_recast, recast_in, recast_table}
+use Rattle.mesa_tasks.specs.declared.recasting.Recast.{Recast}
+use Rattle.mesa_engine.specs.mesa_engine_state.mesa_invariant.Causes.{Unwritten, reply_of, told_at}
+use Rattle.mesa_engine.specs.mesa_engine_state.mesa_invariant.Printing.{IsPut}
+use Rattle.mesa_engine.specs.mesa_engine_state.mesa_invariant.Turns.{entry}
+use Rattle.mesa_engine.specs.mesa_engine_state.mesa_invariant.Walk.{Counts, Passes, StandsForEither, Writes, run_of}
+use Rattle.mesa_engine.specs.mesa_engine_state.mesa_invariant.Works.{Regroups}
+use Rattle.mesa_engine.proofs.mesa_engine_state.mesa_invariant.Working.{checked_open}
+use Rattle.mesa_engine.specs.mesa_engine_state.EngineState.{EngineState, books_of, first_id, holders, ids_held, next_id, skeleton_of}
+use Rattle.mesa_engine.specs.mesa_engine_state.Recorded.{IsRecorded, failed_state, left_by, recorded_state, removed_by, waiting}
+use Rattle.mesa_engine.specs.mesa_engine_state.Vault.{IsVault, Starts, outset_of, written_by}
+use Rattle.mesa_engine.proofs.mesa_engine_state.Agreeing.{named_agree, same_kept}
+use Rattle.mesa_engine.proofs.mesa_engine_state.Filing.{filed_moved, holds_are}
+use Rattle.mesa_engine.proofs.mesa_engine_state.Recasting.{recast_as, recast_is}
+use Rattle.mesa_engine.proofs.mesa_engine_state.Recording.{Clears, clears_freed}
+use Rattle.mesa_engine.proofs.mesa_engine_state.Renaming.{record_brings, record_renames}
+use Rattle.mesa_engine.proofs.mesa_engine_state.Sources.{recast_sources}
+use Rattle.mesa_engine.proofs.mesa_engine_state.Writing.{recast_vault, unrecast_vault}
+use Rattle.mesa_close_turns.specs.mesa_publishing.Published.{AllTell, rows_with}
+use Rattle.mesa_close_turns.specs.mesa_publishing.Grown.{HasSameColumns}
+use Rattle.mesa_close_turns.specs.mesa_publishing.Recasts.{HasItsRanges, IsRecastIn, stock_of_recast}
+use Rattle.mesa_close_turns.specs.mesa_publishing.declared.swapping.Swapped.{Swapped}
+use Rattle.mesa_close_turns.proofs.Swaps.{all_among, not_among}
+use Rattle.mesa_close_turns.proofs.mesa_write_turns.Written.{IsWhole, IsWorked}
+
+-- the table of a number as the books have it
+pub table_is : (l : EngineState) (table : ℕ) → table_at (books_of no_rows l).bare.store table ≡ skeleton_of (stock_at l.catalogue table)
+table_is l table = map_at skeleton_of l.catalogue.tables table no_stock
+
+-- what a claim's table is told as
+abbrev pub told_of : {R : Type 0} → EngineState → Recast R → Reply
+told_of l t = recast_reply (table_at (books_of no_rows l).bare.store t.table)
+
+-- a table's name, and the epoch behind the one that it was granted in
+pub told_is : {R : Type 0} (l : EngineState) (t : Recast R) → HasSameColumns (recast_table t) (stock_of_recast l t).lineage → t.epoch ≡ epoch_of (recast_table t) → reply.Recast (stock_of_recast l t).name (t.epoch + 1) ≡ told_of l t
+told_is l t same epoch =
+    (λ i. reply.Recast (stock_of_recast l t).name ((epoch ∙ sym (λ j. same.begins j + length (same.changes j))) i + 1)) ∙ ap recast_reply (sym (table_is l t.table))
+
+module _ (n : Starts) (w : Rows) (sound : Bool) (l : EngineState) (story : Story) (held : Option (List ℕ)) (h : List Entry) (running refused : Bool) (v : IsVault (outset_of n w) (n.origin w) sound l story held h running refused)
+    (session number : ℕ) (low : session < 2 ^ 16) (few : number < 2 ^ 32) (ran : running ≡ true)
+    {M R : Type 0} (bytes : M → Option (List ℕ)) (read : R → Option (List ℕ)) (t : Recast R) (s : Swapped M) (is : IsRecastIn bytes read l t s) (typed : IsTyped s.entry)
+    (words : RecastWords) (due : IsDue n.script (run_of (outset_of n w) h) session number (command.Recast words) (Renewed (claim_of_recast t)))
+    (at : ℕ) (place : at ≡ length h) (checked : claim_checked (books_of no_rows l).bare (books_of no_rows l).machine at (claim_of_recast t) ≡ Ok tt)
+    (still : still_checked (stock_of_recast l t).lineage t.epoch (recast_in t) ≡ Ok tt)
+    (ranges : IsTrue sound → HasItsRanges read t (written_by (outset_of n w) (n.origin w).found h t.table)) where
+  abbrev c : Catalog
+  c = l.catalogue
+
+  abbrev k : Recasting
+  k = recasting_of t.table (stock_of_recast l t) (recast_in t) is.made
+
+  -- the record of the recast
+  abbrev r : Record
+  r = record_of.Recast k
+
+  abbrev later : Rows
+  later = rows_with v.rows (next_id l) is.more
+
+  abbrev made : List (ℕ × Option (List ℕ))
+  made = files_of bytes s.made.items
+
+  abbrev gone : List ℕ
+  gone = dropped_ids c r
+
+  abbrev removed : List ℕ
+  removed = removed_by l (length h) gone
+
+  abbrev claim : Claim
+  claim = claim_of_recast t
+
+  abbrev written : ℕ → List Written
+  written = written_by (outset_of n w) (n.origin w).found h
+
+  rules : keeps_rules r ≡ true
+  rules = subst (λ e. keeps_rules e ≡ true) is.entry is.rules
+
+  fit : fits c r ≡ true
+  fit = subst (λ e. fits c e ≡ true) is.entry is.fitting
+
+  kind_is : kind_fits c r ≡ true
+  kind_is = kind_of c r fit
+
+  there : t.table < length c.tables
+  there = recast_there c k v.shaped kind_is
+
+  ids : made_ids made ≡ brought_ids c r
+  ids = is.ids ∙ ap (brought_ids c) is.entry
+
+  files_told : AreTold later c r
+  files_told = subst (λ e. AreTold later c e) is.entry (is.told v.rows)
+
+  files : AllTell bytes s.made.items → made ≡ told_files (wants later (brought c r))
+  files tell = is.files v.rows tell ∙ ap (λ e. told_files (wants later (brought c e))) is.entry
+
+  agree : (id : ℕ) → id < next_id l → later id ≡ v.rows id
+  agree = is.agree v.rows
+
+  opened : l.closed ≡ None
+  opened = checked_open (books_of no_rows l).bare (books_of no_rows l).machine at claim checked
+
+  -- the books' table is the catalogue's
+  still_in : still_checked (table_at (books_of no_rows l).bare.store t.table).lineage t.epoch (recast_in t) ≡ Ok tt
+  still_in = ap (λ (u : Table). still_checked u.lineage t.epoch (recast_in t)) (table_is l t.table) ∙ still
+
+  renames : Renames (named c) made (named (applied c r)) gone
+  renames = record_renames c r rules fit v.own made ids
+
+  recorded : IsRecorded l v.rows later (applied c r) made gone
+  recorded = record {
+    agree = agree;
+    run = refl;
+    renames = renames;
+    brings = record_brings c r rules fit v.own made ids;
+    shaped = fits_shaped c r v.shaped (subst IsTyped is.entry typed) fit;
+    own = own_ids c r rules fit v.own;
+    columns = fits_counted c r v.shaped v.columns fit;
+    recordable = applied_recordable c r (record { typed = subst IsTyped is.entry typed; rules = rules }) v.recordable;
+  }
+
+  -- the files go that no hold is on, and the others wait
+  clears : Clears v.seen l (length h) s.adopted (applied c r) (left_by l (length h) gone) removed
+  clears = clears_freed (outset_of n w) (n.origin w) sound l story held h running refused v made s.adopted is.adopts (applied c r) gone renames
+
+  -- nothing that is removed is named then
+  unnamed : AllByRecursion (IsUnnamed (applied c r)) removed
+  unnamed = all_among (IsUnnamed (applied c r)) removed (λ id among. not_among id (shelved (applied c r)) (freed_unnamed (length h + 1) (first_id c.run + s.adopted) (named (applied c r)) (waiting l (length h) gone) (map ids_held (holders v.seen l))
+      (filed_moved (length h) (next_id l) (named c) l.trash (map ids_held (holders v.seen l)) v.filed made (first_id c.run + s.adopted) is.adopts.given (let more = is.adopts.more in omega (arith, more)) (named (applied c r)) gone renames)
+      id (subst (λ hs. Among id (ids_of (freed hs (waiting l (length h) gone)))) (sym (holds_are v.seen l)) among)))
+
+  -- ---- on a sound store
+
+  module _ (ok : IsTrue sound) where
+    stocked_later : AreStocked later c
+    stocked_later = agree_stocked v.rows later c (named_agree (outset_of n w) (n.origin w) sound l story held h running refused v later agree) (v.stocked ok).0
+
+    has_sources : HasSources later written c
+    has_sources = agree_sourced v.rows later written c (named_agree (outset_of n w) (n.origin w) sound l story held h running refused v later agree) (v.sourced ok)
+
+    brings : BringsRecast later c.next (stock_at c t.table) k
+    brings = catalog_brings later written c t.table (recast_in t) is.made v.shaped has_sources there (is.rewritten v.rows (written t.table) (ranges ok)) is.covers
+
+    moves : Moves later c r (kept_recast (kept_of later c) t.table (recast_in t))
+    moves = recast_moves c k v.shaped kind_is later files_told brings stocked_later
+
+    goes_on : HasSources later written c → HasSources later (written_behind later c (Grouping t.table (recast_in t)) written) (applied c r)
+    goes_on has = recast_sourced later written c v.shaped has k kind_is files_told brings
+
+  module _ (body : List ℕ) (are : AreBytes body) (reads : record_at body ≡ Ok r) where
+    to_write : IsTrue sound → AllTell bytes s.made.items → IsWritten story l.area v.bodies l.end c later r body made removed
+    to_write ok tell =
+        let stands = v.stands ok opened in
+        record {
+          held = record {
+            bytes = stands.bytes;
+            records = stands.records;
+            stocked = stocked_later ok;
+            stands = subst (λ files. Stands story l.area v.bodies l.end files) (sym (agree_wants v.rows later (shelved c) (named_agree (outset_of n w) (n.origin w) sound l story held h running refused v later agree))) stands.stands;
+          };
+          step = record { bytes = are; reads = reads; fitting = fit; stocked = (moves ok).stocked; grows = (moves ok).grows };
+          brings = files tell;
+          unnamed = unnamed;
+        }
+
+    -- each image stands for what was kept, or for what is to be kept
+    store_recast : (new : Story) → IsWorked story new l.area l.end body made removed → IsTrue sound → AllTell bytes s.made.items → Writes StandsFor story new (kept_of v.rows l.catalogue) (kept_of later (applied c r))
+    store_recast new worked ok tell below all =
+        subst (λ kept. Spans (StandsForEither StandsFor kept (kept_of later (applied c r))) story new) (same_kept (outset_of n w) (n.origin w) sound l story held h running refused v later agree)
+        (worked.images v.bodies c later r (to_write ok tell))
+
+    store_holds : (new : Story) (end : ℕ) → IsWorked story new l.area l.end body made removed → IsWhole story new l.area l.end body made removed end → IsTrue sound → AllTell bytes s.made.items
+        → IsHeld new l.area (v.bodies ++ body ∷ []) end (applied c r) later
+    store_holds new end worked whole ok tell =
+        subst (λ e. IsHeld new l.area (v.bodies ++ body ∷ []) e (applied c r) later) (sym whole.ends) (whole.holds v.bodies c later r (to_write ok tell))
+
+  module _ (new : Story) (m : ℕ) (moment : m ≡ new.moment) (passes : Passes story new) (only : Steps (MovesOnly made removed) story.told new.told) (now : Bool) (new_held : Option (List ℕ))
+      (writes : IsTrue sound → Writes StandsFor story new (kept_of v.rows l.catalogue) (kept_of later (applied c r))) (end : ℕ) where
+    groups : Regroups sound (books_of v.rows l) claim (recast_in t) (kept_of later (applied c r))
+    groups = recast_is (outset_of n w) (n.origin w) sound l story held h running refused v later agree claim (recast_in t) is.made moves
+
+    abbrev after : EngineState
+    after = recorded_state l (applied c r) (generation_of (applied c r)) (left_by l (length h) gone) (ended t.table t.lease l.leases) s.adopted end
+
+    stands_so : Counts story new false → (bodies : List (List ℕ)) → (IsTrue sound → IsHeld new l.area bodies end (applied c r) later) → ((i : Image) → new.told ≡ Some i → AreGone removed i) → end < new.len l.area
+        → generation_of (applied c r) ≡ l.generation + turns_generation r → IsPut (block (entry session number kind.Close outcome.Stands m) (Some (told_at at (told_of l t)))) now held new_held
+        → IsVault (outset_of n w) (n.origin w) sound after new new_held (h ++ entry session number kind.Close outcome.Stands m ∷ []) now (refused || false)
+    stands_so counts bodies holds gone_now long rises put =
+        recast_vault n w sound l story held h running refused v session number low few m ran at place opened later (applied c r) made gone s.adopted is.adopts recorded (left_by l (length h) gone) removed clears new moment passes only writes now new_held
+        words claim t.epoch (recast_in t) refl due checked still_in (generation_of (applied c r)) end groups
+        (recast_as (outset_of n w) (n.origin w) sound l story held h running refused v later agree claim (recast_in t) is.made (generation_of (applied c r)) (left_by l (length h) gone) s.adopted end)
+        counts bodies holds gone_now (λ ok. (moves ok).stocked) long rises
+        (λ told ok. recast_sources (outset_of n w) (n.origin w) sound l story held h running refused v later agree (entry session number kind.Close outcome.Stands m) _ (command.Recast words) claim t.epoch (recast_in t) refl due _ _ told (applied c r) (goes_on ok) ok) put
+
+    fails_so : Counts story new true → IsPut (block (entry session number kind.Close outcome.WriteFault m) (Some (told_at at (reply_of Unwritten)))) now held new_held
+        → IsVault (outset_of n w) (n.origin w) sound (failed_state l at (ended t.table t.lease l.leases) s.adopted) new new_held (h ++ entry session number kind.Close outcome.WriteFault m ∷ []) now (refused || true)
+    fails_so counts put =
+        unrecast_vault n w sound l story held h running refused v session number low few m ran at place opened later (applied c r) made gone s.adopted is.adopts recorded (left_by l (length h) gone) removed clears new moment passes only writes now new_held
+        words claim t.epoch (recast_in t) refl due checked still_in (generation_of (applied c r)) end groups
+        (recast_as (outset_of n w) (n.origin w) sound l story held h running refused v later agree claim (recast_in t) is.made (generation_of (applied c r)) (left_by l (length h) gone) s.adopted end)
+        counts put
+
+-- ---- on every store
+
+module _ (n : Starts) (w : Rows) (sound : Bool) (l : EngineState) (story : Story) (held : Option (List ℕ)) (h : List Entry) (running refused : Bool) (v : IsVault (outset_of n w) (n.origin w) sound l story held h running refused)
+    (session number : ℕ) (low : session < 2 ^ 16) (few : number < 2 ^ 32) (ran : running ≡ true)
+    {M R : Type 0} (bytes : M → Option (List ℕ)) (read : R → Option (List ℕ)) (t : Recast R) (s : Swapped M) (is : IsRecastIn bytes read l t s) (typed : IsTyped s.entry)
+    (words : RecastWords) (due : IsDue n.script (run_of (outset_of n w) h) session number (command.Recast words) (Renewed (claim_of_recast t)))
+    (at : ℕ) (place : at ≡ length h) (checked : claim_checked (books_of no_rows l).bare (books_of no_rows l).machine at (claim_of_recast t) ≡ Ok tt)
+    (still : still_checked (stock_of_recast l t).lineage t.epoch (recast_in t) ≡ Ok tt)
+    (ranges : IsTrue sound → HasItsRanges read t (written_by (outset_of n w) (n.origin w).found h t.table)) (tell : IsTrue sound → AllTell bytes s.made.items)
+    (body : List ℕ) (are : AreBytes body) (new : Story) (m : ℕ) (moment : m ≡ new.moment) (now : Bool) (new_held : Option (List ℕ)) where
+  -- what is asked of the device work for a record, and what the vault then is
+  abbrev Ends : Record → Type 0
+  Ends e = record_at body ≡ Ok e → IsWorked story new l.area l.end body (files_of bytes s.made.items) (removed_by l (length h) (dropped_ids l.catalogue e)) → (end : ℕ)
+      → IsWhole story new l.area l.end body (files_of bytes s.made.items) (removed_by l (length h) (dropped_ids l.catalogue e)) end → Counts story new false → generation_of (applied l.catalogue e) ≡ l.generation + turns_generation e
+      → IsPut (block (entry session number kind.Close outcome.Stands m) (Some (told_at at (told_of l t)))) now held new_held
+      → IsVault (outset_of n w) (n.origin w) sound (recorded_state l (applied l.catalogue e) (generation_of (applied l.catalogue e)) (left_by l (length h) (dropped_ids l.catalogue e)) (ended t.table t.lease l.leases) s.adopted end) new new_held
+      (h ++ entry session number kind.Close outcome.Stands m ∷ []) now (refused || false)
+
+  abbrev Fails : Record → Type 0
+  Fails e = record_at body ≡ Ok e → IsWorked story new l.area l.end body (files_of bytes s.made.items) (removed_by l (length h) (dropped_ids l.catalogue e)) → Counts story new true
+      → IsPut (block (entry session number kind.Close outcome.WriteFault m) (Some (told_at at (reply_of Unwritten)))) now held new_held
+      → IsVault (outset_of n w) (n.origin w) sound (failed_state l at (ended t.table t.lease l.leases) s.adopted) new new_held (h ++ entry session number kind.Close outcome.WriteFault m ∷ []) now (refused || true)
+
+  ends_so : Ends (record_of.Recast (recasting_of t.table (stock_of_recast l t) (recast_in t) is.made))
+  ends_so reads worked end whole counts rises put =
+      stands_so n w sound l story held h running refused v session number low few ran bytes read t s is typed words due at place checked still ranges new m moment worked.passes worked.only now new_held
+      (λ ok. store_recast n w sound l story held h running refused v session number low few ran bytes read t s is typed words due at place checked still ranges body are reads new worked ok (tell ok)) end counts (v.bodies ++ body ∷ [])
+      (λ ok. store_holds n w sound l story held h running refused v session number low few ran bytes read t s is typed words due at place checked still ranges body are reads new end worked whole ok (tell ok)) whole.gone whole.long rises put
+
+  failed_so : Fails (record_of.Recast (recasting_of t.table (stock_of_recast l t) (recast_in t) is.made))
+  failed_so reads worked counts put =
+      fails_so n w sound l story held h running refused v session number low few ran bytes read t s is typed words due at place checked still ranges new m moment worked.passes worked.only now new_held
+      (λ ok. store_recast n w sound l story held h running refused v session number low few ran bytes read t s is typed words due at place checked still ranges body are reads new worked ok (tell ok)) 0 counts put
+
+  -- The device work is done, and the vault has the record: the lease has ended.
+  pub recast_ends : Ends s.entry
+  recast_ends = subst Ends (sym is.entry) ends_so
+
+  -- The device work has failed, and the vault closes: the lease has ended too.
+  pub recast_fails : Fails s.entry
+  recast_fails = subst Fails (sym is.entry) failed_so

@@ -1,0 +1,176 @@
+use Rattle.std.proofs.Common.{◌≡◌, inr, ◌∷◌, ◌++◌, [], length, Option, Some, ℕ, IsTrue, true, false, not, refl, sym, ◌∙◌, ap, subst, arith}
+use Rattle.std.specs.Prelude.{◌==◌, ◌⊎◌}
+use Rattle.std.proofs.Math.Logic.{⊎_map}
+use Rattle.mesa_disk.specs.mesa_fault.Causes.{last}
+use Rattle.mesa_engine.specs.mesa_history.Counting.{answers_bench, answers_disk}
+use Rattle.mesa_engine.specs.mesa_history.Replay.{closes}
+use Rattle.mesa_engine.specs.mesa_history.Run.{Finished}
+use Rattle.mesa_engine.specs.mesa_history.Turns.{IsDue}
+use Rattle.mesa_model.specs.declared.commands.Command.TheVariants as command
+use Rattle.mesa_model.specs.declared.entries.Kind.TheVariants as kind
+use Rattle.mesa_engine.specs.mesa_engine_state.EngineState.{EngineState}
+use Rattle.mesa_engine.specs.mesa_engine_state.Vault.{Starts, outset_of}
+use Rattle.mesa_engine.proofs.mesa_engine_state.Beginning.{vault_at_seen}
+use Rattle.mesa_engine.specs.Failure.{cause_in}
+use Rattle.mesa_engine.specs.Printing.{PrintsBlock}
+use Rattle.mesa_engine.specs.mesa_metadata.Memory.{Memory}
+use Rattle.mesa_engine.specs.mesa_output.Output.{block}
+use Rattle.mesa_engine.specs.mesa_projection.Rows.{no_rows}
+use Rattle.mesa_engine.specs.mesa_engine_state.mesa_invariant.Causes.{Cause, is_read_fault, outcome_of, reply_of, told_at}
+use Rattle.mesa_engine.specs.mesa_engine_state.mesa_invariant.Printing.{IsPut}
+use Rattle.mesa_engine.specs.mesa_engine_state.mesa_invariant.Turns.{AnswersDisk, AnswersDraft, Shown, SomeRose, Takes, entry, faults_of}
+use Rattle.mesa_engine.specs.mesa_engine_state.mesa_invariant.Walk.{run_at}
+use Rattle.mesa_engine.specs.mesa_engine_state.mesa_invariant.Works.{closing_stage}
+use Rattle.mesa_engine.proofs.mesa_engine_state.mesa_invariant.Alike.{due_alike}
+use Rattle.mesa_engine.proofs.mesa_engine_state.mesa_invariant.Clock.{begun_moment, not_closing}
+use Rattle.mesa_engine.proofs.mesa_engine_state.mesa_invariant.Faulting.{disk_where}
+use Rattle.mesa_engine.specs.Engine.{Standing, IsEngine, starts_of}
+use Rattle.mesa_engine.proofs.Drafting.{answers_where}
+use Rattle.mesa_tasks.specs.Recasts.{claim_of_recast, recast_inputs}
+use Rattle.mesa_tasks.specs.GivingBack.{SomeFailed}
+use Rattle.mesa_tasks.specs.declared.merging.CompactError.TheVariants as compact
+use Rattle.mesa_delta.specs.declared.error.FileError.TheVariants as file_error
+use Rattle.mesa_close_turns.specs.Unmerged.{cause_of, closing_cause, closing_state}
+use Rattle.mesa_close_turns.proofs.Closings.{given_up_engine, given_up_takes, only_draft}
+use Rattle.mesa_engine.proofs.mesa_engine_state.mesa_invariant.Working.{close_later}
+use Rattle.mesa_recast_turns.specs.Rested.{HasUnpaid}
+use Rattle.mesa_recast_turns.proofs.Paid.{close_unanswered, only_read, paid}
+use Rattle.mesa_recast_turns.proofs.unmade.abandon.Goals as goal
+
+abbrev closed_of : EngineState → Option ℕ
+closed_of l = l.closed
+
+due_at : (g : _) (c : goal.After-fail g)
+    → IsDue g.N.Naming.script (run_at g.N.Naming.script (g.N.Naming.start no_rows) c.engine.inside.log.history.items) c.args.who.session c.args.who.command (command.Recast c.requires.due.0) (closing_stage c.requires.due.1 (claim_of_recast c.args.task))
+due_at g c =
+    subst (λ (x : Standing). IsDue g.N.Naming.script (run_at g.N.Naming.script (g.N.Naming.start no_rows) x.shown.history) c.args.who.session c.args.who.command (command.Recast c.requires.due.0) (closing_stage c.requires.due.1 (claim_of_recast c.args.task)))
+    (sym c.engine.view_is) c.requires.due.2
+
+runs : (g : _) (c : goal.After-fail g) → not c.engine.inside.log.printer.broken ≡ true
+runs g c = ap (λ (s : Standing). s.shown.running) c.engine.view_is ∙ c.requires.runs
+
+-- a read that failed is still to be paid
+read_in : (g : _) (c : goal.After-fail g) → is_read_fault (cause_of c.args.error) ≡ true
+    → SomeFailed g.D.Reader.FileReader.faults (recast_inputs c.args.task) ⊎ HasUnpaid g.N.Naming.script g.N.Naming.start g.N.Naming.counted (record { history = c.engine.inside.log.history.items; running = not c.engine.inside.log.printer.broken; clock = (g.D.Disk.story c.engine.inside.disk).moment }) (faults_of (g.D.Disk.story c.engine.inside.disk))
+read_in g c is =
+    subst (λ (x : Standing). SomeFailed g.D.Reader.FileReader.faults (recast_inputs c.args.task) ⊎ HasUnpaid g.N.Naming.script g.N.Naming.start g.N.Naming.counted x.shown x.faults)
+    (sym c.engine.view_is) (c.requires.read is)
+
+kept : (g : _) (c : goal.After-fail g)
+    → IsEngine g.K.Sink.held g.K.Sink.faults (starts_of g.N.Naming.script g.N.Naming.start g.N.Naming.sound g.N.Naming.origin g.N.Naming.since g.N.Naming.counted g.N.Naming.at_start) g.N.Naming.room g.N.Naming.sink_faults c.fall-failure.new.metadata (g.D.Disk.story c.retire_recast.new.disk) c.fail.new.self
+kept g c =
+    let N = g.N.Naming in
+    let n : Starts = starts_of N.script N.start N.sound N.origin N.since N.counted N.at_start in
+    let i = c.engine.inside in
+    let s = c.args.who.session in
+    let number = c.args.who.command in
+    let words = c.requires.due.0 in
+    let claim = claim_of_recast c.args.task in
+    let cause = cause_in c.fall-failure.result in
+    let h = i.log.history.items in
+    let mo = c.clock-moment.result in
+    given_up_engine g.K.Sink.held g.K.Sink.faults n N.room N.sink_faults i.metadata c.fall-failure.new.metadata (g.D.Disk.story i.disk) (g.D.Disk.story c.retire_recast.new.disk) i.log c.fail.new.self c.engine.invariant
+    s number c.fail.ensures.short.session c.fail.ensures.short.command (command.Recast words) refl c.requires.due.1 mo (c.clock-moment.ensures ∙ c.retire_recast.ensures.unmoved.moment) (omega arith) (runs g c) c.position-at.result c.position-at.ensures claim
+    (λ w. due_alike N.script (N.start no_rows) (N.start w) h s number (command.Recast words) (closing_stage c.requires.due.1 claim) (N.alike w) (close_unanswered c.requires.due.1 claim) (due_at g c))
+    c.retire_recast.ensures.unmoved c.args.error
+    (λ w b ok. paid (outset_of n w) (n.origin w) b i.metadata.state (g.D.Disk.story i.disk) (g.D.Disk.story c.retire_recast.new.disk) (g.K.Sink.held i.log.printer.sink) h (not i.log.printer.broken) i.log.refused
+    (c.engine.invariant.vault w b ok) c.retire_recast.ensures.unmoved g.D.Reader.FileReader.faults (recast_inputs c.args.task) c.retire_recast.ensures.given (is_read_fault (cause_of c.args.error))
+    (λ is. ⊎_map (λ failed. failed) (λ unpaid. unpaid w) (read_in g c is)))
+    c.may_be_told.ensures c.requires.undamaged
+    cause c.fall-failure.ensures.cause c.fail.ensures.items c.fail.ensures.room c.fall-failure.ensures.after
+    (subst (λ at. PrintsBlock g.K.Sink.held g.K.Sink.faults i.log.printer c.fail.new.self.printer (entry s number kind.Close (outcome_of cause) mo) (told_at at (reply_of cause))) (sym c.position-at.ensures) c.fail.ensures.told)
+    c.fail.ensures.refused
+
+pub invariant_of-engine : goal.invariant_of-engine
+invariant_of-engine g c = kept g c
+
+pub returns-clause-turn : goal.returns-clause-turn
+returns-clause-turn g c =
+    let N = g.N.Naming in
+    let n : Starts = starts_of N.script N.start N.sound N.origin N.since N.counted N.at_start in
+    let i = c.engine.inside in
+    let s = c.args.who.session in
+    let number = c.args.who.command in
+    let story = g.D.Disk.story i.disk in
+    let new_story = g.D.Disk.story c.retire_recast.new.disk in
+    let h = i.log.history.items in
+    let later = c.fail.new.self in
+    let cause = cause_in c.fall-failure.result in
+    let new : Shown = record { history = later.history.items; running = not later.printer.broken; clock = new_story.moment } in
+    subst (λ (x : Standing). Takes N.script (N.start no_rows) x.shown new s number kind.Close Finished) c.engine.view_is
+    (given_up_takes n no_rows (record { history = h; running = not i.log.printer.broken; clock = story.moment }) new s number (command.Recast c.requires.due.0) refl c.requires.due.1 (claim_of_recast c.args.task) (due_at g c) cause
+    (c.fail.ensures.items ∙ ap (λ x. h ++ entry s number kind.Close (outcome_of cause) x ∷ []) c.clock-moment.ensures) (runs g c)
+    (vault_at_seen n c.fall-failure.new.metadata.state new_story (g.K.Sink.held later.printer.sink) later.history.items (not later.printer.broken) later.refused new_story.moment (kept g c).vault))
+
+pub returns-clause-state : goal.returns-clause-state
+returns-clause-state g c =
+    let task = c.args.task in
+    let state = ap (λ (x : Standing). x.state) c.engine.view_is in
+    let clock = c.clock-moment.ensures ∙ c.retire_recast.ensures.unmoved.moment ∙ ap (λ (x : Standing). x.shown.clock) c.engine.view_is in
+    let at = c.position-at.ensures ∙ ap (λ (x : Standing). length x.shown.history) c.engine.view_is in
+    ap (λ (m : Memory). m.state) c.fall-failure.ensures.after ∙ (λ i. closing_state (closed_of (state i)) c.args.error (clock i == last) (at i) task.table task.lease (state i))
+
+pub returns-clause-draft : goal.returns-clause-draft
+returns-clause-draft g c =
+    let N = g.N.Naming in
+    let i = c.engine.inside in
+    let s = c.args.who.session in
+    let number = c.args.who.command in
+    let story = g.D.Disk.story i.disk in
+    let new_story = g.D.Disk.story c.retire_recast.new.disk in
+    let h = i.log.history.items in
+    let later = c.fail.new.self in
+    let new : Shown = record { history = later.history.items; running = not later.printer.broken; clock = new_story.moment } in
+    let e = entry s number kind.Close (outcome_of (cause_in c.fall-failure.result)) c.clock-moment.result in
+    let closing = closes (run_at N.script (N.start no_rows) h).moment e in
+    subst (λ (x : Standing). AnswersDraft N.script (N.start no_rows) x.shown new s (c.args.error ≡ compact.Draft)) c.engine.view_is
+    (answers_where N.script (N.start no_rows) (record { history = h; running = not i.log.printer.broken; clock = story.moment }) new s e (c.args.error ≡ compact.Draft) c.fail.ensures.items
+    (λ low answers. only_draft i.metadata.state.closed c.args.error closing (subst (λ k. IsTrue (answers_bench closing (outcome_of k))) c.fall-failure.ensures.cause answers)))
+
+pub returns-clause-disk : goal.returns-clause-disk
+returns-clause-disk g c =
+    let N = g.N.Naming in
+    let i = c.engine.inside in
+    let s = c.args.who.session in
+    let number = c.args.who.command in
+    let error = c.args.error in
+    let story = g.D.Disk.story i.disk in
+    let new_story = g.D.Disk.story c.retire_recast.new.disk in
+    let h = i.log.history.items in
+    let later = c.fail.new.self in
+    let e = entry s number kind.Close (outcome_of (cause_in c.fall-failure.result)) c.clock-moment.result in
+    let stage = closing_stage c.requires.due.1 (claim_of_recast c.args.task) in
+    let same = c.retire_recast.ensures.unmoved.moment in
+    let there = begun_moment N.script (N.start no_rows) h s number (command.Recast c.requires.due.0) stage (due_at g c) (close_later c.requires.due.1 (claim_of_recast c.args.task)) in
+    let closing = closes (run_at N.script (N.start no_rows) h).moment e in
+    let new : Shown = record { history = later.history.items; running = not later.printer.broken; clock = new_story.moment } in
+    subst (λ (x : Standing). AnswersDisk N.script (N.start no_rows) x.shown new (SomeRose x.faults (faults_of new_story) ⊎ (error ≡ compact.File file_error.Read))) c.engine.view_is
+    (disk_where N.script (N.start no_rows) (record { history = h; running = not i.log.printer.broken; clock = story.moment }) new e c.fail.ensures.items
+    (SomeRose (faults_of story) (faults_of new_story) ⊎ (error ≡ compact.File file_error.Read))
+    (λ low is.
+    let quiet : closing ≡ false = not_closing (run_at N.script (N.start no_rows) h).moment story.moment e (c.engine.invariant.vault no_rows false (λ z. absurd cc)).walk.at there (c.clock-moment.ensures ∙ same) (omega (arith, low, same)) in
+    inr (only_read i.metadata.state.closed error
+    (subst (λ b. IsTrue (answers_disk b (outcome_of (closing_cause i.metadata.state.closed error)))) quiet
+    (subst (λ k. IsTrue (answers_disk closing (outcome_of k))) c.fall-failure.ensures.cause is)))))
+
+pub returns-clause-outcome : goal.returns-clause-outcome
+returns-clause-outcome g c =
+    let h = c.engine.inside.log.history.items in
+    let who = c.args.who in
+    let now = (g.D.Disk.story c.retire_recast.new.disk).moment in
+    subst (λ (x : Standing). c.fail.new.self.history.items ≡ x.shown.history ++ entry who.session who.command kind.Close (outcome_of (closing_cause x.state.closed c.args.error)) now ∷ []) c.engine.view_is
+    (c.fail.ensures.items ∙ (λ j. h ++ entry who.session who.command kind.Close (outcome_of (c.fall-failure.ensures.cause j)) (c.clock-moment.ensures j) ∷ []))
+
+pub returns-clause-prints : goal.returns-clause-prints
+returns-clause-prints g c =
+    let i = c.engine.inside in
+    let h = i.log.history.items in
+    let who = c.args.who in
+    let error = c.args.error in
+    let later = c.fail.new.self.printer in
+    let now = g.K.Sink.held later.sink in
+    let block_of = λ (cause : Cause) (m : ℕ) (at : ℕ). block (entry who.session who.command kind.Close (outcome_of cause) m) (Some (told_at at (reply_of cause))) in
+    let put : IsPut (block_of (cause_in c.fall-failure.result) c.clock-moment.result (length h)) (not later.broken) (g.K.Sink.held i.log.printer.sink) now = c.fail.ensures.told.put in
+    subst (λ (x : Standing). IsPut (block_of (closing_cause x.state.closed error) (g.D.Disk.story c.retire_recast.new.disk).moment (length x.shown.history)) (not later.broken) x.sink now) c.engine.view_is
+    (subst (λ k. IsPut (block_of k (g.D.Disk.story c.retire_recast.new.disk).moment (length h)) (not later.broken) (g.K.Sink.held i.log.printer.sink) now) c.fall-failure.ensures.cause
+    (subst (λ m. IsPut (block_of (cause_in c.fall-failure.result) m (length h)) (not later.broken) (g.K.Sink.held i.log.printer.sink) now) c.clock-moment.ensures put))

@@ -1,0 +1,15 @@
+//! A recast's last turn: its table is recast, or it is told why it isn't. Passes on the turns of the crates below, so that who has the last turn has all of them.
+#![tactic(auto)]
+
+mod checking;
+mod readying;
+mod recasting;
+mod resting;
+mod unmade;
+
+pub use mesa_close_turns::{
+    alter, close_query, complete, expire, give_up, grant, grant_recast, pin_query, publish, renew,
+    renew_recast, table, tables_become, view,
+};
+pub use recasting::recast;
+pub use resting::rest;

@@ -1,0 +1,16 @@
+//! Definitions and laws of sessions: what one knows of a run by its pass, whatever turns others took meanwhile, and what
+//! becomes of that where passes are split and joined; what a load sees of the tables; what is known of the files that
+//! were handed out to it, and what came of reading them. What is told of the files of a work or a recast where they are
+//! granted stays known of them, however much of them is read.
+#![tactic(auto)]
+
+mod granted;
+mod laws;
+mod service;
+
+pub use granted::{
+    bounds_are_known, grants_are_known, leases_hold, merges_are_known, ranges_are_known,
+    ranges_go_on, recasts_are_known, recasts_go_on, tables_go_on,
+};
+pub use laws::{passes_are_divided, sessions_end, turns_go_on};
+pub use service::sights_last;

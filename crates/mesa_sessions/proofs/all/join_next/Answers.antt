@@ -1,6 +1,0 @@
-use Rattle.mesa_skeleton.specs.Rows.{no_rows}
-use Rattle.mesa_passes.proofs.Dividing.{have_ended}
-use Rattle.mesa_sessions.proofs.all.join_next.Goals as goal
-
-pub returns-clause-ended : goal.returns-clause-ended
-returns-clause-ended g c = have_ended g.N.Naming.script (g.N.Naming.start no_rows) c.args.rest c.args.mine c.join.result c.join.ensures.joins c.args.next c.requires.name c.requires.few c.requires.rest c.requires.mine

@@ -1,6 +1,0 @@
-use Rattle.mesa_skeleton.specs.Rows.{no_rows}
-use Rattle.mesa_passes.proofs.Counting.{counted_whole}
-use Rattle.mesa_sessions.proofs.all.run_one.Goals as goal
-
-pub returns-clause-counted : goal.returns-clause-counted
-returns-clause-counted g c = counted_whole g.N.Naming.script (g.N.Naming.start no_rows) c.args.session c.args.pass c.run_session.result _ _ c.requires.fresh c.run_session.ensures.answers

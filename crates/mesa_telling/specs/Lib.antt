@@ -1,1 +1,0 @@
-pub use Rattle.mesa_ending.specs as mesa_ending

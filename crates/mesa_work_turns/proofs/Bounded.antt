@@ -1,0 +1,120 @@
+-- The files of a range are told where the store is sound, and no sum over them leaves its type.
+use Rattle.std.proofs.Common.{◌≡◌, ◌∙◌, ℕ, zero, suc, ◌<◌, List, [], ◌∷◌, length, map, true, refl, sym, ap, subst, zero-add, Option, None, Some}
+use Rattle.std.specs.Prelude.{flat_map, slice_get}
+use Rattle.std.specs.List.{AllByRecursion}
+use Rattle.mesa_model.specs.mesa_batch.Totals.{abs_total, sum_bound}
+use Rattle.mesa_plans.specs.mesa_commit.Images.{Has}
+use Rattle.mesa_publishing.specs.mesa_compact.Bounded.{AreBounded, AreOwnBounded, IsBounded}
+use Rattle.mesa_disk.specs.Image.{Image}
+use Rattle.mesa_disk.specs.Story.{Story}
+use Rattle.mesa_plans.specs.mesa_schema.Changes.{Lineage, columns_of, epoch_of, lifted}
+use Rattle.mesa_plans.specs.mesa_schema.Columns.{Columns}
+use Rattle.mesa_plans.specs.mesa_schema.Folded.{rows_of}
+use Rattle.mesa_plans.specs.mesa_schema.Views.{view_columns}
+use Rattle.mesa_plans.specs.mesa_schema.declared.rows.Row.{Row}
+use Rattle.mesa_plans.specs.mesa_schema.declared.views.View.{View}
+use Rattle.mesa_tasks.specs.mesa_delta.declared.input.Input.{Input}
+use Rattle.mesa_engine.specs.mesa_metadata.mesa_image.Catalog.{Catalog, Delta, Stock, stock_at}
+use Rattle.mesa_engine.specs.mesa_metadata.mesa_image.Contents.{Rows, present}
+use Rattle.mesa_engine.specs.mesa_metadata.mesa_image.Fitting.{delta_shelved, deltas_of, shelved}
+use Rattle.mesa_engine.specs.mesa_metadata.mesa_image.Sound.{wants}
+use Rattle.mesa_engine.proofs.mesa_engine_state.mesa_image.Lists.{all_unflat, stock_found}
+use Rattle.mesa_engine.specs.mesa_metadata.mesa_image.Sound.{IsStocked}
+use Rattle.mesa_engine.specs.mesa_engine_state.mesa_image.Brought.{merged_of}
+use Rattle.mesa_engine.specs.mesa_engine_state.mesa_image.Moves.{is_base, last_of}
+use Rattle.mesa_engine.specs.mesa_engine_state.EngineState.{EngineState}
+use Rattle.mesa_engine.specs.mesa_engine_state.Vault.{Origin, IsVault}
+use Rattle.mesa_engine.proofs.mesa_engine_state.Standing.{held_there}
+use Rattle.mesa_publishing.specs.mesa_compact.mesa_merge.Inputs.{AreTold, knowns_of, lifted_parts}
+use Rattle.mesa_model.specs.declared.entries.Entry.{Entry}
+use Rattle.mesa_plans.specs.Gathered.{IsGathered, unread_view}
+use Rattle.mesa_plans.specs.Read.{own_file}
+use Rattle.mesa_plans.proofs.Folds.{table_parts}
+use Rattle.mesa_plans.proofs.Given.{AreGiven, IsGiven, all_given, all_told, part_of, rows_seen}
+use Rattle.mesa_plans.proofs.Reading.{owned}
+use Rattle.mesa_plans.proofs.Sums.{merged_sums}
+use Rattle.mesa_plans.proofs.Telling.{stock_given}
+use Rattle.mesa_plans.proofs.Among.{all_merged}
+use Rattle.mesa_plans.specs.Files.{Seen, Want, table_wanted, want_of}
+use Rattle.mesa_tasks.specs.Opening.{HaveOpened}
+use Rattle.mesa_tasks.specs.declared.merging.Task.{Task}
+use Rattle.mesa_tasks.specs.declared.merging.TaskView.{TaskView}
+use Rattle.mesa_tasks.specs.declared.opening.Wanted.{Wanted}
+use Rattle.mesa_engine.specs.mesa_engine_state.mesa_invariant.Walk.{Outset}
+use Rattle.mesa_work_turns.proofs.Grants.{shaped_at}
+
+-- a view that has no files of its own has none that could be wrong
+unread_bounded : {R : Type 0} (bytes : R → Option (List ℕ)) (s : Columns) (numbers : List ℕ) (i : ℕ) (v : View) (t : TaskView R) → slice_get (map unread_view numbers) i ≡ Some t → AreOwnBounded bytes (view_columns s v) t.inputs
+unread_bounded bytes s [] i v t is = absurd cc
+unread_bounded bytes s (n ∷ numbers) zero v t is = let same : unread_view n ≡ t = cc in subst (λ (x : TaskView _). AreOwnBounded bytes (view_columns s v) x.inputs) same tt
+unread_bounded bytes s (n ∷ numbers) (suc i) v t is = unread_bounded bytes s numbers i v t is
+
+-- the rows of a table's files, lifted
+lifted_are : {R : Type 0} (bytes : R → Option (List ℕ)) (faults : R → ℕ) (told : Option Image) (rows : Rows) (ws : List Wanted) (is : List (Input R)) (wants : List Want) → map want_of ws ≡ wants → HaveOpened bytes faults told ws is None
+    → lifted_parts (knowns_of bytes is) (map (rows_seen rows) (map own_file wants)) ≡ map (part_of rows None) (map own_file wants)
+lifted_are bytes faults told rows [] [] [] same have = refl
+lifted_are bytes faults told rows [] [] (x ∷ wants) same have = absurd cc
+lifted_are bytes faults told rows [] (i ∷ is) wants same have = absurd have
+lifted_are bytes faults told rows (w ∷ ws) [] wants same have = absurd have
+lifted_are bytes faults told rows (w ∷ ws) (i ∷ is) [] same have = absurd cc
+lifted_are bytes faults told rows (w ∷ ws) (i ∷ is) (x ∷ wants) same have =
+    let first : want_of w ≡ x = cc in
+    let others : map want_of ws ≡ wants = cc in
+    let lineage : i.evolving.value ≡ x.lineage = have.0.lineage ∙ ap (λ (y : Want). y.lineage) first in
+    let epoch : i.epoch ≡ x.epoch = have.0.epoch ∙ ap (λ (y : Want). y.epoch) first in
+    λ j. map (lifted (lineage j) (epoch j) (epoch_of (lineage j))) (rows x.file.id) ∷ lifted_are bytes faults told rows ws is wants others have.1 j
+
+module _ (o : Outset) (g : Origin) (l : EngineState) (story : Story) (held : Option (List ℕ)) (h : List Entry) (running refused : _) (v : IsVault o g true l story held h running refused) (opened : l.closed ≡ None)
+    {R : Type 0} (bytes : R → Option (List ℕ)) (faults : R → ℕ) (t : Task R) (there : t.table < length l.catalogue.tables) (numbers : List ℕ) (views : t.views.items ≡ map unread_view numbers)
+    (gathered : IsGathered bytes faults story.told (stock_at l.catalogue t.table) t.work t) (whole : t.damage ≡ None) where
+  abbrev c : Catalog
+  c = l.catalogue
+
+  abbrev u : Stock
+  u = stock_at l.catalogue t.table
+
+  abbrev lin : Lineage
+  lin = u.lineage
+
+  abbrev image : Image
+  image = (v.read refl).0
+
+  abbrev ds : List Delta
+  ds = merged_of (stock_at l.catalogue t.table) (is_base t.work) (last_of t.work)
+
+  abbrev seen : List Seen
+  seen = map own_file (flat_map (table_wanted (stock_at l.catalogue t.table).lineage) (merged_of (stock_at l.catalogue t.table) (is_base t.work) (last_of t.work)))
+
+  has : Has (wants v.rows (shelved c)) image
+  has = held_there story l.area v.bodies l.end c v.rows (v.stands refl opened) image (v.read refl).1
+
+  given : AllByRecursion (AreGiven v.rows image lin) ds
+  given = all_merged (AreGiven v.rows image lin) u (all_unflat (IsGiven v.rows image) (delta_shelved lin) (deltas_of u) (stock_given v.rows c image t.table (v.stocked refl).0 has there)) (is_base t.work) (last_of t.work)
+
+  all_open : HaveOpened bytes faults story.told gathered.wanted t.inputs.items None
+  all_open = subst (HaveOpened bytes faults story.told gathered.wanted t.inputs.items) whole gathered.opened
+
+  -- The files of a range are told, and have the present rows of the deltas that are folded.
+  pub range_told : (contents : List (List Row)) × AreTold (knowns_of bytes t.inputs.items) contents
+      × (rows_of (lifted_parts (knowns_of bytes t.inputs.items) contents) ≡ rows_of (map (present v.rows (stock_at l.catalogue t.table).lineage) (merged_of (stock_at l.catalogue t.table) (is_base t.work) (last_of t.work))))
+  range_told = (
+    map (rows_seen v.rows) seen,
+    all_told v.rows image bytes faults story.told (v.read refl).1 gathered.wanted t.inputs.items seen (gathered.are ∙ sym (owned (flat_map (table_wanted lin) ds))) all_open (all_given v.rows image lin None tt ds given),
+    ap rows_of (lifted_are bytes faults story.told v.rows gathered.wanted t.inputs.items (flat_map (table_wanted lin) ds) gathered.are all_open) ∙ table_parts v.rows lin ds,
+  )
+
+  table_bounded : AreBounded (columns_of lin) (knowns_of bytes t.inputs.items)
+  table_bounded = record {
+    contents = range_told.0;
+    told = range_told.1;
+    bound = λ k sum.
+        subst (λ n. n < sum_bound) (sym (zero-add _)) (subst (λ (rs : List Row). abs_total k rs < sum_bound) (sym range_told.2)
+        (merged_sums v.rows c.floor c.next u (shaped_at c v.shaped t.table there) (stock_found (IsStocked v.rows) c.tables t.table there (v.stocked refl).0) (is_base t.work) (last_of t.work) k sum));
+  }
+
+  -- The sums over the files of a range, and over those of its views, stay in their type.
+  pub is_bounded : IsBounded bytes (stock_at l.catalogue t.table).lineage t
+  is_bounded = record {
+    table = table_bounded;
+    views = λ i view tv of_table of_task. unread_bounded bytes (columns_of lin) numbers i view tv (subst (λ (xs : List (TaskView R)). slice_get xs i ≡ Some tv) views of_task);
+  }

@@ -1,0 +1,73 @@
+-- What a task has of its range where the store is sound.
+use Rattle.std.proofs.Common.{◌≡◌, ◌∙◌, ℕ, ◌<◌, List, length, map, Bool, true, refl, sym, ap, subst, ◌≤◌, Option, None, Some}
+use Rattle.std.specs.List.{AllByRecursion}
+use Rattle.mesa_plans.specs.mesa_commit.Images.{Has}
+use Rattle.mesa_disk.specs.Image.{Image}
+use Rattle.mesa_disk.specs.Story.{Story}
+use Rattle.mesa_plans.specs.mesa_schema.Changes.{Lineage, columns_of}
+use Rattle.mesa_plans.specs.mesa_schema.Columns.{aggs_of}
+use Rattle.mesa_plans.specs.mesa_schema.Folded.{rows_of}
+use Rattle.mesa_engine.specs.mesa_history.Sources.{Source, Written, range_rows}
+use Rattle.mesa_engine.specs.mesa_metadata.mesa_image.Catalog.{Catalog, Stock, stock_at}
+use Rattle.mesa_engine.specs.mesa_metadata.mesa_image.Contents.{present}
+use Rattle.mesa_engine.specs.mesa_metadata.mesa_image.Fitting.{may_be_work, shelved}
+use Rattle.mesa_engine.specs.mesa_metadata.mesa_image.Sound.{wants}
+use Rattle.mesa_engine.proofs.mesa_engine_state.mesa_image.AllSourced.{epochs_written, work_written}
+use Rattle.mesa_engine.specs.mesa_engine_state.mesa_image.Brought.{merged_of}
+use Rattle.mesa_engine.specs.mesa_engine_state.mesa_image.Moves.{first_of, is_base, last_of}
+use Rattle.mesa_engine.specs.mesa_engine_state.EngineState.{EngineState}
+use Rattle.mesa_engine.specs.mesa_engine_state.Vault.{Origin, IsVault, written_by}
+use Rattle.mesa_engine.proofs.mesa_engine_state.Standing.{held_there}
+use Rattle.mesa_model.specs.declared.entries.Entry.{Entry}
+use Rattle.mesa_plans.specs.Gathered.{IsGathered, unread_view}
+use Rattle.mesa_publishing.specs.Finished.{GroupOnly, HasRange, sources_in}
+use Rattle.mesa_tasks.specs.Inputs.{present_parts}
+use Rattle.mesa_tasks.specs.Tasks.{IsTask}
+use Rattle.mesa_tasks.specs.declared.merging.Task.{Task}
+use Rattle.mesa_engine.specs.mesa_engine_state.mesa_invariant.Walk.{Outset}
+use Rattle.mesa_work_turns.proofs.Sound.{IsSoundDelta, none_met, none_own, present_lifted, same_folded, sound_deltas, sound_merged, told_inputs}
+use Rattle.mesa_work_turns.proofs.Bounded.{range_told}
+
+module _ (o : Outset) (g : Origin) (l : EngineState) (story : Story) (held : Option (List ℕ)) (h : List Entry) (running refused : Bool) (v : IsVault o g true l story held h running refused) (opened : l.closed ≡ None)
+    {R : Type 0} (bytes : R → Option (List ℕ)) (faults : R → ℕ) (t : Task R) (there : t.table < length l.catalogue.tables) (may : may_be_work l.catalogue (stock_at l.catalogue t.table) (is_base t.work) (first_of t.work) (last_of t.work) ≡ true)
+    (task : IsTask bytes (stock_at l.catalogue t.table).lineage t) (numbers : List ℕ) (views : t.views.items ≡ map unread_view numbers) (gathered : IsGathered bytes faults story.told (stock_at l.catalogue t.table) t.work t) where
+  abbrev c : Catalog
+  c = l.catalogue
+
+  abbrev u : Stock
+  u = stock_at l.catalogue t.table
+
+  abbrev lin : Lineage
+  lin = u.lineage
+
+  abbrev written : List Written
+  written = written_by o g.found h t.table
+
+  abbrev image : Image
+  image = (v.read refl).0
+
+  told_is : story.told ≡ Some image
+  told_is = (v.read refl).1
+
+  has : Has (wants v.rows (shelved c)) image
+  has = held_there story l.area v.bodies l.end c v.rows (v.stands refl opened) image told_is
+
+  sound : AllByRecursion (IsSoundDelta v.rows image lin) (merged_of u (is_base t.work) (last_of t.work))
+  sound = sound_merged v.rows image lin u (is_base t.work) (last_of t.work) (sound_deltas v.rows image c t.table there (v.stocked refl).0 has)
+
+  -- A task whose files are those of its range has none that is damaged.
+  pub has_no_damage : t.damage ≡ None
+  has_no_damage = none_met bytes faults story.told image told_is v.rows lin (merged_of u (is_base t.work) (last_of t.work)) sound gathered.wanted t.inputs.items t.damage gathered.are gathered.opened
+
+  -- It has its range.
+  pub has_range : HasRange bytes (stock_at l.catalogue t.table).lineage t (written_by o g.found h t.table)
+  has_range = record {
+    epochs = subst (λ e. AllByRecursion (λ (s : Source). s.epoch ≤ e) (sources_in t written)) (sym task.epoch) (epochs_written v.rows (written_by o g.found h) c v.shaped (v.sourced refl) t.table there (first_of t.work) (last_of t.work));
+    rows = λ its merge.
+        let all = range_told o g l story held h running refused v opened bytes faults t there numbers views gathered has_no_damage in
+        merge all.0 (told_inputs bytes t.inputs.items all.0 all.1)
+        ∙ same_folded (aggs_of (columns_of lin)) (present_parts t.inputs.items all.0) (map (present v.rows lin) (merged_of u (is_base t.work) (last_of t.work))) (ap rows_of (present_lifted bytes t.inputs.items all.0) ∙ all.2)
+        ∙ work_written v.rows (written_by o g.found h) c v.shaped (v.sourced refl) t.table there (is_base t.work) (first_of t.work) (last_of t.work) may
+        ∙ ap (λ e. range_rows lin e (sources_in t written)) (sym task.epoch);
+    views = subst (GroupOnly bytes (columns_of lin) (range_rows lin t.epoch (sources_in t written)) lin.views) (sym views) (none_own bytes (columns_of lin) (range_rows lin t.epoch (sources_in t written)) lin.views numbers);
+  }

@@ -1,0 +1,19 @@
+use Rattle.std.proofs.Common.{arith, subst}
+use Rattle.mesa_engine.specs.mesa_engine_state.Vault.{Starts}
+use Rattle.mesa_engine.specs.mesa_engine_state.mesa_invariant.Turns.{NoneFell, faults_of}
+use Rattle.mesa_engine.specs.Engine.{Standing, starts_of}
+use Rattle.mesa_engine.proofs.Turning.{unmoved_engine}
+use Rattle.mesa_work_turns.proofs.giving_back.give_back_recast.Goals as goal
+
+pub invariant_of-engine : goal.invariant_of-engine
+invariant_of-engine g c =
+    let N = g.N.Naming in
+    let n : Starts = starts_of N.script N.start N.sound N.origin N.since N.counted N.at_start in
+    let i = c.engine.inside in
+    unmoved_engine g.K.Sink.held g.K.Sink.faults n N.room N.sink_faults i.metadata (g.D.Disk.story i.disk) (g.D.Disk.story c.retire_recast.new.disk) i.log c.retire_recast.ensures.unmoved
+    (record { faults = omega (arith, c.retire_recast.ensures.given.calls); reads = c.retire_recast.ensures.given.later; rose = λ low is. absurd cc }) c.engine.invariant
+
+pub returns-clause-faults : goal.returns-clause-faults
+returns-clause-faults g c =
+    let given = c.retire_recast.ensures.given in
+    subst (λ (x : Standing). NoneFell x.faults (faults_of (g.D.Disk.story c.retire_recast.new.disk))) c.engine.view_is (record { calls = omega (arith, given.calls); reads = given.later })

@@ -1,0 +1,51 @@
+use Rattle.std.proofs.Common.{◌≡◌, ◌≤◌, length, refl, subst, false}
+use Rattle.std.specs.Prelude.{Result}
+use Rattle.mesa_engine.specs.mesa_history.Machine.{Claim, claim_of}
+use Rattle.mesa_engine.specs.mesa_history.Run.{First, Finished}
+use Rattle.mesa_model.specs.declared.commands.Command.TheVariants as command
+use Rattle.mesa_engine.specs.mesa_projection.Rows.{no_rows}
+use Rattle.mesa_engine.proofs.mesa_engine_state.mesa_invariant.Alike.{due_alike}
+use Rattle.mesa_engine.specs.Engine.{Standing}
+use Rattle.mesa_engine.specs.mesa_engine_state.EngineState.{books_of}
+use Rattle.mesa_engine.specs.mesa_engine_state.mesa_invariant.Works.{HasNoClaim}
+use Rattle.mesa_engine.specs.Failure.{cause_in}
+use Rattle.mesa_model.specs.declared.replies.Reply.{Reply}
+use Rattle.mesa_work_turns.proofs.granting.grant.Goals as goal
+
+pub skip-requires-clause-due : goal.skip-requires-clause-due
+skip-requires-clause-due g c κs within w =
+    let N = g.N.Naming in
+    record {
+      asked = command.Work c.args.words.now;
+      stage = First;
+      due = due_alike N.script (N.start no_rows) (N.start w) c.args.engine.now.shown.history c.args.who.session c.args.who.command (command.Work c.args.words.now) First (N.alike w) refl c.requires.due;
+      comes = refl;
+    }
+
+pub returns-then-not-running-clause-turn : goal.returns-then-not-running-clause-turn
+returns-then-not-running-clause-turn g c = c.skip.ensures.turn Finished
+
+pub claim-requires : goal.claim-requires
+claim-requires g c = let few : length c.engine.inside.metadata.state.catalogue.tables ≤ 32 = (c.engine.invariant.vault no_rows false (λ is. absurd cc)).shaped.few in few
+
+pub returns-then-not-running-clause-disk : goal.returns-then-not-running-clause-disk
+returns-then-not-running-clause-disk g c = λ low e grew is. absurd (c.skip.ensures.disk low e grew is)
+
+pub returns-in-Err-clause-disk : goal.returns-in-Err-clause-disk
+returns-in-Err-clause-disk g c = λ low e grew is. absurd (c.fail.ensures.disk low e grew is)
+
+pub fail-requires-clause-fails : goal.fail-requires-clause-fails
+fail-requires-clause-fails g c κs within =
+    let l = c.engine.inside.metadata.state in
+    let name = c.args.words.now.table in
+    let cause = cause_in c.in-Err.failure in
+    let same : claim_of (books_of no_rows l).bare (books_of no_rows l).machine c.position-at.result c.as_slice.result.now ≡ claim_of (books_of no_rows l).bare (books_of no_rows l).machine (length c.engine.inside.log.history.items) name =
+    λ i. claim_of (books_of no_rows l).bare (books_of no_rows l).machine (c.position-at.ensures i) (c.as_slice.ensures i) in
+    let why = subst (λ (x : Result Claim Reply). HasNoClaim (books_of no_rows l) x cause) same c.in-Err.ensures.refused in
+    record {
+      asked = command.Work c.args.words.now;
+      due = c.requires.due;
+      decides = refl;
+      why = subst (λ (x : Standing). HasNoClaim (books_of no_rows x.state) (claim_of (books_of no_rows x.state).bare (books_of no_rows x.state).machine (length x.shown.history) name) cause) c.engine.view_is why;
+      quiet = c.in-Err.ensures.quiet;
+    }

@@ -1,0 +1,66 @@
+use Rattle.std.proofs.Common.{◌≡◌, ◌∙◌, ◌+◌, ◌-◌, sym, ap, subst, Ok}
+use Rattle.mesa_binding.specs.Told.{IsDue}
+use Rattle.mesa_binding.specs.declared.recasting.RecastNames.{RecastNames}
+use Rattle.mesa_engine.specs.mesa_metadata.mesa_image.Catalog.{Catalog, start_in, stock_at}
+use Rattle.mesa_model.specs.Tables.{recast_asked}
+use Rattle.mesa_rules.specs.Recastings.{recast_due}
+use Rattle.mesa_rules.specs.Seen.{number_of}
+use Rattle.mesa_plans.specs.mesa_schema.Changes.{epoch_of}
+use Rattle.mesa_plans.specs.mesa_schema.Recasts.{Recast, recast_checked}
+use Rattle.mesa_engine.specs.mesa_engine_state.EngineState.{books_of}
+use Rattle.mesa_engine.specs.mesa_engine_state.mesa_invariant.Works.{HasNoClaim}
+use Rattle.mesa_engine.specs.mesa_history.Machine.{Recasts, recast_claim_of}
+use Rattle.mesa_engine.specs.mesa_projection.Rows.{no_rows}
+use Rattle.mesa_work_turns.proofs.RecastClaims.{busy, claimed, crowded, denied, over, shut, within}
+use Rattle.mesa_work_turns.proofs.recast_claiming.claim_recast.Goals as goal
+
+pub returns-in-Some-clause-refused : goal.returns-in-Some-clause-refused
+returns-in-Some-clause-refused c = shut c.args.metadata.now.state c.args.position c.args.words.now c.in-Some.position (sym c.closed.ensures ∙ c.in-Some.is)
+
+pub returns-in-Err-clause-refused : goal.returns-in-Err-clause-refused
+returns-in-Err-clause-refused c =
+    let l = c.args.metadata.now.state in
+    let words = c.args.words.now in
+    let due = subst (λ (k : Catalog). IsDue (recast_due k words) c.in-Err.failure) c.catalog-catalog.ensures c.in-Err.ensures.refused in
+    subst (HasNoClaim (books_of no_rows l) (recast_claim_of (books_of no_rows l).bare (books_of no_rows l).machine c.args.position words)) (sym c.refused.ensures)
+    (denied l c.args.position words (sym c.closed.ensures ∙ c.in_default.is) c.in-Err.failure due)
+
+pub returns-in-Some-holder-clause-refused : goal.returns-in-Some-holder-clause-refused
+returns-in-Some-holder-clause-refused c =
+    let same = c.catalog-catalog.ensures in
+    let table = c.in-Ok.asked.table in
+    let there = ap (λ k. number_of k c.args.words.now.table) (sym same) ∙ c.in-Ok.ensures.table in
+    let rule = subst (λ (k : Catalog). recast_checked (stock_at k table).lineage (recast_asked c.args.words.now) ≡ Ok tt) same c.in-Ok.ensures.checked in
+    busy c.args.metadata.now.state c.args.position c.args.words.now (sym c.closed.ensures ∙ c.in_default.is) table there rule c.in-Some-holder.lease (sym c.holder.ensures ∙ c.in-Some-holder.is)
+
+-- ---- the rules allow it, and no lease holds
+
+pub returns-clause-checked : goal.returns-clause-checked
+returns-clause-checked c =
+    let asked = c.in-Ok.asked in
+    let rule = subst (λ (k : Catalog). recast_checked (stock_at k asked.table).lineage (recast_asked c.args.words.now) ≡ Ok tt) c.catalog-catalog.ensures c.in-Ok.ensures.checked in
+    let names : recast_asked c.args.words.now ≡ record { keys = asked.names.keys; values = asked.names.values } = ap (λ (n : RecastNames). record { keys = n.keys; values = n.values }) (sym c.in-Ok.ensures.names) in
+    subst (λ (r : Recast). recast_checked (stock_at c.args.metadata.now.state.catalogue asked.table).lineage r ≡ Ok tt) names rule
+
+pub returns-then-singletons-clause-refused : goal.returns-then-singletons-clause-refused
+returns-then-singletons-clause-refused c =
+    let l = c.args.metadata.now.state in
+    let same = c.catalog-catalog.ensures in
+    let table = c.in-Ok.asked.table in
+    let there = ap (λ k. number_of k c.args.words.now.table) (sym same) ∙ c.in-Ok.ensures.table in
+    let rule = subst (λ (k : Catalog). recast_checked (stock_at k table).lineage (recast_asked c.args.words.now) ≡ Ok tt) same c.in-Ok.ensures.checked in
+    let count = c.singletons.ensures ∙ ap (λ (k : Catalog). k.next - start_in (stock_at k table)) same in
+    crowded l c.args.position c.args.words.now (sym c.closed.ensures ∙ c.in_default.is) table there rule (sym c.holder.ensures ∙ c.in_default-holder.is) (over c.singletons.result (l.catalogue.next - start_in (stock_at l.catalogue table)) count c.if-singletons.true)
+
+pub returns-clause-claimed : goal.returns-clause-claimed
+returns-clause-claimed c =
+    let l = c.args.metadata.now.state in
+    let same = c.catalog-catalog.ensures in
+    let asked = c.in-Ok.asked in
+    let table = asked.table in
+    let there = ap (λ k. number_of k c.args.words.now.table) (sym same) ∙ c.in-Ok.ensures.table in
+    let rule = subst (λ (k : Catalog). recast_checked (stock_at k table).lineage (recast_asked c.args.words.now) ≡ Ok tt) same c.in-Ok.ensures.checked in
+    let count = c.singletons.ensures ∙ ap (λ (k : Catalog). k.next - start_in (stock_at k table)) same in
+    let names : recast_asked c.args.words.now ≡ record { keys = asked.names.keys; values = asked.names.values } = ap (λ (n : RecastNames). record { keys = n.keys; values = n.values }) (sym c.in-Ok.ensures.names) in
+    claimed l c.args.position c.args.words.now (sym c.closed.ensures ∙ c.in_default.is) table there rule (sym c.holder.ensures ∙ c.in_default-holder.is) (within c.singletons.result (l.catalogue.next - start_in (stock_at l.catalogue table)) count c.if-singletons.false)
+    ∙ ap (λ (r : Recast). Ok (record { table = table; lease = l.leases.granted + 1; errand = Recasts (epoch_of (stock_at l.catalogue table).lineage) r })) names

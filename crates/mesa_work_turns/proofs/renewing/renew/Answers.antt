@@ -1,0 +1,32 @@
+use Rattle.std.proofs.Common.{refl, sym, subst}
+use Rattle.mesa_engine.specs.mesa_history.Machine.{Merges}
+use Rattle.mesa_engine.specs.mesa_history.Run.{Finished}
+use Rattle.mesa_model.specs.declared.commands.Command.TheVariants as command
+use Rattle.mesa_model.specs.declared.entries.Kind.TheVariants as kind
+use Rattle.mesa_engine.specs.mesa_projection.Rows.{no_rows}
+use Rattle.mesa_engine.specs.mesa_engine_state.mesa_invariant.Turns.{AnswersDisk, Shown, SomeRose, Takes}
+use Rattle.mesa_engine.proofs.mesa_engine_state.mesa_invariant.Faulting.{disk_also}
+use Rattle.mesa_work_turns.proofs.renewing.renew.Goals as goal
+
+pub renew_lease-requires-clause-due : goal.renew_lease-requires-clause-due
+renew_lease-requires-clause-due g c κs within = (command.Work c.args.words.now, Merges c.args.task.work, refl, c.requires.due)
+
+pub returns-in-Some-clause-turn : goal.returns-in-Some-clause-turn
+returns-in-Some-clause-turn g c = c.in-Some.ensures.turn (command.Work c.args.words.now) (Merges c.args.task.work) refl c.requires.due
+
+pub returns-in-None-clause-turn : goal.returns-in-None-clause-turn
+returns-in-None-clause-turn g c =
+    let N = g.N.Naming in
+    subst (λ (x : Shown). Takes N.script (N.start no_rows) c.args.engine.now.shown x c.args.who.session c.args.who.command kind.Renew Finished) (sym c.give_back.ensures.shown)
+    (c.in-None.ensures.turn (command.Work c.args.words.now) (Merges c.args.task.work) refl c.requires.due)
+
+pub returns-in-Some-clause-disk : goal.returns-in-Some-clause-disk
+returns-in-Some-clause-disk g c =
+    let N = g.N.Naming in
+    disk_also N.script (N.start no_rows) c.args.engine.now.shown c.renew_lease.new.engine.shown (λ (no : ⊥). absurd no) c.renew_lease.ensures.disk
+
+pub returns-in-None-clause-disk : goal.returns-in-None-clause-disk
+returns-in-None-clause-disk g c =
+    let N = g.N.Naming in
+    subst (λ (x : Shown). AnswersDisk N.script (N.start no_rows) c.args.engine.now.shown x (SomeRose c.args.engine.now.faults c.give_back.new.engine.faults)) (sym c.give_back.ensures.shown)
+    (disk_also N.script (N.start no_rows) c.args.engine.now.shown c.renew_lease.new.engine.shown (λ (no : ⊥). absurd no) c.renew_lease.ensures.disk)

@@ -1,0 +1,48 @@
+-- Works and recasts that are granted next.
+use Rattle.std.specs.Prelude.{ℕ, ◌+◌, Result}
+use Rattle.mesa_plans.specs.mesa_list.Checks.{◌>>◌, refuse_unless}
+use Rattle.mesa_plans.specs.mesa_schema.Changes.{epoch_of}
+use Rattle.mesa_engine.specs.mesa_history.Machine.{Claim, Errand, Merges, Recasts}
+use Rattle.mesa_lease.specs.Book.{is_held, other_holder}
+use Rattle.mesa_engine.specs.mesa_metadata.mesa_image.Catalog.{stock_at}
+use Rattle.mesa_engine.specs.mesa_engine_state.EngineState.{EngineState}
+use Rattle.mesa_tasks.specs.declared.opening.Unopened.{Unopened}
+use Rattle.mesa_tasks.specs.declared.opening.Unopened.TheVariants as un
+use Rattle.mesa_binding.specs.declared.failure.Failure.{Failure}
+use Rattle.mesa_binding.specs.declared.failure.Failure.TheVariants as asked
+use Rattle.mesa_model.specs.Refusals.{refuse_closed}
+use Rattle.mesa_model.specs.declared.replies.Refusal.{Refusal}
+use Rattle.mesa_model.specs.declared.replies.Refusal.TheVariants as no
+use Rattle.mesa_model.specs.declared.replies.Reply.TheVariants as reply
+use Rattle.mesa_engine.specs.mesa_engine_state.mesa_invariant.Books.{Books}
+use Rattle.mesa_engine.specs.mesa_engine_state.mesa_invariant.Causes.{Cause, NoMemory, Replies, Unread}
+use Rattle.mesa_rules.specs.declared.recasting.Regrouping.{Regrouping}
+use Rattle.mesa_work_turns.specs.declared.claiming.Claimed.{Claimed}
+
+-- the claim of a work that is granted next
+abbrev pub claim_as : EngineState → Claimed → Claim
+claim_as l x = record { table = x.table; lease = l.leases.granted + 1; errand = Merges x.work }
+
+-- the claim of a recast that is granted next
+abbrev pub recast_claim_as : EngineState → Regrouping → Claim
+recast_claim_as l x = record { table = x.table; lease = l.leases.granted + 1; errand = Recasts (epoch_of (stock_at l.catalogue x.table).lineage) (record { keys = x.names.keys; values = x.names.values }) }
+
+-- why none is granted whose files weren't opened
+abbrev pub cause_met : Unopened → Cause
+cause_met un.Fault = Unread
+cause_met un.Memory = NoMemory
+
+-- why the rules allow no recast
+abbrev pub cause_refused : Failure → Cause
+cause_refused (asked.Refused refusal) = Replies (reply.Refused refusal)
+cause_refused asked.Memory = NoMemory
+
+-- what the books say of a claim, by its table and the number of its lease
+abbrev pub lease_checked : Books → ℕ → ℕ → ℕ → Result (Unit {0}) Refusal
+lease_checked books position table lease = do
+  refuse_closed books.bare.closed
+  refuse_unless (is_held books.machine.leases table lease position) (no.Lost lease (other_holder books.machine.leases table lease position))
+
+-- a claim on a table, by the number of its lease
+abbrev pub claim_with : ℕ → ℕ → Errand → Claim
+claim_with table lease errand = record { table = table; lease = lease; errand = errand }

@@ -1,0 +1,36 @@
+// Giving back what a work or a recast was handed.
+ghost use Rattle.std.specs.Prelude.{◌≡◌};
+ghost use Rattle.mesa_engine.specs.mesa_engine_state.mesa_invariant.Turns.{NoneFell};
+
+use mesa_disk::{Disk, Made};
+use mesa_engine::{Engine, Naming};
+use mesa_io::Sink;
+use mesa_tasks::{Recast, Task, retire_recast, retire_task};
+
+/// Gives back the readers of a task. Those that have failed are counted by the disk.
+pub fn give_back<N: Naming, M: Made, D: Disk<M>, K: Sink>(
+    engine: &mut Engine<N, M, D, K>,
+    task: Task<D::Reader>,
+)
+    ensures shown { engine.new.shown ≡ engine.old.shown }
+    ensures state { engine.new.state ≡ engine.old.state }
+    ensures told { engine.new.told ≡ engine.old.told }
+    ensures sink { engine.new.sink ≡ engine.old.sink }
+    ensures faults { NoneFell engine.old.faults engine.new.faults }
+{
+    retire_task(&mut engine.disk, task);
+}
+
+/// Gives back the readers of a recast's task. Those that have failed are counted by the disk.
+pub fn give_back_recast<N: Naming, M: Made, D: Disk<M>, K: Sink>(
+    engine: &mut Engine<N, M, D, K>,
+    task: Recast<D::Reader>,
+)
+    ensures shown { engine.new.shown ≡ engine.old.shown }
+    ensures state { engine.new.state ≡ engine.old.state }
+    ensures told { engine.new.told ≡ engine.old.told }
+    ensures sink { engine.new.sink ≡ engine.old.sink }
+    ensures faults { NoneFell engine.old.faults engine.new.faults }
+{
+    retire_recast(&mut engine.disk, task);
+}
