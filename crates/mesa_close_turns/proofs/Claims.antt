@@ -24,9 +24,9 @@ use Rattle.mesa_publishing.proofs.mesa_history.Claiming.{held_is_live}
 use Rattle.mesa_engine.specs.mesa_image.Catalog.{no_stock, ranges_of, stock_at}
 use Rattle.mesa_engine.specs.mesa_projection.Bare.{bare_table}
 use Rattle.mesa_engine.specs.mesa_projection.Rows.{no_rows}
-use Rattle.mesa_engine.specs.mesa_engine_state.mesa_invariant.Walk.{Outset, run_of}
+use Rattle.mesa_engine.specs.mesa_engine_state.mesa_invariant.Invariant.{Outset, run_of}
 use Rattle.mesa_engine.proofs.mesa_engine_state.mesa_invariant.Working.{checked_open}
-use Rattle.mesa_engine.specs.mesa_engine_state.EngineState.{EngineState, books_of, skeleton_of}
+use Rattle.mesa_engine.specs.mesa_engine_state.EngineState.{EngineState, books_of, projection_of}
 use Rattle.mesa_engine.specs.mesa_engine_state.Vault.{Origin, IsVault}
 use Rattle.mesa_engine.proofs.mesa_engine_state.Beginning.{vault_claims}
 use Rattle.mesa_work_turns.specs.Claims.{claim_with, lease_checked}
@@ -65,13 +65,13 @@ due_still o g l story held h running refused v s number words at claim work erra
     let at_stage : HasErrand (run_of o h).state claim claim.errand = subst (λ (p : Place). HasClaimAt (run_of o h).state p.stage) due.place (vault_claims o g false l story held h running refused v s) in
     let has : HasClaim (run_of o h).state claim work = subst (λ (e : Errand). HasErrand (run_of o h).state claim e) errand at_stage in
     let live : is_live l.leases claim.table claim.lease ≡ true = held_is_live l.leases claim.table claim.lease at (checked_held l at claim checked) in
-    let stays = subst (λ (m : Machine). is_live m.leases claim.table claim.lease ≡ true → ranges_at m claim.table ≡ has.was) v.walk.state.machine has.is.stays in
-    let within = subst (λ (m : Machine). claim.table < length m.ranges) v.walk.state.machine has.is.there in
+    let stays = subst (λ (m : Machine). is_live m.leases claim.table claim.lease ≡ true → ranges_at m claim.table ≡ has.was) v.invariant.state.machine has.is.stays in
+    let within = subst (λ (m : Machine). claim.table < length m.ranges) v.invariant.state.machine has.is.there in
     let oldest =
     sym (ap (λ (t : Table). t.oldest) (get_or-map bare_table (run_of o h).state.warehouse.store.tables claim.table no_table))
-    ∙ ap (λ (x : Warehouse). (table_at x.store claim.table).oldest) v.walk.state.skeleton
-    ∙ ap (λ (t : Table). t.oldest) (get_or-map skeleton_of l.catalogue.tables claim.table no_stock) in
-    let next = ap (λ (x : Warehouse). x.next) v.walk.state.skeleton in
+    ∙ ap (λ (x : Warehouse). (table_at x.store claim.table).oldest) v.invariant.state.projection
+    ∙ ap (λ (t : Table). t.oldest) (get_or-map projection_of l.catalogue.tables claim.table no_stock) in
+    let next = ap (λ (x : Warehouse). x.next) v.invariant.state.projection in
     record {
       oldest = has.oldest;
       next = has.versions;

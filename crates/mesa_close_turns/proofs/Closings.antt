@@ -24,7 +24,7 @@ use Rattle.mesa_engine.specs.mesa_engine_state.mesa_invariant.Causes.{Cause, Unw
 use Rattle.mesa_engine.specs.mesa_engine_state.mesa_invariant.Printing.{IsPut}
 use Rattle.mesa_engine.specs.mesa_engine_state.mesa_invariant.Turns.{Shown, IsSeen, Takes, entry}
 use Rattle.mesa_engine.specs.mesa_engine_state.mesa_invariant.Undamaged.{is_damaged}
-use Rattle.mesa_engine.specs.mesa_engine_state.mesa_invariant.Walk.{Outset, Counts, IsAtClock, IsWalk, run_at, run_of}
+use Rattle.mesa_engine.specs.mesa_engine_state.mesa_invariant.Invariant.{Outset, Counts, IsAtClock, HoldsInvariant, run_at, run_of}
 use Rattle.mesa_engine.specs.mesa_engine_state.mesa_invariant.Works.{closing_stage}
 use Rattle.mesa_engine.proofs.mesa_engine_state.mesa_invariant.Clock.{begun_moment}
 use Rattle.mesa_engine.proofs.mesa_engine_state.mesa_invariant.Going.{unmerged_takes}
@@ -59,7 +59,7 @@ closes_last (Some b) clock s n m at there is low = at_last b m (at ∙ sym is) l
 
 module _ (o : Outset) (g : Origin) (sound : Bool) (l : EngineState) (story : Story) (held : Option (List ℕ)) (h : List Entry) (running refused : Bool) (v : IsVault o g sound l story held h running refused)
     (s number : ℕ) (low : s < 2 ^ 16) (few : number < 2 ^ 32) (c : Command) (one : is_work c ≡ true) (early : Bool) (m : ℕ) (moment : m ≡ story.moment) (fits : m < 2 ^ 64) (ran : running ≡ true) (at : ℕ) (place : at ≡ length h) (claim : Claim) (due : IsDue o.script (run_of o h) s number c (closing_stage early claim))
-    (new : Story) (unmoved : Unmoved story new) (before : Story) (walk : IsWalk o sound (books_of v.rows l) before held h running refused) (same : before.moment ≡ story.moment) (apart : Unmoved before new) (now : Bool) (new_held : Option (List ℕ)) where
+    (new : Story) (unmoved : Unmoved story new) (before : Story) (invariant : HoldsInvariant o sound (books_of v.rows l) before held h running refused) (same : before.moment ≡ story.moment) (apart : Unmoved before new) (now : Bool) (new_held : Option (List ℕ)) where
   abbrev turn_with : Cause → Entry
   turn_with cause = entry s number kind.Close (outcome_of cause) m
 
@@ -77,28 +77,28 @@ module _ (o : Outset) (g : Origin) (sound : Bool) (l : EngineState) (story : Sto
   no_more_granted = subst (λ q. q ≤ l.leases.granted) (sym (ended_granted claim.table claim.lease l.leases)) (omega arith)
 
   closes_is : closes (run_of o h).moment (entry s number kind.Close outcome.WriteFault m) ≡ (m == last)
-  closes_is = closes_last (run_of o h).moment story.moment s number m v.walk.at (begun_moment o.script o.start h s number c (closing_stage early claim) due (close_later early claim)) moment fits
+  closes_is = closes_last (run_of o h).moment story.moment s number m v.invariant.at (begun_moment o.script o.start h s number c (closing_stage early claim) due (close_later early claim)) moment fits
 
   drafted : (b : Bool) → closes (run_of o h).moment (entry s number kind.Close outcome.WriteFault m) ≡ b → l.closed ≡ None → Counts before new false → Put Unwritten → Behind Unwritten (unmerged_state compact.Draft b at claim.table claim.lease l)
   drafted true is opened counts put =
       closed_vault o g sound l story held h running refused v (turn_with Unwritten) new new_held now (refused || true) unmoved (ended claim.table claim.lease l.leases) at no_more_granted
-      (unmerged_turn o sound (books_of v.rows l) before held h running refused walk s number low few c one m ran at place (moment ∙ sym same) new apart early claim due Unwritten true is opened counts now new_held put)
+      (unmerged_turn o sound (books_of v.rows l) before held h running refused invariant s number low few c one m ran at place (moment ∙ sym same) new apart early claim due Unwritten true is opened counts now new_held put)
   drafted false is opened counts put =
       leased_vault o g sound l story held h running refused v (turn_with Unwritten) new new_held now (refused || true) unmoved (ended claim.table claim.lease l.leases) few_granted
-      (unmerged_turn o sound (books_of v.rows l) before held h running refused walk s number low few c one m ran at place (moment ∙ sym same) new apart early claim due Unwritten false is opened counts now new_held put)
+      (unmerged_turn o sound (books_of v.rows l) before held h running refused invariant s number low few c one m ran at place (moment ∙ sym same) new apart early claim due Unwritten false is opened counts now new_held put)
 
   -- the merge failed
   unmerged_vault : (error : CompactError) → l.closed ≡ None → TellsDamage (cause_of error) → Counts before new (is_read_fault (cause_of error)) → Put (cause_of error) → Behind (cause_of error) (unmerged_state error (m == last) at claim.table claim.lease l)
   unmerged_vault compact.Draft opened tells counts put = drafted (m == last) closes_is opened counts put
   unmerged_vault (compact.File file_error.Read) opened tells counts put =
       leased_vault o g sound l story held h running refused v (turn_with (cause_of (compact.File file_error.Read))) new new_held now (refused || true) unmoved (ended claim.table claim.lease l.leases) few_granted
-      (unmerged_turn o sound (books_of v.rows l) before held h running refused walk s number low few c one m ran at place (moment ∙ sym same) new apart early claim due (cause_of (compact.File file_error.Read)) (m == last) closes_is opened counts now new_held put)
+      (unmerged_turn o sound (books_of v.rows l) before held h running refused invariant s number low few c one m ran at place (moment ∙ sym same) new apart early claim due (cause_of (compact.File file_error.Read)) (m == last) closes_is opened counts now new_held put)
   unmerged_vault (compact.File (file_error.Damaged damage)) opened tells counts put =
       leased_vault o g sound l story held h running refused v (turn_with (cause_of (compact.File (file_error.Damaged damage)))) new new_held now (refused || true) unmoved (ended claim.table claim.lease l.leases) few_granted
-      (unmerged_turn o sound (books_of v.rows l) before held h running refused walk s number low few c one m ran at place (moment ∙ sym same) new apart early claim due (cause_of (compact.File (file_error.Damaged damage))) (m == last) closes_is (opened, tells) counts now new_held put)
+      (unmerged_turn o sound (books_of v.rows l) before held h running refused invariant s number low few c one m ran at place (moment ∙ sym same) new apart early claim due (cause_of (compact.File (file_error.Damaged damage))) (m == last) closes_is (opened, tells) counts now new_held put)
   unmerged_vault (compact.File file_error.Memory) opened tells counts put =
       leased_vault o g sound l story held h running refused v (turn_with (cause_of (compact.File file_error.Memory))) new new_held now (refused || true) unmoved (ended claim.table claim.lease l.leases) few_granted
-      (unmerged_turn o sound (books_of v.rows l) before held h running refused walk s number low few c one m ran at place (moment ∙ sym same) new apart early claim due (cause_of (compact.File file_error.Memory)) (m == last) closes_is opened counts now new_held put)
+      (unmerged_turn o sound (books_of v.rows l) before held h running refused invariant s number low few c one m ran at place (moment ∙ sym same) new apart early claim due (cause_of (compact.File file_error.Memory)) (m == last) closes_is opened counts now new_held put)
 
   -- it failed, or the vault has closed
   pub given_up_vault : (closed : Option ℕ) → l.closed ≡ closed → (error : CompactError) → TellsDamage (cause_of error) → Counts before new (is_read_fault (cause_of error)) → Counts before new false → Put (closing_cause closed error)
@@ -106,17 +106,17 @@ module _ (o : Outset) (g : Origin) (sound : Bool) (l : EngineState) (story : Sto
   given_up_vault None is error tells counts quiet put = unmerged_vault error is tells counts put
   given_up_vault (Some p) is error tells counts quiet put =
       still_vault o g sound l story held h running refused v (turn_with (closing_cause (Some p) error)) new new_held now (refused || true) unmoved
-      (shut_turn o sound (books_of v.rows l) before held h running refused walk s number low few c one m ran at place (moment ∙ sym same) new apart early claim due p is quiet now new_held put)
+      (shut_turn o sound (books_of v.rows l) before held h running refused invariant s number low few c one m ran at place (moment ∙ sym same) new apart early claim due p is quiet now new_held put)
 
 -- a vault that has closed tells no damage
 shut_undamaged : (closed : Option ℕ) (error : CompactError) → is_damaged (outcome_of (cause_of error)) ≡ false → is_damaged (outcome_of (closing_cause closed error)) ≡ false
 shut_undamaged None error is = is
 shut_undamaged (Some position) error is = refl
 
--- A vault's walk as it was, but for the counts of its faults: from there on they rose where the close answers a read that failed.
+-- The invariant of a vault as it was, but for the counts of its faults: from there on they rose where the close answers a read that failed.
 pub record IsPaid (o : Outset) (g : Origin) (sound : Bool) (l : EngineState) (story new : Story) (held : Option (List ℕ)) (h : List Entry) (running refused : Bool) (v : IsVault o g sound l story held h running refused) (answers : Bool) : Type 1 where
   pub before : Story
-  pub walk : IsWalk o sound (books_of v.rows l) before held h running refused
+  pub invariant : HoldsInvariant o sound (books_of v.rows l) before held h running refused
   pub moment : before.moment ≡ story.moment
   pub unmoved : Unmoved before new
   pub counts : Counts before new answers
@@ -127,7 +127,7 @@ pub paid_back : {R : Type 0} (o : Outset) (g : Origin) (sound : Bool) (l : Engin
     → (failures : R → ℕ) (inputs : List (Input R)) → GivesBack failures inputs story new → (answers ≡ true → SomeFailed failures inputs) → IsPaid o g sound l story new held h running refused v answers
 paid_back o g sound l story new held h running refused v answers unmoved failures inputs given read = record {
   before = story;
-  walk = v.walk;
+  invariant = v.invariant;
   moment = refl;
   unmoved = unmoved;
   counts = given_counts failures inputs story new answers given read;
@@ -155,7 +155,7 @@ module _ {K : Type 0} (held : K → Option (List ℕ)) (faults : K → ℕ) (n :
       (subst (λ (x : Cause). IsPut (block (entry s number kind.Close (outcome_of x) mo) (Some (told_at at (reply_of x)))) (not later.printer.broken) (held log.printer.sink) (held later.printer.sink)
       → IsVault (outset_of n w) (n.origin w) b (closing_state m.state.closed error (mo == last) at claim.table claim.lease m.state) new (held later.printer.sink) (log.history.items ++ entry s number kind.Close (outcome_of x) mo ∷ []) (not later.printer.broken) (log.refused || is_refusal (reply_of x))) (sym cause_is)
       (let p = paid w b ok in
-      given_up_vault (outset_of n w) (n.origin w) b m.state story (held log.printer.sink) log.history.items (not log.printer.broken) log.refused (v.vault w b ok) s number low few c one early mo moment fits ran at place claim (due w) new unmoved p.before p.walk p.moment p.unmoved (not later.printer.broken) (held later.printer.sink)
+      given_up_vault (outset_of n w) (n.origin w) b m.state story (held log.printer.sink) log.history.items (not log.printer.broken) log.refused (v.vault w b ok) s number low few c one early mo moment fits ran at place claim (due w) new unmoved p.before p.invariant p.moment p.unmoved (not later.printer.broken) (held later.printer.sink)
       m.state.closed refl error tells p.counts p.quiet) put))
 
 -- ---- where it takes its session

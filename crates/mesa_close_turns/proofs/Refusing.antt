@@ -25,7 +25,7 @@ use Rattle.mesa_engine.specs.mesa_engine_state.mesa_invariant.Causes.{Cause, out
 use Rattle.mesa_engine.specs.mesa_engine_state.mesa_invariant.Printing.{IsPut}
 use Rattle.mesa_engine.specs.mesa_engine_state.mesa_invariant.Turns.{Shown, IsSeen, Takes, entry}
 use Rattle.mesa_engine.specs.mesa_engine_state.mesa_invariant.Undamaged.{is_damaged}
-use Rattle.mesa_engine.specs.mesa_engine_state.mesa_invariant.Walk.{run_at, run_of}
+use Rattle.mesa_engine.specs.mesa_engine_state.mesa_invariant.Invariant.{run_at, run_of}
 use Rattle.mesa_engine.proofs.mesa_engine_state.mesa_invariant.Going.{complete_takes}
 use Rattle.mesa_engine.proofs.mesa_engine_state.mesa_invariant.Turning.{counts_same, stays}
 use Rattle.mesa_engine.proofs.mesa_engine_state.mesa_invariant.Working.{lost_turn, starved_turn}
@@ -48,10 +48,10 @@ module _ (n : Starts) (w : Rows) (sound : Bool) (l : EngineState) (story : Story
       → IsVault (outset_of n w) (n.origin w) sound (unswapped_state e claim.table claim.lease l) story new_held (h ++ entry s number kind.Close (outcome_of (cause_met e)) m ∷ []) now (refused || is_refusal (reply_of (cause_met e)))
   unswapped_vault (why.Refused x) has put =
       still_vault (outset_of n w) (n.origin w) sound l story held h running refused v (entry s number kind.Close (outcome_of (cause_met (why.Refused x))) m) story new_held now (refused || true) (stays story)
-      (lost_turn (outset_of n w) sound (books_of v.rows l) story held h running refused v.walk s number low few (command.Work words) refl m ran at place moment story (stays story) claim due x has (counts_same story) now new_held put)
+      (lost_turn (outset_of n w) sound (books_of v.rows l) story held h running refused v.invariant s number low few (command.Work words) refl m ran at place moment story (stays story) claim due x has (counts_same story) now new_held put)
   unswapped_vault why.Memory has put =
       leased_vault (outset_of n w) (n.origin w) sound l story held h running refused v (entry s number kind.Close (outcome_of (cause_met why.Memory)) m) story new_held now (refused || true) (stays story) (ended claim.table claim.lease l.leases) few_granted
-      (starved_turn (outset_of n w) sound (books_of v.rows l) story held h running refused v.walk s number low few (command.Work words) refl m ran at place moment story (stays story) claim due has (counts_same story) now new_held put)
+      (starved_turn (outset_of n w) sound (books_of v.rows l) story held h running refused v.invariant s number low few (command.Work words) refl m ran at place moment story (stays story) claim due has (counts_same story) now new_held put)
 
 -- no damage keeps a range from being swapped in
 refused_undamaged : (e : Unswapped) → is_damaged (outcome_of (cause_met e)) ≡ false

@@ -29,7 +29,7 @@ use Rattle.mesa_engine.specs.mesa_projection.Rows.{Rows, no_rows}
 use Rattle.mesa_tasks.specs.declared.merging.Task.{Task}
 use Rattle.mesa_engine.specs.mesa_engine_state.mesa_invariant.Causes.{Unwritten, reply_of, told_at}
 use Rattle.mesa_engine.specs.mesa_engine_state.mesa_invariant.Turns.{entry}
-use Rattle.mesa_engine.specs.mesa_engine_state.mesa_invariant.Walk.{Counts, run_at}
+use Rattle.mesa_engine.specs.mesa_engine_state.mesa_invariant.Invariant.{Counts, run_at}
 use Rattle.mesa_engine.proofs.mesa_engine_state.mesa_invariant.Working.{checked_open}
 use Rattle.mesa_engine.specs.mesa_engine_state.EngineState.{books_of, first_id, next_id, past_id}
 use Rattle.mesa_engine.specs.mesa_engine_state.Recorded.{failed_state, left_by, recorded_state, removed_by}

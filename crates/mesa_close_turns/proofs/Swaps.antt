@@ -51,7 +51,7 @@ use Rattle.mesa_tasks.specs.declared.merging.Task.{Task}
 use Rattle.mesa_engine.specs.mesa_engine_state.mesa_invariant.Causes.{Unwritten, reply_of, told_at}
 use Rattle.mesa_engine.specs.mesa_engine_state.mesa_invariant.Printing.{IsPut}
 use Rattle.mesa_engine.specs.mesa_engine_state.mesa_invariant.Turns.{entry}
-use Rattle.mesa_engine.specs.mesa_engine_state.mesa_invariant.Walk.{Counts, Passes, StandsForEither, Writes, run_of}
+use Rattle.mesa_engine.specs.mesa_engine_state.mesa_invariant.Invariant.{Counts, Passes, StandsForEither, Writes, run_of}
 use Rattle.mesa_engine.specs.mesa_engine_state.mesa_invariant.Works.{Swaps}
 use Rattle.mesa_engine.proofs.mesa_engine_state.mesa_invariant.Working.{checked_open}
 use Rattle.mesa_engine.specs.mesa_engine_state.EngineState.{EngineState, books_of, first_id, holders, ids_held, next_id}

@@ -9,7 +9,7 @@ use Rattle.mesa_engine.specs.mesa_engine_state.EngineState.{EngineState, holders
 use Rattle.mesa_engine.specs.mesa_engine_state.Recorded.{holds_in}
 use Rattle.mesa_engine.specs.mesa_engine_state.Vault.{Origin, IsVault}
 use Rattle.mesa_engine.specs.mesa_engine_state.mesa_invariant.Turns.{IsTurn, Shown, entry}
-use Rattle.mesa_engine.specs.mesa_engine_state.mesa_invariant.Walk.{Outset}
+use Rattle.mesa_engine.specs.mesa_engine_state.mesa_invariant.Invariant.{Outset}
 use Rattle.mesa_engine.proofs.mesa_engine_state.Filing.{holds_are}
 use Rattle.mesa_publishing.specs.mesa_history.Replay.{is_skip}
 use Rattle.mesa_model.specs.declared.entries.Entry.{Entry}

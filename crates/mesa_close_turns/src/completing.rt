@@ -16,7 +16,7 @@ ghost use Rattle.mesa_engine.specs.mesa_projection.Rows.{Rows, no_rows};
 ghost use Rattle.mesa_publishing.specs.Finished.{HasRange, IsFinished};
 ghost use Rattle.mesa_engine.specs.mesa_engine_state.mesa_invariant.Causes.{outcome_of};
 ghost use Rattle.mesa_engine.specs.mesa_engine_state.mesa_invariant.Turns.{AnswersDisk, AnswersDraft, SomeRose, Takes, entry};
-ghost use Rattle.mesa_engine.specs.mesa_engine_state.mesa_invariant.Walk.{run_at};
+ghost use Rattle.mesa_engine.specs.mesa_engine_state.mesa_invariant.Invariant.{run_at};
 ghost use Rattle.mesa_tasks.specs.Tasks.{claim_in};
 ghost use Rattle.mesa_engine.specs.mesa_engine_state.Written.{written_at};
 ghost use Rattle.mesa_close_turns.specs.Merged.{HasNotSwapped, cause_met, unswapped_state};

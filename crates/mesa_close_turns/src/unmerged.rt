@@ -15,7 +15,7 @@ ghost use Rattle.mesa_engine.specs.mesa_engine_state.mesa_invariant.Causes.{is_r
 ghost use Rattle.mesa_engine.specs.mesa_engine_state.mesa_invariant.Printing.{IsPut};
 ghost use Rattle.mesa_engine.specs.mesa_engine_state.mesa_invariant.Turns.{AnswersDisk, AnswersDraft, SomeRose, Takes, entry};
 ghost use Rattle.mesa_engine.specs.mesa_engine_state.mesa_invariant.Undamaged.{is_damaged};
-ghost use Rattle.mesa_engine.specs.mesa_engine_state.mesa_invariant.Walk.{run_at};
+ghost use Rattle.mesa_engine.specs.mesa_engine_state.mesa_invariant.Invariant.{run_at};
 ghost use Rattle.mesa_tasks.specs.Tasks.{claim_in};
 ghost use Rattle.mesa_close_turns.specs.Unmerged.{MergeDiffered, TellsDamage, cause_of, closing_cause, closing_state, unmerged_state};
 

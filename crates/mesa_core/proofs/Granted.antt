@@ -24,7 +24,7 @@ use Rattle.mesa_tasks.specs.Errors.{Differs}
 use Rattle.mesa_tasks.specs.Spares.{HasSpares}
 use Rattle.mesa_tasks.specs.Tasks.{IsTask, claim_in}
 use Rattle.mesa_tasks.specs.declared.merging.Task.{Task}
-use Rattle.mesa_engine.specs.mesa_invariant.Walk.{run_at}
+use Rattle.mesa_engine.specs.mesa_invariant.Invariant.{run_at}
 use Rattle.mesa_engine.specs.mesa_invariant.Works.{stage_if}
 use Rattle.mesa_engine.specs.mesa_engine_state.Written.{written_at}
 use Rattle.mesa_core.specs.Handing.{IsGranted, store_after}

@@ -33,7 +33,7 @@ use Rattle.mesa_tasks.specs.declared.querying.PinnedInput.{PinnedInput}
 use Rattle.mesa_engine.specs.mesa_invariant.Queries.{IsOpen, closing_fault, closing_outcome}
 use Rattle.mesa_engine.specs.mesa_invariant.Turns.{IsSeen, IsTurn, Shown, Takes}
 use Rattle.mesa_engine.specs.mesa_invariant.Undamaged.{is_damaged}
-use Rattle.mesa_engine.specs.mesa_invariant.Walk.{run_at}
+use Rattle.mesa_engine.specs.mesa_invariant.Invariant.{run_at}
 use Rattle.mesa_core.specs.Handing.{Tells}
 
 -- ---- the close

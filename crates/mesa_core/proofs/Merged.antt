@@ -31,7 +31,7 @@ use Rattle.mesa_tasks.specs.declared.merging.Task.{Task}
 use Rattle.mesa_engine.specs.mesa_invariant.Causes.{is_read_fault, outcome_of}
 use Rattle.mesa_engine.specs.mesa_invariant.Turns.{AnswersDraft, Shown}
 use Rattle.mesa_engine.specs.mesa_invariant.Undamaged.{is_damaged}
-use Rattle.mesa_engine.specs.mesa_invariant.Walk.{run_at}
+use Rattle.mesa_engine.specs.mesa_invariant.Invariant.{run_at}
 use Rattle.mesa_engine.specs.mesa_engine_state.Written.{written_at}
 use Rattle.mesa_core.specs.Handing.{IsGranted, store_after}
 use Rattle.mesa_core.specs.Standing.{IsCatalogAfter}

@@ -27,7 +27,7 @@ use Rattle.mesa_engine.specs.mesa_projection.Rows.{Rows, no_rows}
 use Rattle.mesa_tasks.specs.Recasts.{IsRecastTask, recast_table}
 use Rattle.mesa_tasks.specs.declared.recasting.Recast.{Recast}
 use Rattle.mesa_tasks.specs.declared.recasting.RecastRange.{RecastRange}
-use Rattle.mesa_engine.specs.mesa_invariant.Walk.{run_at}
+use Rattle.mesa_engine.specs.mesa_invariant.Invariant.{run_at}
 use Rattle.mesa_core.proofs.RecastGranted.{ends_known}
 use Rattle.mesa_core.specs.Handing.{AllAreRested, IsRecastGranted, IsRecastHeld, store_after}
 

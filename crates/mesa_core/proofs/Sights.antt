@@ -13,7 +13,7 @@ use Rattle.mesa_history.specs.Run.{State}
 use Rattle.mesa_engine.specs.mesa_image.Catalog.{Catalog, no_stock, stock_at}
 use Rattle.mesa_engine.proofs.mesa_catalog.Stocks.{all_at}
 use Rattle.mesa_engine.specs.mesa_image.Shape.{IsShaped}
-use Rattle.mesa_engine.specs.mesa_engine_state.EngineState.{EngineState, skeletons}
+use Rattle.mesa_engine.specs.mesa_engine_state.EngineState.{EngineState, projections}
 use Rattle.mesa_engine.specs.mesa_engine_state.Vault.{Starts, IsVault, IsVaultAt, outset_of}
 use Rattle.mesa_model.specs.declared.commands.Script.{Script}
 use Rattle.mesa_model.specs.declared.entries.Entry.{Entry}
@@ -22,20 +22,20 @@ use Rattle.mesa_session_laws.specs.Sight.{tables_known}
 use Rattle.mesa_engine.proofs.mesa_projection.Lists.{at_same}
 use Rattle.mesa_engine.specs.mesa_projection.Bare.{bare_store}
 use Rattle.mesa_engine.specs.mesa_projection.Rows.{Rows, no_rows}
-use Rattle.mesa_engine.specs.mesa_invariant.Walk.{run_of}
+use Rattle.mesa_engine.specs.mesa_invariant.Invariant.{run_of}
 
 -- names and columns hang on no rows
 bare_known : (s : Store) → tables_known (bare_store s) ≡ tables_known s
 bare_known s = map-map _ _ s.tables
 
-skeletons_known : (c : Catalog) → tables_known (skeletons c) ≡ map known_as c.tables
-skeletons_known c = map-map _ _ c.tables
+projections_known : (c : Catalog) → tables_known (projections c) ≡ map known_as c.tables
+projections_known c = map-map _ _ c.tables
 
 pub catalogue_is : (n : Starts) (l : EngineState) (story : Story) (held : Option (List ℕ)) (h : List Entry) (running refused : Bool) → IsVaultAt n l story held h running refused → generation_of l.catalogue ≡ l.generation
     → IsCatalogAfter n.script n.start (n.origin no_rows).generation h l.catalogue
 catalogue_is n l story held h running refused v same = record {
   sight = λ i. record { generation = (same ∙ first.counts.generation) i; tables = tables i };
-  next = λ w. sym (ap (λ (x : Warehouse). x.next) (v w false (λ is. absurd cc)).walk.state.skeleton);
+  next = λ w. sym (ap (λ (x : Warehouse). x.next) (v w false (λ is. absurd cc)).invariant.state.projection);
   lineages = λ number there. (all_at (IsShaped l.catalogue.floor l.catalogue.next) l.catalogue.tables number no_stock first.shaped.tables there).lineage;
 }
   where
@@ -44,8 +44,8 @@ catalogue_is n l story held h running refused v same = record {
 
     tables : map known_as l.catalogue.tables ≡ tables_known (run_of (outset_of n no_rows) h).state.warehouse.store
     tables =
-        sym (skeletons_known l.catalogue)
-        ∙ ap (λ (w : Warehouse). tables_known w.store) (sym first.walk.state.skeleton)
+        sym (projections_known l.catalogue)
+        ∙ ap (λ (w : Warehouse). tables_known w.store) (sym first.invariant.state.projection)
         ∙ bare_known (run_of (outset_of n no_rows) h).state.warehouse.store
 
 module _ (script : Script) (start : Rows → State) (generation : ℕ) (h : List Entry) (c : Catalog) (is : IsCatalogAfter script start generation h c) where

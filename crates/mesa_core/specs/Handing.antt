@@ -12,7 +12,7 @@ use Rattle.mesa_model.specs.declared.commands.Script.{Script}
 use Rattle.mesa_model.specs.declared.entries.Entry.{Entry}
 use Rattle.mesa_model.specs.Query.{Answer}
 use Rattle.mesa_model.specs.Warehouse.{Store, max_tables}
-use Rattle.mesa_engine.specs.mesa_invariant.Walk.{run_at}
+use Rattle.mesa_engine.specs.mesa_invariant.Invariant.{run_at}
 use Rattle.mesa_engine.specs.mesa_engine_state.Written.{written_at}
 use Rattle.mesa_session_laws.specs.Known.{AllAreBounded, AllHaveRange, AllHaveRanges, IsKnownOf, lineage_in}
 use Rattle.mesa_session_laws.specs.mesa_publishing.Grown.{HasBecome}

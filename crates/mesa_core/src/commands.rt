@@ -6,7 +6,7 @@ ghost use Rattle.mesa_history.specs.Run.{Finished, First};
 ghost use Rattle.mesa_model.specs.declared.entries.Kind.TheVariants as kind;
 ghost use Rattle.mesa_engine.specs.mesa_projection.Rows.{no_rows};
 ghost use Rattle.mesa_engine.specs.mesa_invariant.Turns.{AnswersDisk, Asks, SomeRose, Takes, is_simple};
-ghost use Rattle.mesa_engine.specs.mesa_invariant.Walk.{run_at};
+ghost use Rattle.mesa_engine.specs.mesa_invariant.Invariant.{run_at};
 
 use crate::Vault;
 use crate::asked::command_of;

@@ -11,7 +11,7 @@ ghost use Rattle.mesa_engine.specs.mesa_projection.Rows.{no_rows};
 ghost use Rattle.mesa_tasks.specs.Batches.{HasPrepared};
 ghost use Rattle.mesa_tasks.specs.declared.prepared.LoadError.TheVariants as load;
 ghost use Rattle.mesa_engine.specs.mesa_invariant.Turns.{AnswersDisk, AnswersDraft, Asks, SomeRose, Takes, is_load};
-ghost use Rattle.mesa_engine.specs.mesa_invariant.Walk.{run_at};
+ghost use Rattle.mesa_engine.specs.mesa_invariant.Invariant.{run_at};
 
 use crate::Vault;
 use crate::asked::rows_of;

@@ -12,7 +12,7 @@ ghost use Rattle.mesa_session_laws.specs.Pins.{HasAnswered, IsOpenQuery, TakesQu
 ghost use Rattle.mesa_engine.specs.mesa_projection.Rows.{no_rows};
 ghost use Rattle.mesa_engine.specs.mesa_invariant.Printing.{IsPut};
 ghost use Rattle.mesa_engine.specs.mesa_invariant.Turns.{AnswersDisk, Asks, SomeRose, Takes};
-ghost use Rattle.mesa_engine.specs.mesa_invariant.Walk.{run_at};
+ghost use Rattle.mesa_engine.specs.mesa_invariant.Invariant.{run_at};
 
 use crate::Vault;
 use crate::asked::words_of;

@@ -19,7 +19,7 @@ ghost use Rattle.mesa_engine.specs.mesa_invariant.mesa_output.Output.{block};
 ghost use Rattle.mesa_engine.specs.mesa_invariant.Causes.{outcome_of, reply_of, told_at};
 ghost use Rattle.mesa_engine.specs.mesa_invariant.Printing.{IsPut};
 ghost use Rattle.mesa_engine.specs.mesa_invariant.Turns.{AnswersDisk, AnswersDraft, Asks, NoneFell, SomeRose, Takes, entry, is_recast};
-ghost use Rattle.mesa_engine.specs.mesa_invariant.Walk.{run_at};
+ghost use Rattle.mesa_engine.specs.mesa_invariant.Invariant.{run_at};
 ghost use Rattle.mesa_engine.specs.mesa_invariant.Works.{closing_stage, stage_if};
 
 use crate::Vault;

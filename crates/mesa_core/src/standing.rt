@@ -5,7 +5,7 @@ ghost use Rattle.mesa_history.specs.Claims.{HasClaimAt, HasRanges};
 ghost use Rattle.mesa_history.specs.Run.{place_of};
 ghost use Rattle.mesa_engine.specs.mesa_projection.Rows.{no_rows};
 ghost use Rattle.mesa_engine.specs.mesa_invariant.Turns.{IsSeen};
-ghost use Rattle.mesa_engine.specs.mesa_invariant.Walk.{run_at};
+ghost use Rattle.mesa_engine.specs.mesa_invariant.Invariant.{run_at};
 
 use mesa_disk::{Disk, Made};
 use mesa_engine::{Engine, Naming};

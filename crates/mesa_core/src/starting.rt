@@ -15,7 +15,7 @@ ghost use Rattle.mesa_engine.specs.mesa_projection.Rows.{Rows};
 ghost use Rattle.mesa_engine.specs.mesa_invariant.Printing.{IsPrinted, IsPrintedButRows};
 ghost use Rattle.mesa_engine.specs.mesa_invariant.Turns.{faults_of};
 ghost use Rattle.mesa_engine.specs.mesa_invariant.Undamaged.{NoneDamaged};
-ghost use Rattle.mesa_engine.specs.mesa_invariant.Walk.{AllFound, HasCounted, faults_in, run_at};
+ghost use Rattle.mesa_engine.specs.mesa_invariant.Invariant.{AllFound, HasCounted, faults_in, run_at};
 
 use crate::{Vault, turns_of};
 use mesa_disk::{Disk, Made};

@@ -9,7 +9,7 @@ use Rattle.mesa_metadata.specs.mesa_catalog.mesa_history.Replay.{closes}
 use Rattle.mesa_metadata.specs.mesa_catalog.mesa_history.Run.{State}
 use Rattle.mesa_metadata.specs.mesa_engine_state.mesa_invariant.Causes.{Cause, Replies, Unread, Damaged, Unwritten, NoMemory, outcome_of}
 use Rattle.mesa_metadata.specs.mesa_engine_state.mesa_invariant.Turns.{AnswersDraft, Shown}
-use Rattle.mesa_metadata.specs.mesa_engine_state.mesa_invariant.Walk.{run_at}
+use Rattle.mesa_metadata.specs.mesa_engine_state.mesa_invariant.Invariant.{run_at}
 use Rattle.mesa_engine.specs.Failing.{is_of_device}
 
 right_true : (a b : Bool) → IsTrue (a && b) → IsTrue b

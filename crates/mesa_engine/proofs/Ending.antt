@@ -13,7 +13,7 @@ pub reads_state : (n : Starts) (w : Rows) (l : EngineState) (story : Story) (hel
     → IsVault (outset_of n w) (n.origin w) true l story held h running refused → ReadsState n.script (n.start w) h story
 reads_state n w l story held h running refused v none =
     let read = v.read refl in
-    let stays = v.stands refl (sym (ap (λ (x : Warehouse). x.closed) v.walk.state.skeleton) ∙ none) in
+    let stays = v.stands refl (sym (ap (λ (x : Warehouse). x.closed) v.invariant.state.projection) ∙ none) in
     let shows = stays.stands.read read.0 read.1 in (
       read.0,
       read.1,
@@ -22,6 +22,6 @@ reads_state n w l story held h running refused v none =
         catalogue = l.catalogue;
         rows = v.rows;
         is = record { live = l.area; end = l.end; journal = record { whole = inr shows.journal; behind = shows.behind }; records = stays.records; files = shows.has; rows_are = stays.stocked };
-        same = v.walk.state.rows refl;
+        same = v.invariant.state.rows refl;
       },
     )

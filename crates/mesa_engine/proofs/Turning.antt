@@ -20,7 +20,7 @@ use Rattle.mesa_metadata.specs.mesa_engine_state.mesa_projection.Rows.{Rows, no_
 use Rattle.mesa_metadata.specs.mesa_engine_state.mesa_invariant.Printing.{IsPut}
 use Rattle.mesa_metadata.specs.mesa_engine_state.mesa_invariant.Turns.{Shown, IsSeen, Takes, entry}
 use Rattle.mesa_metadata.specs.mesa_engine_state.mesa_invariant.Undamaged.{NoneDamaged, is_damaged}
-use Rattle.mesa_metadata.specs.mesa_engine_state.mesa_invariant.Walk.{Counts, run_at}
+use Rattle.mesa_metadata.specs.mesa_engine_state.mesa_invariant.Invariant.{Counts, run_at}
 use Rattle.mesa_engine.specs.declared.log.Log.{Log}
 use Rattle.mesa_engine.specs.Printing.{GoesOn, PrintsBlock}
 use Rattle.mesa_engine.proofs.Printing.{same_goes}
@@ -48,7 +48,7 @@ module _ {K : Type 0} (held : K → Option (List ℕ)) (faults : K → ℕ) (n :
   longer = ap length grew ∙ length-append log.history.items (e ∷ [])
 
   since : n.since ≤ e.moment
-  since = let before = (v.vault no_rows false (λ is. absurd cc)).walk.begun in omega (arith, before, passes, moment)
+  since = let before = (v.vault no_rows false (λ is. absurd cc)).invariant.begun in omega (arith, before, passes, moment)
 
   -- a turn
   pub turned_engine : GoesOn faults log.printer later.printer → IsVaultAt n after.state new (held later.printer.sink) (log.history.items ++ e ∷ []) (not later.printer.broken) later.refused → IsEngine held faults n turns sinks after new later

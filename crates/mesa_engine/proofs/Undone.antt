@@ -29,7 +29,7 @@ use Rattle.mesa_metadata.specs.mesa_engine_state.mesa_invariant.Printing.{IsPut}
 use Rattle.mesa_metadata.specs.mesa_engine_state.mesa_invariant.Queries.{HasNoAnswer}
 use Rattle.mesa_metadata.specs.mesa_engine_state.mesa_invariant.Turns.{Shown, IsSeen, Takes, entry, is_simple}
 use Rattle.mesa_metadata.specs.mesa_engine_state.mesa_invariant.Undamaged.{is_damaged}
-use Rattle.mesa_metadata.specs.mesa_engine_state.mesa_invariant.Walk.{Outset, Counts, WalksOn, run_of}
+use Rattle.mesa_metadata.specs.mesa_engine_state.mesa_invariant.Invariant.{Outset, Counts, KeepsInvariant, run_of}
 use Rattle.mesa_metadata.specs.mesa_engine_state.mesa_invariant.Works.{HasNoClaim}
 use Rattle.mesa_metadata.proofs.mesa_engine_state.mesa_invariant.Asking.{unpinned_turn, unpinned_ends}
 use Rattle.mesa_metadata.proofs.mesa_engine_state.mesa_invariant.Changing.{alter_decided, expire_decided, load_decided, pin_decided, release_decided, table_decided, view_decided, fails_turn}
@@ -137,42 +137,42 @@ module _ (o : Outset) (g : Origin) (sound : Bool) (l : EngineState) (story : Sto
   pub skipped_vault : (c : Command) (stage : Stage) (k : Kind) → IsDue o.script (run_of o h) s number c stage → IsTrue (is_due_at c stage k) → running ≡ false → IsVault o g sound l story held (h ++ entry s number k outcome.Skipped m ∷ []) running refused
   skipped_vault c stage k due comes failed =
       still_vault o g sound l story held h running refused v (entry s number k outcome.Skipped m) story held running refused (stays story)
-      (skipped_turn o sound (books_of v.rows l) story held h running refused v.walk s number c stage k m due (record { session = low; command = few }) comes failed moment story (stays story) (counts_same story))
+      (skipped_turn o sound (books_of v.rows l) story held h running refused v.invariant s number c stage k m due (record { session = low; command = few }) comes failed moment story (stays story) (counts_same story))
 
   module _ (ran : running ≡ true) (at : ℕ) (place : at ≡ length h) where
     counts : (cause : Cause) → is_of_device cause ≡ false → Counts story story (is_read_fault cause)
     counts cause quiet = subst (Counts story story) (sym (no_fault cause quiet)) (counts_same story)
 
     decided : (c : Command) (stage : Stage) (f : Doing) → IsDecided s c stage f → IsDue o.script (run_of o h) s number c stage → (cause : Cause) → HasFailed (books_of v.rows l) c f cause → is_of_device cause ≡ false → (now : Bool) (new_held : Option (List ℕ))
-        → IsPut (block (entry s number kind.Decide (outcome_of cause) m) (Some (told_at at (reply_of cause)))) now held new_held → WalksOn o sound (books_of v.rows l) story new_held h (entry s number kind.Decide (outcome_of cause) m) now (refused || is_refusal (reply_of cause))
+        → IsPut (block (entry s number kind.Decide (outcome_of cause) m) (Some (told_at at (reply_of cause)))) now held new_held → KeepsInvariant o sound (books_of v.rows l) story new_held h (entry s number kind.Decide (outcome_of cause) m) now (refused || is_refusal (reply_of cause))
     decided c stage f d due cause has quiet now new_held put =
         let b = closes (run_of o h).moment (entry s number kind.Decide outcome.WriteFault m) in
-        subst (λ x. WalksOn o sound x story new_held h (entry s number kind.Decide (outcome_of cause) m) now (refused || is_refusal (reply_of cause))) (same_books cause b at (books_of v.rows l) quiet)
-        (fails_turn o sound (books_of v.rows l) story held h running refused v.walk s number low few c stage f d due m ran at place cause b refl has moment now new_held put)
+        subst (λ x. KeepsInvariant o sound x story new_held h (entry s number kind.Decide (outcome_of cause) m) now (refused || is_refusal (reply_of cause))) (same_books cause b at (books_of v.rows l) quiet)
+        (fails_turn o sound (books_of v.rows l) story held h running refused v.invariant s number low few c stage f d due m ran at place cause b refl has moment now new_held put)
 
-    walks : (c : Command) → IsDue o.script (run_of o h) s number c (deciding_stage c) → (cause : Cause) → HasNotDone (books_of v.rows l) at s c cause → is_of_device cause ≡ false → (now : Bool) (new_held : Option (List ℕ))
-        → IsPut (block (entry s number (deciding_kind c) (outcome_of cause) m) (Some (told_at at (reply_of cause)))) now held new_held → WalksOn o sound (books_of v.rows l) story new_held h (entry s number (deciding_kind c) (outcome_of cause) m) now (refused || is_refusal (reply_of cause))
-    walks (command.Load rows) due cause has quiet now new_held put = decided (command.Load rows) Looked (λ w. load_batch w rows) (load_decided s rows) due cause has quiet now new_held put
-    walks (command.Table words) due cause has quiet now new_held put = decided (command.Table words) First (λ w. make_table w words) (table_decided s words) due cause has quiet now new_held put
-    walks (command.View words) due cause has quiet now new_held put = decided (command.View words) First (λ w. make_view w words) (view_decided s words) due cause has quiet now new_held put
-    walks (command.Alter words) due cause has quiet now new_held put = decided (command.Alter words) First (λ w. alter_table w words) (alter_decided s words) due cause has quiet now new_held put
-    walks (command.Pin asked) due cause has quiet now new_held put = decided (command.Pin asked) First (λ w. make_pin w s asked) (pin_decided s asked) due cause has quiet now new_held put
-    walks (command.Release token) due cause has quiet now new_held put = decided (command.Release token) First (λ w. release_pin w s token) (release_decided s token) due cause has quiet now new_held put
-    walks (command.Expire table version) due cause has quiet now new_held put = decided (command.Expire table version) First (λ w. expire_to w table version) (expire_decided s table version) due cause has quiet now new_held put
-    walks (command.Explain words) due cause has quiet now new_held put = unexplained_turn o sound (books_of v.rows l) story held h running refused v.walk s number low few m moment words due ran at place cause has now new_held put
-    walks (command.Query words) due cause has quiet now new_held put =
-        unpinned_turn o sound (books_of v.rows l) story held h running refused v.walk s number low few words m moment ran story (stays story) due cause has (counts cause quiet) at place now new_held put
-    walks (command.Work words) due cause has quiet now new_held put =
-        ungranted_turn o sound (books_of v.rows l) story held h running refused v.walk s number low few (command.Work words) refl m ran at place moment story (stays story) due cause has (counts cause quiet) now new_held put
-    walks (command.Recast words) due cause has quiet now new_held put =
-        ungranted_turn o sound (books_of v.rows l) story held h running refused v.walk s number low few (command.Recast words) refl m ran at place moment story (stays story) due cause has (counts cause quiet) now new_held put
+    keeps : (c : Command) → IsDue o.script (run_of o h) s number c (deciding_stage c) → (cause : Cause) → HasNotDone (books_of v.rows l) at s c cause → is_of_device cause ≡ false → (now : Bool) (new_held : Option (List ℕ))
+        → IsPut (block (entry s number (deciding_kind c) (outcome_of cause) m) (Some (told_at at (reply_of cause)))) now held new_held → KeepsInvariant o sound (books_of v.rows l) story new_held h (entry s number (deciding_kind c) (outcome_of cause) m) now (refused || is_refusal (reply_of cause))
+    keeps (command.Load rows) due cause has quiet now new_held put = decided (command.Load rows) Looked (λ w. load_batch w rows) (load_decided s rows) due cause has quiet now new_held put
+    keeps (command.Table words) due cause has quiet now new_held put = decided (command.Table words) First (λ w. make_table w words) (table_decided s words) due cause has quiet now new_held put
+    keeps (command.View words) due cause has quiet now new_held put = decided (command.View words) First (λ w. make_view w words) (view_decided s words) due cause has quiet now new_held put
+    keeps (command.Alter words) due cause has quiet now new_held put = decided (command.Alter words) First (λ w. alter_table w words) (alter_decided s words) due cause has quiet now new_held put
+    keeps (command.Pin asked) due cause has quiet now new_held put = decided (command.Pin asked) First (λ w. make_pin w s asked) (pin_decided s asked) due cause has quiet now new_held put
+    keeps (command.Release token) due cause has quiet now new_held put = decided (command.Release token) First (λ w. release_pin w s token) (release_decided s token) due cause has quiet now new_held put
+    keeps (command.Expire table version) due cause has quiet now new_held put = decided (command.Expire table version) First (λ w. expire_to w table version) (expire_decided s table version) due cause has quiet now new_held put
+    keeps (command.Explain words) due cause has quiet now new_held put = unexplained_turn o sound (books_of v.rows l) story held h running refused v.invariant s number low few m moment words due ran at place cause has now new_held put
+    keeps (command.Query words) due cause has quiet now new_held put =
+        unpinned_turn o sound (books_of v.rows l) story held h running refused v.invariant s number low few words m moment ran story (stays story) due cause has (counts cause quiet) at place now new_held put
+    keeps (command.Work words) due cause has quiet now new_held put =
+        ungranted_turn o sound (books_of v.rows l) story held h running refused v.invariant s number low few (command.Work words) refl m ran at place moment story (stays story) due cause has (counts cause quiet) now new_held put
+    keeps (command.Recast words) due cause has quiet now new_held put =
+        ungranted_turn o sound (books_of v.rows l) story held h running refused v.invariant s number low few (command.Recast words) refl m ran at place moment story (stays story) due cause has (counts cause quiet) now new_held put
 
     -- A turn that fails.
     pub failing_vault : (a : Rows) (c : Command) → IsDue o.script (run_of o h) s number c (deciding_stage c) → (cause : Cause) → HasNotDone (books_of a l) at s c cause → is_of_device cause ≡ false → (now : Bool) (new_held : Option (List ℕ))
         → IsPut (block (entry s number (deciding_kind c) (outcome_of cause) m) (Some (told_at at (reply_of cause)))) now held new_held → IsVault o g sound l story new_held (h ++ entry s number (deciding_kind c) (outcome_of cause) m ∷ []) now (refused || is_refusal (reply_of cause))
     failing_vault a c due cause has quiet now new_held put =
         still_vault o g sound l story held h running refused v (entry s number (deciding_kind c) (outcome_of cause) m) story new_held now (refused || is_refusal (reply_of cause)) (stays story)
-        (walks c due cause (undone_alike a v.rows l at s c cause has) quiet now new_held put)
+        (keeps c due cause (undone_alike a v.rows l at s c cause has) quiet now new_held put)
 
 -- Its session's command is over.
 module _ (o : Outset) (g : Origin) (sound : Bool) (l : EngineState) (story : Story) (held : Option (List ℕ)) (h : List Entry) (running refused : Bool) (v : IsVault o g sound l story held h running refused)
@@ -199,13 +199,13 @@ module _ (o : Outset) (g : Origin) (sound : Bool) (l : EngineState) (story : Sto
   failing_takes (command.Explain words) due cause has grew = simply (command.Explain words) refl due cause grew
   failing_takes (command.Query words) due cause has grew =
       takes_as o.script o.start old new s number (command.Query words) First kind.Decide Finished due (outcome_of cause)
-      (unpinned_ends o sound (books_of v.rows l) story held h running refused v.walk s number low few words new.clock moment ran story (stays story) due cause (answer_alike a v.rows l s words cause has))
+      (unpinned_ends o sound (books_of v.rows l) story held h running refused v.invariant s number low few words new.clock moment ran story (stays story) due cause (answer_alike a v.rows l s words cause has))
       grew (runs_on cause) (λ on. ran) seen
   failing_takes (command.Work words) due cause has grew =
       takes_as o.script o.start old new s number (command.Work words) First kind.Grant Finished due (outcome_of cause)
-      (ungranted_ends o sound (books_of v.rows l) story held h running refused v.walk s number low few (command.Work words) refl new.clock ran at place moment story (stays story) due cause (claim_alike a v.rows l (claim_of (books_of a l).bare (books_of a l).machine at words.table) cause has))
+      (ungranted_ends o sound (books_of v.rows l) story held h running refused v.invariant s number low few (command.Work words) refl new.clock ran at place moment story (stays story) due cause (claim_alike a v.rows l (claim_of (books_of a l).bare (books_of a l).machine at words.table) cause has))
       grew (runs_on cause) (λ on. ran) seen
   failing_takes (command.Recast words) due cause has grew =
       takes_as o.script o.start old new s number (command.Recast words) First kind.Grant Finished due (outcome_of cause)
-      (ungranted_ends o sound (books_of v.rows l) story held h running refused v.walk s number low few (command.Recast words) refl new.clock ran at place moment story (stays story) due cause (claim_alike a v.rows l (recast_claim_of (books_of a l).bare (books_of a l).machine at words) cause has))
+      (ungranted_ends o sound (books_of v.rows l) story held h running refused v.invariant s number low few (command.Recast words) refl new.clock ran at place moment story (stays story) due cause (claim_alike a v.rows l (recast_claim_of (books_of a l).bare (books_of a l).machine at words) cause has))
       grew (runs_on cause) (λ on. ran) seen

@@ -16,13 +16,13 @@ use Rattle.mesa_metadata.specs.mesa_engine_state.mesa_image.Sourced.{HasSources}
 use Rattle.mesa_metadata.specs.mesa_engine_state.mesa_projection.Rows.{Rows}
 use Rattle.mesa_metadata.specs.mesa_engine_state.mesa_trash.Holding.{Among}
 use Rattle.mesa_metadata.specs.mesa_engine_state.mesa_invariant.Books.{AreBooksOf}
-use Rattle.mesa_metadata.specs.mesa_engine_state.mesa_invariant.Walk.{AllFound}
+use Rattle.mesa_metadata.specs.mesa_engine_state.mesa_invariant.Invariant.{AllFound}
 use Rattle.mesa_metadata.specs.mesa_engine_state.EngineState.{books_of, first_id}
 use Rattle.mesa_metadata.specs.mesa_engine_state.Vault.{Starts, IsRead, IsReady, outset_of}
 use Rattle.mesa_metadata.specs.mesa_catalog.Lookups.{generation_of}
 use Rattle.mesa_metadata.specs.Memory.{opened_state}
 
--- What a run of a family finds at its start, where the files have these rows. On every store: the catalogue is that of its start's skeleton and of this run, and has the shape and the ids of one, and what its files are to keep; the disk's clock and counts aren't behind those of the start; the sink has what the start says; and the disk is ready for the run's first record. On a sound store: a read gives an image, the journal that ends here, in this area, holds the catalogue with these rows, and whatever a crash since the start may have left is found.
+-- What a run of a family finds at its start, where the files have these rows. On every store: the catalogue is that of its start's projection and of this run, and has the shape and the ids of one, and what its files are to keep; the disk's clock and counts aren't behind those of the start; the sink has what the start says; and the disk is ready for the run's first record. On a sound store: a read gives an image, the journal that ends here, in this area, holds the catalogue with these rows, and whatever a crash since the start may have left is found.
 pub record IsBegun (n : Starts) (w : Rows) (sound : Bool) (c : Catalog) (area : Area) (end turns : ℕ) (story : Story) (held : Option (List ℕ)) : Type 0 where
   pub bodies : List (List ℕ)
   pub state : AreBooksOf sound (books_of w (opened_state c area end turns)) (n.start w)

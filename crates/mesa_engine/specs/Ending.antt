@@ -7,7 +7,7 @@ use Rattle.mesa_model.specs.declared.entries.Entry.{Entry}
 use Rattle.mesa_metadata.specs.mesa_catalog.mesa_history.Found.{kept_of}
 use Rattle.mesa_metadata.specs.mesa_catalog.mesa_history.Run.{State}
 use Rattle.mesa_metadata.specs.mesa_catalog.mesa_image.Sound.{StandsFor}
-use Rattle.mesa_metadata.specs.mesa_engine_state.mesa_invariant.Walk.{run_at}
+use Rattle.mesa_metadata.specs.mesa_engine_state.mesa_invariant.Invariant.{run_at}
 
 -- Where nothing closed the warehouse, a read gives an image that is sound and stands for the state behind a history.
 abbrev pub ReadsState : Script → State → List Entry → Story → Type 0

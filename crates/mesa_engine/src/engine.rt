@@ -6,7 +6,7 @@ ghost use Rattle.mesa_metadata.specs.mesa_catalog.mesa_history.Refused.{some_ref
 ghost use Rattle.mesa_metadata.specs.mesa_catalog.mesa_history.Run.{begins};
 ghost use Rattle.mesa_metadata.specs.mesa_engine_state.mesa_projection.Rows.{Rows, no_rows};
 ghost use Rattle.mesa_metadata.specs.mesa_engine_state.mesa_invariant.Sight.{schema_changes, tables_seen};
-ghost use Rattle.mesa_metadata.specs.mesa_engine_state.mesa_invariant.Walk.{run_at};
+ghost use Rattle.mesa_metadata.specs.mesa_engine_state.mesa_invariant.Invariant.{run_at};
 
 use crate::Log;
 use mesa_batch::Glance;

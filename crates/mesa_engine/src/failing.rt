@@ -6,7 +6,7 @@ ghost use Rattle.mesa_metadata.specs.mesa_engine_state.EngineState.{books_of};
 ghost use Rattle.mesa_engine.specs.Failure.{cause_in};
 ghost use Rattle.mesa_metadata.specs.mesa_engine_state.mesa_projection.Rows.{Rows, no_rows};
 ghost use Rattle.mesa_metadata.specs.mesa_engine_state.mesa_invariant.Turns.{AnswersDisk, AnswersDraft, Takes};
-ghost use Rattle.mesa_metadata.specs.mesa_engine_state.mesa_invariant.Walk.{run_at};
+ghost use Rattle.mesa_metadata.specs.mesa_engine_state.mesa_invariant.Invariant.{run_at};
 
 use crate::{Engine, Failure, Who};
 use mesa_disk::{Disk, Made};

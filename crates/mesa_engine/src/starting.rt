@@ -13,7 +13,7 @@ ghost use Rattle.mesa_metadata.specs.mesa_engine_state.mesa_projection.Rows.{Row
 ghost use Rattle.mesa_metadata.specs.mesa_engine_state.mesa_invariant.Printing.{IsPrinted, IsPrintedButRows};
 ghost use Rattle.mesa_metadata.specs.mesa_engine_state.mesa_invariant.Turns.{faults_of};
 ghost use Rattle.mesa_metadata.specs.mesa_engine_state.mesa_invariant.Undamaged.{NoneDamaged};
-ghost use Rattle.mesa_metadata.specs.mesa_engine_state.mesa_invariant.Walk.{AllFound, HasCounted, faults_in, run_at};
+ghost use Rattle.mesa_metadata.specs.mesa_engine_state.mesa_invariant.Invariant.{AllFound, HasCounted, faults_in, run_at};
 
 use crate::{Engine, Log};
 use mesa_disk::{Area, Disk, Made};

@@ -10,7 +10,7 @@ use Rattle.mesa_image.proofs.Agreeing.{Agrees, agree_kept}
 use Rattle.mesa_image.specs.Ids.{named}
 use Rattle.mesa_invariant.specs.mesa_projection.Rows.{Rows}
 use Rattle.mesa_trash.specs.Holding.{Held, IsHoldOf}
-use Rattle.mesa_invariant.specs.Walk.{Outset}
+use Rattle.mesa_invariant.specs.Invariant.{Outset}
 use Rattle.mesa_engine_state.specs.EngineState.{HeldPin, EngineState, held_with, next_id, Holder, holders, ids_held}
 use Rattle.mesa_engine_state.specs.Vault.{Origin, IsVault}
 use Rattle.mesa_engine_state.proofs.Filing.{old_agree}

@@ -17,8 +17,8 @@ use Rattle.mesa_invariant.specs.mesa_projection.Rows.{Rows, no_rows}
 use Rattle.mesa_trash.specs.Holding.{Among}
 use Rattle.mesa_trash.proofs.Filing.{filed_first}
 use Rattle.mesa_invariant.specs.Turns.{IsSeen}
-use Rattle.mesa_invariant.specs.Walk.{Outset, IsWalk, Counts, run_of}
-use Rattle.mesa_invariant.proofs.Beginning.{unmoved_walk}
+use Rattle.mesa_invariant.specs.Invariant.{Outset, HoldsInvariant, Counts, run_of}
+use Rattle.mesa_invariant.proofs.Beginning.{unmoved_invariant}
 use Rattle.mesa_engine_state.specs.EngineState.{EngineState, books_of, next_id}
 use Rattle.mesa_image.specs.Countable.{AreCounted}
 use Rattle.mesa_image.specs.Recordable.{AreRecordable}
@@ -31,15 +31,15 @@ abbrev pub first_state : Outset → Catalog → ℕ → Area → ℕ → EngineS
 first_state o c generation area end = record { catalogue = c; generation = generation; pins = []; queries = []; trash = []; leases = o.start.machine.leases; given = []; closed = None; adopted = 0; area = area; end = end }
 
 -- Before the first turn.
-pub started_vault : (o : Outset) (g : Origin) (sound : Bool) (c : Catalog) (area : Area) (end : ℕ) (story : Story) (held : Option (List ℕ)) (rows : Rows) (bodies : List (List ℕ)) → IsWalk o sound (books_of rows (first_state o c g.generation area end)) story held [] true false
+pub started_vault : (o : Outset) (g : Origin) (sound : Bool) (c : Catalog) (area : Area) (end : ℕ) (story : Story) (held : Option (List ℕ)) (rows : Rows) (bodies : List (List ℕ)) → HoldsInvariant o sound (books_of rows (first_state o c g.generation area end)) story held [] true false
     → c.run ≡ g.run → HasRanges o.start → o.start.machine.leases.granted ≡ 0 → (IsTrue sound → IsHeld story area bodies end c rows) → IsCatalog c → HasOwnIds c → AreCounted c → AreRecordable c → ((id : ℕ) → Among id (named c) → id < next_id (first_state o c g.generation area end))
     → IsReady (first_state o c g.generation area end) story → (IsTrue sound → AreStocked rows c) → (IsTrue sound → HasSources rows g.found c) → (IsTrue sound → IsRead story) → IsVault o g sound (first_state o c g.generation area end) story held [] true false
 unfolding count_in written_in
-started_vault o g sound c area end story held rows bodies walk numbered ranges none stands shaped own columns recordable named_given ready stocked sourced read = record {
+started_vault o g sound c area end story held rows bodies invariant numbered ranges none stands shaped own columns recordable named_given ready stocked sourced read = record {
   rows = rows;
   bodies = bodies;
   seen = λ position. c;
-  walk = walk;
+  invariant = invariant;
   ranges = ranges;
   stands = λ ok is. stands ok;
   shaped = shaped;
@@ -63,7 +63,7 @@ unmoved_vault o g sound l story new held h running refused same counts v = recor
   rows = v.rows;
   bodies = v.bodies;
   seen = v.seen;
-  walk = unmoved_walk o sound (books_of v.rows l) story new held h running refused same counts v.walk;
+  invariant = unmoved_invariant o sound (books_of v.rows l) story new held h running refused same counts v.invariant;
   ranges = v.ranges;
   stands = λ ok is. held_unmoved story new same l.area v.bodies l.end l.catalogue v.rows (v.stands ok is);
   shaped = v.shaped;
@@ -83,7 +83,7 @@ unmoved_vault o g sound l story new held h running refused same counts v = recor
 
 -- What a session relies on.
 pub vault_seen : (o : Outset) (g : Origin) (sound : Bool) (l : EngineState) (story : Story) (held : Option (List ℕ)) (h : List Entry) (running refused : Bool) (clock : ℕ) → IsVault o g sound l story held h running refused → IsSeen o.script o.start (record { history = h; running = running; clock = clock })
-vault_seen o g sound l story held h running refused clock v = record { fits = v.walk.legal; short = v.walk.short; sink = v.walk.sink }
+vault_seen o g sound l story held h running refused clock v = record { fits = v.invariant.legal; short = v.invariant.short; sink = v.invariant.sink }
 
 -- The same of a family of starts, at the one without rows.
 pub vault_at_seen : (n : Starts) (l : EngineState) (story : Story) (held : Option (List ℕ)) (h : List Entry) (running refused : Bool) (clock : ℕ) → IsVaultAt n l story held h running refused → IsSeen n.script (n.start no_rows) (record { history = h; running = running; clock = clock })

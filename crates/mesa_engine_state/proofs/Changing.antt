@@ -50,32 +50,32 @@ use Rattle.mesa_invariant.specs.mesa_projection.Bare.{bare, bare_table}
 use Rattle.mesa_invariant.specs.mesa_projection.Rows.{Rows}
 use Rattle.mesa_invariant.specs.Books.{Books, AreBooksOf}
 use Rattle.mesa_invariant.specs.Changes.{IsChange}
-use Rattle.mesa_invariant.specs.Walk.{Outset}
+use Rattle.mesa_invariant.specs.Invariant.{Outset}
 use Rattle.mesa_invariant.proofs.Making.{alter_made, expire_made, expire_table_made, load_made, made_change, table_made, view_made}
-use Rattle.mesa_invariant.proofs.Skeletons.{named_is}
-use Rattle.mesa_engine_state.specs.EngineState.{EngineState, books_of, next_id, skeleton_of, skeletons}
+use Rattle.mesa_invariant.proofs.Projections.{named_is}
+use Rattle.mesa_engine_state.specs.EngineState.{EngineState, books_of, next_id, projection_of, projections}
 use Rattle.mesa_engine_state.specs.Recorded.{recorded_state}
 use Rattle.mesa_engine_state.specs.Vault.{Origin, IsVault}
 use Rattle.mesa_engine_state.proofs.Agreeing.{named_agree, same_kept, same_pins}
 use Rattle.mesa_engine_state.proofs.Pins.{bare_pins, bare_tables}
 
--- ---- skeletons of tables
+-- ---- projections of tables
 
--- a table that is loaded has the skeleton that its own would have
+-- a table that is loaded has the projection that its own would have
 loaded_bare : (batch : List Placed) (number : ℕ) (ts : List Table) → map bare_table (tables_loaded batch number ts) ≡ map bare_table (tables_loaded batch number (map bare_table ts))
 loaded_bare batch number [] = refl
 loaded_bare batch number (t ∷ ts) = ap (λ (x : List Table). bare_table (table_loaded t (rows_for number batch)) ∷ x) (loaded_bare batch (number + 1) ts)
 
-bare_kept : (rows : Rows) (next : ℕ) (ts : List Stock) → map bare_table (map (table_of rows next) ts) ≡ map skeleton_of ts
+bare_kept : (rows : Rows) (next : ℕ) (ts : List Stock) → map bare_table (map (table_of rows next) ts) ≡ map projection_of ts
 bare_kept rows next [] = refl
-bare_kept rows next (t ∷ ts) = ap (λ (x : List Table). skeleton_of t ∷ x) (bare_kept rows next ts)
+bare_kept rows next (t ∷ ts) = ap (λ (x : List Table). projection_of t ∷ x) (bare_kept rows next ts)
 
 -- the table of a number without its contents
-at_skeleton : (c : Catalog) (number : ℕ) → table_at (skeletons c) number ≡ skeleton_of (stock_at c number)
-at_skeleton c number = at_same skeleton_of c.tables number no_stock
+at_projection : (c : Catalog) (number : ℕ) → table_at (projections c) number ≡ projection_of (stock_at c number)
+at_projection c number = at_same projection_of c.tables number no_stock
 
-set_skeleton : (c : Catalog) (number : ℕ) (t : Table) (u : Stock) → bare_table t ≡ skeleton_of u → map bare_table (slice_set (map skeleton_of c.tables) number t) ≡ map skeleton_of (slice_set c.tables number u)
-set_skeleton c number t u is = set_same bare_table (map skeleton_of c.tables) number t ∙ (λ i. slice_set (bare_tables c.tables i) number (is i)) ∙ sym (set_same skeleton_of c.tables number u)
+set_projection : (c : Catalog) (number : ℕ) (t : Table) (u : Stock) → bare_table t ≡ projection_of u → map bare_table (slice_set (map projection_of c.tables) number t) ≡ map projection_of (slice_set c.tables number u)
+set_projection c number t u is = set_same bare_table (map projection_of c.tables) number t ∙ (λ i. slice_set (bare_tables c.tables i) number (is i)) ∙ sym (set_same projection_of c.tables number u)
 
 -- ---- ranges
 
@@ -93,14 +93,14 @@ loaded_ranges rows c parts batch is brings = ap (λ (k : Kept). k.ranges) (publi
 -- ---- batches
 
 -- the tables of a batch that is loaded, without their contents
-loaded_tables : (rows : Rows) (c : Catalog) (parts : List Part) (batch : List Placed) → IsCatalog c → BringsAll rows parts batch 0 c.tables → map bare_table (tables_loaded batch 0 (map skeleton_of c.tables)) ≡ map skeleton_of (stocks_loaded parts 0 c.tables)
+loaded_tables : (rows : Rows) (c : Catalog) (parts : List Part) (batch : List Placed) → IsCatalog c → BringsAll rows parts batch 0 c.tables → map bare_table (tables_loaded batch 0 (map projection_of c.tables)) ≡ map projection_of (stocks_loaded parts 0 c.tables)
 unfolding kept_of
 loaded_tables rows c parts batch is brings =
     ap (λ ts. map bare_table (tables_loaded batch 0 ts)) (sym (bare_kept rows c.next c.tables)) ∙ sym (loaded_bare batch 0 (map (table_of rows c.next) c.tables))
     ∙ ap (λ (k : Kept). map bare_table k.store.tables) (sym (publish_moves rows c 0 parts batch is brings)) ∙ bare_kept rows (c.next + 1) (stocks_loaded parts 0 c.tables)
 
 -- the tables by which a load's rows are read
-pub tables_are : (c : Catalog) → tables_named (skeletons c) ≡ tables_read c
+pub tables_are : (c : Catalog) → tables_named (projections c) ≡ tables_read c
 tables_are c = map-map _ _ c.tables
 
 read_same : (a b : List Placed) (x y : List Named) (words : List RowWords) → x ≡ y → batch_of x words ≡ Ok a → batch_of y words ≡ Ok b → a ≡ b
@@ -123,9 +123,9 @@ module _ (o : Outset) (g : Origin) (sound : Bool) (l : EngineState) (story : Sto
   pins_same : old.pins ≡ (new_of c).pins
   pins_same = sym (same_pins o g sound l story held h running refused v later agree)
 
-  -- books of a warehouse that has the skeletons of a catalogue's tables
-  skeleton_is : (made : Warehouse) (tables : List Table) (floor next : ℕ) (x : Catalog) → made ≡ record old.bare { store = record { tables = tables; floor = floor }; next = next } → map bare_table tables ≡ map skeleton_of x.tables → floor ≡ x.floor → next ≡ x.next → bare made ≡ (new_of x).bare
-  skeleton_is made tables floor next x is same floor_is next_is = ap bare is ∙ (λ i. record (new_of x).bare { store = record { tables = same i; floor = floor_is i }; next = next_is i; pins = bare_pins l.pins i })
+  -- books of a warehouse that has the projections of a catalogue's tables
+  projection_is : (made : Warehouse) (tables : List Table) (floor next : ℕ) (x : Catalog) → made ≡ record old.bare { store = record { tables = tables; floor = floor }; next = next } → map bare_table tables ≡ map projection_of x.tables → floor ≡ x.floor → next ≡ x.next → bare made ≡ (new_of x).bare
+  projection_is made tables floor next x is same floor_is next_is = ap bare is ∙ (λ i. record (new_of x).bare { store = record { tables = same i; floor = floor_is i }; next = next_is i; pins = bare_pins l.pins i })
 
   -- ---- an expiry
 
@@ -133,18 +133,18 @@ module _ (o : Outset) (g : Origin) (sound : Bool) (l : EngineState) (story : Sto
       → IsChange sound old (new_of (applied c (record_of.Expire version))) (λ w. expire_all w version) (reply.Expired None version)
   expire_change version lt made done =
       made_change sound old (new_of (applied c (record_of.Expire version))) (λ w. expire_all w version) (reply.Expired None version) (λ w. expire-bare w None version) made done was_open refl
-      (skeleton_is made _ version c.next (applied c (record_of.Expire version)) (expire_made old.bare version made (reply.Expired None version) done).0 tables refl refl)
+      (projection_is made _ version c.next (applied c (record_of.Expire version)) (expire_made old.bare version made (reply.Expired None version) done).0 tables refl refl)
       (λ i. record { ranges = sym (map-map ranges_of (stock_from version) c.tables) i; leases = l.leases }) (λ ok. pins_same)
       (λ s after had is ok. (let m = expire_made s.warehouse version after (reply.Expired None version) is in
       (ap (λ (w : Warehouse). kept_by (stepped s w (reply.Expired None version))) m.0 ∙ ap (λ k. kept_expired k version) (had.rows ok ∙ sym kept_same) ∙ sym (expire_moves later c version lt), ap (λ (w : Warehouse). w.pins) m.0)))
     where
-      tables : map bare_table (store_from (skeletons c) version).tables ≡ map skeleton_of (map (stock_from version) c.tables)
-      tables = map-map _ _ (map skeleton_of c.tables) ∙ map-map _ _ c.tables ∙ sym (map-map skeleton_of (stock_from version) c.tables)
+      tables : map bare_table (store_from (projections c) version).tables ≡ map projection_of (map (stock_from version) c.tables)
+      tables = map-map _ _ (map projection_of c.tables) ∙ map-map _ _ c.tables ∙ sym (map-map projection_of (stock_from version) c.tables)
 
   -- the number of a table that a state and its books find by a name
   number_same : (s : State) (name : List ℕ) (n number : ℕ) → AreBooksOf sound old s → table_number s.warehouse.store name ≡ Some n → table_number old.bare.store name ≡ Some number → n ≡ number
   number_same s name n number had one two =
-      let both : Some n ≡ Some number = sym one ∙ number_bare s.warehouse.store name ∙ ap (λ (w : Warehouse). table_number w.store name) had.skeleton ∙ two in cc
+      let both : Some n ≡ Some number = sym one ∙ number_bare s.warehouse.store name ∙ ap (λ (w : Warehouse). table_number w.store name) had.projection ∙ two in cc
 
   -- ---- an expiry of one table
 
@@ -153,8 +153,8 @@ module _ (o : Outset) (g : Origin) (sound : Bool) (l : EngineState) (story : Sto
         → IsChange sound old (new_of (applied c (record_of.ExpireTable number version))) (λ w. expire_table w name version) (reply.Expired (Some name) version)
     expire_table_change there lt made done =
         made_change sound old (new_of (applied c (record_of.ExpireTable number version))) (λ w. expire_table w name version) (reply.Expired (Some name) version) (λ w. expire-bare w (Some name) version) made done was_open refl
-        (skeleton_is made _ c.floor c.next (applied c (record_of.ExpireTable number version)) made_is
-        (set_skeleton c number (table_from version (table_at old.bare.store number)) (stock_from version (stock_at c number)) (ap (λ (t : Table). bare_table (table_from version t)) (at_skeleton c number))) refl refl)
+        (projection_is made _ c.floor c.next (applied c (record_of.ExpireTable number version)) made_is
+        (set_projection c number (table_from version (table_at old.bare.store number)) (stock_from version (stock_at c number)) (ap (λ (t : Table). bare_table (table_from version t)) (at_projection c number))) refl refl)
         (λ i. record { ranges = sym (set_ranges c number (stock_from version (stock_at c number)) refl) i; leases = l.leases }) (λ ok. pins_same)
         (λ s after had is ok. (let m = expire_table_made s.warehouse name version after (reply.Expired (Some name) version) is in
         let after_is : after ≡ with_table s.warehouse number (table_from version (table_at s.warehouse.store number)) = m.2 ∙ ap (λ n. with_table s.warehouse n (table_from version (table_at s.warehouse.store n))) (number_same s name m.0 number had m.1 found) in
@@ -171,7 +171,7 @@ module _ (o : Outset) (g : Origin) (sound : Bool) (l : EngineState) (story : Sto
       → IsChange sound old (new_of (applied c (record_of.Table words.table (columns_asked words).keys (columns_asked words).values))) (λ w. make_table w words) (reply.Table words.table)
   table_change words made done =
       made_change sound old (new_of (applied c (record_of.Table words.table (columns_asked words).keys (columns_asked words).values))) (λ w. make_table w words) (reply.Table words.table) (λ w. table-bare w words) made done was_open refl
-      (skeleton_is made _ c.floor c.next (applied c (record_of.Table words.table (columns_asked words).keys (columns_asked words).values)) made_is tables refl refl)
+      (projection_is made _ c.floor c.next (applied c (record_of.Table words.table (columns_asked words).keys (columns_asked words).values)) made_is tables refl refl)
       (ap (λ (w : Warehouse). with_new_table old.machine w.store.floor) made_is ∙ (λ i. record { ranges = sym (table_ranges later c words.table (columns_asked words)) i; leases = l.leases })) (λ ok. pins_same)
       (λ s after had is ok. (let m = table_made s.warehouse words after (reply.Table words.table) is in (
         ap (λ (w : Warehouse). kept_by (stepped s w (reply.Table words.table))) m.0 ∙ ap (λ k. kept_made k words.table (columns_asked words)) (had.rows ok ∙ sym kept_same)
@@ -179,12 +179,12 @@ module _ (o : Outset) (g : Origin) (sound : Bool) (l : EngineState) (story : Sto
         ap (λ (w : Warehouse). w.pins) m.0,
       )))
     where
-      made_is : made ≡ record old.bare { store = record { tables = map skeleton_of c.tables ++ new_table old.bare words.table (columns_asked words) ∷ []; floor = c.floor }; next = c.next }
+      made_is : made ≡ record old.bare { store = record { tables = map projection_of c.tables ++ new_table old.bare words.table (columns_asked words) ∷ []; floor = c.floor }; next = c.next }
       made_is = (table_made old.bare words made (reply.Table words.table) done).0
 
-      tables : map bare_table (map skeleton_of c.tables ++ new_table old.bare words.table (columns_asked words) ∷ []) ≡ map skeleton_of (c.tables ++ new_stock c words.table (columns_asked words) ∷ [])
-      tables = append_same bare_table (map skeleton_of c.tables) (new_table old.bare words.table (columns_asked words) ∷ []) ∙ (λ i. bare_tables c.tables i ++ skeleton_of (new_stock c words.table (columns_asked words)) ∷ [])
-          ∙ sym (append_same skeleton_of c.tables (new_stock c words.table (columns_asked words) ∷ []))
+      tables : map bare_table (map projection_of c.tables ++ new_table old.bare words.table (columns_asked words) ∷ []) ≡ map projection_of (c.tables ++ new_stock c words.table (columns_asked words) ∷ [])
+      tables = append_same bare_table (map projection_of c.tables) (new_table old.bare words.table (columns_asked words) ∷ []) ∙ (λ i. bare_tables c.tables i ++ projection_of (new_stock c words.table (columns_asked words)) ∷ [])
+          ∙ sym (append_same projection_of c.tables (new_stock c words.table (columns_asked words) ∷ []))
 
   -- ---- a batch
 
@@ -192,7 +192,7 @@ module _ (o : Outset) (g : Origin) (sound : Bool) (l : EngineState) (story : Sto
       → IsChange sound old (new_of (applied c (record_of.Publish version parts))) (λ w. load_batch w words) (reply.Loaded c.next (length batch))
   load_change words batch read version parts brings made done =
       made_change sound old (new_of (applied c (record_of.Publish version parts))) (λ w. load_batch w words) (reply.Loaded c.next (length batch)) (λ w. load-bare w words) made done was_open refl
-      (skeleton_is made _ c.floor (c.next + 1) (applied c (record_of.Publish version parts)) made_is (loaded_tables later c parts batch v.shaped brings) refl refl)
+      (projection_is made _ c.floor (c.next + 1) (applied c (record_of.Publish version parts)) made_is (loaded_tables later c parts batch v.shaped brings) refl refl)
       (λ i. record { ranges = sym (loaded_ranges later c parts batch v.shaped brings) i; leases = l.leases }) (λ ok. pins_same)
       (λ s after had is ok. (let m = load_made s.warehouse words after (reply.Loaded c.next (length batch)) is in
       let same : m.0 ≡ batch = read_same m.0 batch _ (tables_read c) words (named_is sound old s had ∙ tables_are c) m.1 read in
@@ -207,7 +207,7 @@ module _ (o : Outset) (g : Origin) (sound : Bool) (l : EngineState) (story : Sto
   -- its lineage
   lineage_same : (s : State) (number : ℕ) → AreBooksOf sound old s → (table_at s.warehouse.store number).lineage ≡ (stock_at c number).lineage
   lineage_same s number had =
-      ap (λ (t : Table). t.lineage) (sym (at_same bare_table s.warehouse.store.tables number no_table)) ∙ ap (λ (w : Warehouse). (table_at w.store number).lineage) had.skeleton ∙ ap (λ (t : Table). t.lineage) (at_skeleton c number)
+      ap (λ (t : Table). t.lineage) (sym (at_same bare_table s.warehouse.store.tables number no_table)) ∙ ap (λ (w : Warehouse). (table_at w.store number).lineage) had.projection ∙ ap (λ (t : Table). t.lineage) (at_projection c number)
 
   module _ (words : ViewWords) (number : ℕ) (found : table_number old.bare.store words.table ≡ Some number) where
     abbrev view : View
@@ -220,8 +220,8 @@ module _ (o : Outset) (g : Origin) (sound : Bool) (l : EngineState) (story : Sto
         → IsChange sound old (new_of (applied c (record_of.View number words.view words.keys words.values))) (λ w. make_view w words) (reply.View words.view)
     view_change there made done =
         made_change sound old (new_of (applied c (record_of.View number words.view words.keys words.values))) (λ w. make_view w words) (reply.View words.view) (λ w. view-bare w words) made done was_open refl
-        (skeleton_is made _ c.floor c.next (applied c (record_of.View number words.view words.keys words.values)) made_is
-        (set_skeleton c number (viewed (table_at old.bare.store number)) (stock_viewed (stock_at c number) words.view words.keys words.values) (ap (λ (t : Table). bare_table (viewed t)) (at_skeleton c number))) refl refl)
+        (projection_is made _ c.floor c.next (applied c (record_of.View number words.view words.keys words.values)) made_is
+        (set_projection c number (viewed (table_at old.bare.store number)) (stock_viewed (stock_at c number) words.view words.keys words.values) (ap (λ (t : Table). bare_table (viewed t)) (at_projection c number))) refl refl)
         (λ i. record { ranges = sym (set_ranges c number (stock_viewed (stock_at c number) words.view words.keys words.values) refl) i; leases = l.leases }) (λ ok. pins_same)
         (λ s after had is ok. (let m = view_made s.warehouse words after (reply.View words.view) is in
         let after_is : after ≡ with_table s.warehouse number (viewed (table_at s.warehouse.store number)) = m.2 ∙ ap (λ n. with_table s.warehouse n (viewed (table_at s.warehouse.store n))) (number_same s words.table m.0 number had m.1 found) in
@@ -245,8 +245,8 @@ module _ (o : Outset) (g : Origin) (sound : Bool) (l : EngineState) (story : Sto
         → IsChange sound old (new_of (applied c (record_of.Alter number change))) (λ w. alter_table w words) tells
     alter_change fit typed made done =
         made_change sound old (new_of (applied c (record_of.Alter number change))) (λ w. alter_table w words) tells (λ w. alter-bare w words) made done was_open refl
-        (skeleton_is made _ c.floor c.next (applied c (record_of.Alter number change)) made_is
-        (set_skeleton c number (table_changed (table_at old.bare.store number) change) (stock_changed (stock_at c number) change) (ap (λ (t : Table). bare_table (table_changed t change)) (at_skeleton c number))) refl refl)
+        (projection_is made _ c.floor c.next (applied c (record_of.Alter number change)) made_is
+        (set_projection c number (table_changed (table_at old.bare.store number) change) (stock_changed (stock_at c number) change) (ap (λ (t : Table). bare_table (table_changed t change)) (at_projection c number))) refl refl)
         (λ i. record { ranges = sym (set_ranges c number (stock_changed (stock_at c number) change) refl) i; leases = l.leases }) (λ ok. pins_same)
         (λ s after had is ok. (let m = alter_made s.warehouse words after tells is in
         let same : m.0 ≡ number = number_same s words.table m.0 number had m.1 found in
@@ -260,5 +260,5 @@ module _ (o : Outset) (g : Origin) (sound : Bool) (l : EngineState) (story : Sto
         made_is : made ≡ with_table old.bare number (table_changed (table_at old.bare.store number) change)
         made_is = let m = alter_made old.bare words made tells done in
             let same : m.0 ≡ number = (let both : Some m.0 ≡ Some number = sym m.1 ∙ found in cc) in
-            let which : m.2 ≡ change = change_same (table_at old.bare.store m.0).lineage m.2 (ap (λ n. (table_at old.bare.store n).lineage) same ∙ ap (λ (t : Table). t.lineage) (at_skeleton c number)) m.3 in
+            let which : m.2 ≡ change = change_same (table_at old.bare.store m.0).lineage m.2 (ap (λ n. (table_at old.bare.store n).lineage) same ∙ ap (λ (t : Table). t.lineage) (at_projection c number)) m.3 in
             m.4 ∙ (λ i. with_table old.bare (same i) (table_changed (table_at old.bare.store (same i)) (which i)))

@@ -11,25 +11,25 @@ use Rattle.mesa_invariant.specs.mesa_projection.Bare.{bare_pin, bare_store, bare
 use Rattle.mesa_invariant.specs.mesa_projection.Rows.{Rows}
 use Rattle.mesa_trash.specs.declared.trash.Hold.{Hold}
 use Rattle.mesa_invariant.specs.Books.{pinned_books, released_books}
-use Rattle.mesa_engine_state.specs.EngineState.{HeldPin, EngineState, skeleton_at, skeleton_of, skeletons, skeletons_at, bare_held, held_with, books_of}
+use Rattle.mesa_engine_state.specs.EngineState.{HeldPin, EngineState, projection_at, projection_of, projections, projections_at, bare_held, held_with, books_of}
 use Rattle.mesa_engine_state.specs.Turned.{pin_now, pinned_state, is_held_pin, released_state}
 
--- ---- skeletons
+-- ---- projections
 
 -- nothing is to be taken from tables without contents
-pub bare_tables : (ts : List Stock) → map bare_table (map skeleton_of ts) ≡ map skeleton_of ts
+pub bare_tables : (ts : List Stock) → map bare_table (map projection_of ts) ≡ map projection_of ts
 bare_tables [] = refl
-bare_tables (t ∷ ts) = ap (λ (x : List Table). skeleton_of t ∷ x) (bare_tables ts)
+bare_tables (t ∷ ts) = ap (λ (x : List Table). projection_of t ∷ x) (bare_tables ts)
 
-bare_again : (c : Catalog) → bare_store (skeletons c) ≡ skeletons c
+bare_again : (c : Catalog) → bare_store (projections c) ≡ projections c
 bare_again c = ap (λ (x : List Table). record { tables = x; floor = c.floor }) (bare_tables c.tables)
 
 -- nor from those of one version
-bare_tables_at : (version : ℕ) (ts : List Stock) → map bare_table (map (skeleton_at version) ts) ≡ map (skeleton_at version) ts
+bare_tables_at : (version : ℕ) (ts : List Stock) → map bare_table (map (projection_at version) ts) ≡ map (projection_at version) ts
 bare_tables_at version [] = refl
-bare_tables_at version (t ∷ ts) = ap (λ (x : List Table). skeleton_at version t ∷ x) (bare_tables_at version ts)
+bare_tables_at version (t ∷ ts) = ap (λ (x : List Table). projection_at version t ∷ x) (bare_tables_at version ts)
 
-bare_again_at : (version : ℕ) (c : Catalog) → bare_store (skeletons_at version c) ≡ skeletons_at version c
+bare_again_at : (version : ℕ) (c : Catalog) → bare_store (projections_at version c) ≡ projections_at version c
 bare_again_at version c = ap (λ (x : List Table). record { tables = x; floor = version }) (bare_tables_at version c.tables)
 
 pub bare_pins : (pins : List HeldPin) → map bare_pin (map bare_held pins) ≡ map bare_held pins
@@ -37,18 +37,18 @@ bare_pins [] = refl
 bare_pins (p ∷ pins) = λ i. record { session = p.session; token = p.token; version = p.version; store = bare_again_at p.version p.copy i } ∷ bare_pins pins i
 
 -- nor from a copy of them at a version
-bare_copy : (s : Store) (version : ℕ) (ts : List Stock) → map bare_table (store_at (record { tables = map skeleton_of ts; floor = s.floor }) version).tables ≡ map (skeleton_at version) ts
-bare_copy s version ts = map-map _ _ (map skeleton_of ts) ∙ map-map _ _ ts
+bare_copy : (s : Store) (version : ℕ) (ts : List Stock) → map bare_table (store_at (record { tables = map projection_of ts; floor = s.floor }) version).tables ≡ map (projection_at version) ts
+bare_copy s version ts = map-map _ _ (map projection_of ts) ∙ map-map _ _ ts
 
 -- ---- a pin more
 
 module _ (rows : Rows) (l : EngineState) (session version : ℕ) (hold : Hold) where
   -- the pin that the books make
   abbrev made : Pin
-  made = record { session = session; token = (pin_now l session version hold).token; version = version; store = store_at (skeletons l.catalogue) version }
+  made = record { session = session; token = (pin_now l session version hold).token; version = version; store = store_at (projections l.catalogue) version }
 
-  copy_is : bare_store made.store ≡ skeletons_at version l.catalogue
-  copy_is = ap (λ (x : List Table). record { tables = x; floor = version }) (bare_copy (skeletons l.catalogue) version l.catalogue.tables)
+  copy_is : bare_store made.store ≡ projections_at version l.catalogue
+  copy_is = ap (λ (x : List Table). record { tables = x; floor = version }) (bare_copy (projections l.catalogue) version l.catalogue.tables)
 
   pinned_bare : map bare_held (l.pins ++ pin_now l session version hold ∷ []) ≡ map bare_pin (map bare_held l.pins ++ made ∷ [])
   pinned_bare = map-append bare_held l.pins (pin_now l session version hold ∷ [])

@@ -9,7 +9,7 @@ use Rattle.mesa_image.specs.mesa_history.Run.{begins}
 use Rattle.mesa_image.specs.Catalog.{Catalog}
 use Rattle.mesa_image.specs.Ids.{named}
 use Rattle.mesa_trash.specs.Holding.{AreFiled}
-use Rattle.mesa_invariant.specs.Walk.{Outset, WalksOn}
+use Rattle.mesa_invariant.specs.Invariant.{Outset, KeepsInvariant}
 use Rattle.mesa_engine_state.specs.EngineState.{HeldPin, OpenQuery, EngineState, books_of, next_id, most_files, holders, ids_held}
 use Rattle.mesa_image.specs.Sourced.{HasSources}
 use Rattle.mesa_engine_state.specs.Vault.{Origin, IsReady, IsVault}
@@ -27,14 +27,14 @@ module _ (o : Outset) (g : Origin) (sound : Bool) (l : EngineState) (story : Sto
     abbrev after : EngineState
     after = record l { pins = pins; queries = queries; leases = leases; given = given; closed = closed }
 
-    pub quiet_vault : (e : Entry) (new : Story) (new_held : Option (List ℕ)) (now told : Bool) → WalksOn o sound (books_of v.rows after) new new_held h e now told → Unmoved story new
+    pub quiet_vault : (e : Entry) (new : Story) (new_held : Option (List ℕ)) (now told : Bool) → KeepsInvariant o sound (books_of v.rows after) new new_held h e now told → Unmoved story new
         → (closed ≡ None → l.closed ≡ None) → leases.granted ≤ l.leases.granted + 1 → AllByRecursion (λ n. n ≤ length h + 1) given → (seen : ℕ → Catalog) → AreKept v.rows sound story.told seen after (length h + 1)
         → IsVault o g sound after new new_held (h ++ e ∷ []) now told
     quiet_vault e new new_held now told on same opened granted counts seen kept = record {
       rows = v.rows;
       bodies = v.bodies;
       seen = seen;
-      walk = on.walk;
+      invariant = on.invariant;
       ranges = v.ranges;
       stands = λ ok is. held_unmoved story new same l.area v.bodies l.end l.catalogue v.rows (v.stands ok (opened is));
       shaped = v.shaped;

@@ -21,9 +21,9 @@ use Rattle.mesa_image.specs.Rewritten.{Rewritten, base_rewritten, recasting_of}
 use Rattle.mesa_invariant.proofs.mesa_projection.Lists.{set_same}
 use Rattle.mesa_invariant.specs.mesa_projection.Rows.{Rows}
 use Rattle.mesa_invariant.specs.Books.{Books, recast_books}
-use Rattle.mesa_invariant.specs.Walk.{Outset}
+use Rattle.mesa_invariant.specs.Invariant.{Outset}
 use Rattle.mesa_invariant.specs.Works.{Regroups}
-use Rattle.mesa_engine_state.specs.EngineState.{EngineState, books_of, next_id, skeleton_of, skeletons}
+use Rattle.mesa_engine_state.specs.EngineState.{EngineState, books_of, next_id, projection_of, projections}
 use Rattle.mesa_engine_state.specs.Recorded.{recorded_state}
 use Rattle.mesa_engine_state.specs.Vault.{Origin, IsVault}
 use Rattle.mesa_engine_state.proofs.Agreeing.{same_kept, same_pins}
@@ -54,8 +54,8 @@ module _ (o : Outset) (g : Origin) (sound : Bool) (l : EngineState) (story : Sto
   pub recast_is : (IsTrue sound → Moves later c (record_of.Recast k) (kept_recast (kept_of later c) claim.table r)) → Regroups sound old claim r (kept_of later x)
   recast_is moves s had ok = ap (λ (kept : Kept). kept_recast kept claim.table r) (had.rows ok ∙ sym (same_kept o g sound l story held h running refused v later agree)) ∙ sym (moves ok).kept
 
-  tables : map skeleton_of (slice_set c.tables claim.table (stock_recast c.next t k)) ≡ slice_set (map skeleton_of c.tables) claim.table (table_recast (table_at (skeletons c) claim.table) r)
-  tables = set_same skeleton_of c.tables claim.table (stock_recast c.next t k) ∙ ap (λ (u : Table). slice_set (map skeleton_of c.tables) claim.table (table_recast u r)) (sym (map_at skeleton_of c.tables claim.table no_stock))
+  tables : map projection_of (slice_set c.tables claim.table (stock_recast c.next t k)) ≡ slice_set (map projection_of c.tables) claim.table (table_recast (table_at (projections c) claim.table) r)
+  tables = set_same projection_of c.tables claim.table (stock_recast c.next t k) ∙ ap (λ (u : Table). slice_set (map projection_of c.tables) claim.table (table_recast u r)) (sym (map_at projection_of c.tables claim.table no_stock))
 
   ranges : map ranges_of (slice_set c.tables claim.table (stock_recast c.next t k)) ≡ slice_set (map ranges_of c.tables) claim.table (without_cumulatives (slice_index_or (map ranges_of c.tables) claim.table (ranges_of no_stock)))
   ranges = map-set ranges_of c.tables claim.table (stock_recast c.next t k)

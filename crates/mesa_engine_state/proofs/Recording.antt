@@ -23,7 +23,7 @@ use Rattle.mesa_trash.specs.declared.trash.Dropped.{Dropped}
 use Rattle.mesa_trash.specs.Holding.{Among, Held, AreFiled, IsHoldOf, ids_of, freed, kept}
 use Rattle.mesa_trash.proofs.Adopting.{fresh_stays, named_stays}
 use Rattle.mesa_invariant.specs.Sight.{is_of_schemas, tells_of_schemas, schema_changes}
-use Rattle.mesa_invariant.specs.Walk.{Outset, WalksOn, WalksWith}
+use Rattle.mesa_invariant.specs.Invariant.{Outset, KeepsInvariant, KeepsInvariantTelling}
 use Rattle.mesa_engine_state.specs.EngineState.{EngineState, books_of, first_id, next_id, past_id, most_files, Holder, holders, ids_held, files_held}
 use Rattle.mesa_engine_state.specs.Recorded.{waiting, removed_by, left_by, Adopts, IsRecorded, recorded_state, failed_state}
 use Rattle.mesa_image.specs.Sourced.{HasSources}
@@ -110,13 +110,13 @@ module _ (o : Outset) (g : Origin) (sound : Bool) (l : EngineState) (story : Sto
       after = recorded_state l c generation waits leases adopted end
 
       -- The device work of the turn is done, and the state has its record.
-      pub recorded_vault : WalksWith o sound (books_of later after) new new_held h e now told rep → (IsTrue sound → l.closed ≡ None → IsHeld new l.area bodies end c later) → (IsTrue sound → AreStocked later c) → (l.closed ≡ None → end < new.len l.area)
+      pub recorded_vault : KeepsInvariantTelling o sound (books_of later after) new new_held h e now told rep → (IsTrue sound → l.closed ≡ None → IsHeld new l.area bodies end c later) → (IsTrue sound → AreStocked later c) → (l.closed ≡ None → end < new.len l.area)
           → leases.granted ≤ l.leases.granted → generation ≡ l.generation + one_if (is_of_schemas rep) → (IsTrue sound → HasSources later (written_by o g.found (h ++ e ∷ [])) c) → IsVault o g sound after new new_held (h ++ e ∷ []) now told
       recorded_vault on stands stocked long granted counted sourced = record {
         rows = later;
         bodies = bodies;
         seen = v.seen;
-        walk = on.walk;
+        invariant = on.invariant;
         ranges = v.ranges;
         stands = stands;
         shaped = recorded.shaped;
@@ -151,13 +151,13 @@ module _ (o : Outset) (g : Origin) (sound : Bool) (l : EngineState) (story : Sto
   -- ---- the device work failed
 
   -- The device work of the turn failed: the books close, whatever was brought is lost, and the lease of a work may have ended.
-  pub failed_vault : (position : ℕ) (leases : Book) → WalksOn o sound (books_of v.rows (failed_state l position leases adopted)) new new_held h e now told → leases.granted ≤ l.leases.granted
+  pub failed_vault : (position : ℕ) (leases : Book) → KeepsInvariant o sound (books_of v.rows (failed_state l position leases adopted)) new new_held h e now told → leases.granted ≤ l.leases.granted
       → IsVault o g sound (failed_state l position leases adopted) new new_held (h ++ e ∷ []) now told
   failed_vault position leases on granted = record {
     rows = v.rows;
     bodies = v.bodies;
     seen = v.seen;
-    walk = on.walk;
+    invariant = on.invariant;
     ranges = v.ranges;
     stands = λ ok is. absurd (let never : Some position ≡ None = is in cc);
     shaped = v.shaped;

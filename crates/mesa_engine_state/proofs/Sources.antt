@@ -27,8 +27,8 @@ use Rattle.mesa_image.specs.Brought.{BringsAll}
 use Rattle.mesa_image.specs.Sourced.{HasSources, tables_read, written_behind}
 use Rattle.mesa_invariant.specs.mesa_projection.Rows.{Rows}
 use Rattle.mesa_invariant.specs.Causes.{told_at}
-use Rattle.mesa_invariant.specs.Walk.{Outset, run_of}
-use Rattle.mesa_invariant.proofs.Skeletons.{named_is}
+use Rattle.mesa_invariant.specs.Invariant.{Outset, run_of}
+use Rattle.mesa_invariant.proofs.Projections.{named_is}
 use Rattle.mesa_engine_state.specs.EngineState.{EngineState, books_of, next_id}
 use Rattle.mesa_engine_state.specs.Vault.{Origin, IsVault, written_by}
 use Rattle.mesa_engine_state.proofs.Accepting.{written_more}
@@ -64,7 +64,7 @@ module _ (o : Outset) (g : Origin) (sound : Bool) (l : EngineState) (story : Sto
 
   -- the tables are those for which the catalogue stands
   store_is : IsTrue sound → s ≡ (kept_of later c).store
-  store_is ok = ap (λ (k : Kept). k.store) (v.walk.state.rows ok ∙ sym (same_kept o g sound l story held h running refused v later agree))
+  store_is ok = ap (λ (k : Kept). k.store) (v.invariant.state.rows ok ∙ sym (same_kept o g sound l story held h running refused v later agree))
 
   -- what stands written behind the entry
   written_now : IsTrue sound → (x : Writing) → writing_by o.script (run_of o h) e ≡ x → written_by o g.found (h ++ e ∷ []) ≡ written_behind later c x (written_by o g.found h)
@@ -81,7 +81,7 @@ module _ (o : Outset) (g : Origin) (sound : Bool) (l : EngineState) (story : Sto
   -- A batch that is accepted is written.
   module _ (words : List RowWords) (batch : List Placed) (read : batch_of (tables_read c) words ≡ Ok batch) (known : command_of o.script e ≡ Some (command.Load words)) (told : told_by o.script (run_of o h) e ≡ Some (told_at p (reply.Loaded c.next (length batch)))) where
     batch_is : batch_or_none (batch_of (tables_named s) words) ≡ batch
-    batch_is = ap (λ (n : List Named). batch_or_none (batch_of n words)) (named_is sound (books_of v.rows l) (run_of o h).state v.walk.state ∙ tables_are c) ∙ ap batch_or_none read
+    batch_is = ap (λ (n : List Named). batch_or_none (batch_of n words)) (named_is sound (books_of v.rows l) (run_of o h).state v.invariant.state ∙ tables_are c) ∙ ap batch_or_none read
 
     accepts : writing_by o.script (run_of o h) e ≡ Accepts c.next batch
     accepts = (λ i. writing_if_told s (known i) stage (told i)) ∙ ap (Accepts c.next) batch_is

@@ -10,7 +10,7 @@ use Rattle.mesa_image.specs.Fitting.{shelved}
 use Rattle.mesa_image.specs.Held.{IsHeld}
 use Rattle.mesa_image.specs.Sound.{StandsFor, wants}
 use Rattle.mesa_invariant.specs.mesa_projection.Rows.{Rows}
-use Rattle.mesa_invariant.specs.Walk.{AllStand}
+use Rattle.mesa_invariant.specs.Invariant.{AllStand}
 use Rattle.mesa_engine_state.specs.EngineState.{EngineState}
 use Rattle.mesa_engine_state.specs.Vault.{IsReady, AreThere}
 

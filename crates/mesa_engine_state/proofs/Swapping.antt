@@ -22,9 +22,9 @@ use Rattle.mesa_image.specs.Moves.{kept_swapped, work_of}
 use Rattle.mesa_invariant.proofs.mesa_projection.Lists.{set_same}
 use Rattle.mesa_invariant.specs.mesa_projection.Rows.{Rows}
 use Rattle.mesa_invariant.specs.Books.{Books, swapped_books}
-use Rattle.mesa_invariant.specs.Walk.{Outset}
+use Rattle.mesa_invariant.specs.Invariant.{Outset}
 use Rattle.mesa_invariant.specs.Works.{Swaps}
-use Rattle.mesa_engine_state.specs.EngineState.{EngineState, books_of, next_id, skeleton_of}
+use Rattle.mesa_engine_state.specs.EngineState.{EngineState, books_of, next_id, projection_of}
 use Rattle.mesa_engine_state.specs.Recorded.{recorded_state}
 use Rattle.mesa_engine_state.specs.Vault.{Origin, IsVault}
 use Rattle.mesa_engine_state.proofs.Agreeing.{same_kept, same_pins}
@@ -47,10 +47,10 @@ ended_granted table number book = by (last_of book table)
     by None = refl
     by (Some lease) = ends (lease.number == number) lease
 
--- a table keeps its skeleton
-swap_skeleton : (t : Stock) (base : Bool) (to : ℕ) (d : Delta) → skeleton_of (stock_swapped t base to d) ≡ skeleton_of t
-swap_skeleton t true to d = refl
-swap_skeleton t false to d = refl
+-- a table keeps its projection
+swap_projection : (t : Stock) (base : Bool) (to : ℕ) (d : Delta) → projection_of (stock_swapped t base to d) ≡ projection_of t
+swap_projection t true to d = refl
+swap_projection t false to d = refl
 
 module _ (o : Outset) (g : Origin) (sound : Bool) (l : EngineState) (story : Story) (held : Option (List ℕ)) (h : List Entry) (running refused : Bool) (v : IsVault o g sound l story held h running refused)
     (later : Rows) (agree : (id : ℕ) → id < next_id l → later id ≡ v.rows id) (claim : Claim) (work : Work) (base : Bool) (from to epoch : ℕ) (files : Option Files) (work_is : work_of base from to ≡ work) where
@@ -72,9 +72,9 @@ module _ (o : Outset) (g : Origin) (sound : Bool) (l : EngineState) (story : Sto
       ap (λ k. kept_swapped k claim.table work) (had.rows ok ∙ sym (same_kept o g sound l story held h running refused v later agree)) ∙ ap (kept_swapped (kept_of later c) claim.table) (sym work_is)
       ∙ sym (swap_moves later c claim.table base from to epoch files within (replaces ok))
 
-  skeletons : map skeleton_of (slice_set c.tables claim.table (stock_swapped t base to (merged_delta epoch files))) ≡ map skeleton_of c.tables
-  skeletons = set_same skeleton_of c.tables claim.table (stock_swapped t base to (merged_delta epoch files)) ∙ ap (slice_set (map skeleton_of c.tables) claim.table) (swap_skeleton t base to (merged_delta epoch files))
-      ∙ sym (set_same skeleton_of c.tables claim.table t) ∙ ap (map skeleton_of) (set_back c.tables claim.table no_stock)
+  projections : map projection_of (slice_set c.tables claim.table (stock_swapped t base to (merged_delta epoch files))) ≡ map projection_of c.tables
+  projections = set_same projection_of c.tables claim.table (stock_swapped t base to (merged_delta epoch files)) ∙ ap (slice_set (map projection_of c.tables) claim.table) (swap_projection t base to (merged_delta epoch files))
+      ∙ sym (set_same projection_of c.tables claim.table t) ∙ ap (map projection_of) (set_back c.tables claim.table no_stock)
 
   ranges : map ranges_of (slice_set c.tables claim.table (stock_swapped t base to (merged_delta epoch files))) ≡ slice_set (map ranges_of c.tables) claim.table (swapped work (slice_index_or (map ranges_of c.tables) claim.table (ranges_of no_stock)))
   ranges = map-set ranges_of c.tables claim.table (stock_swapped t base to (merged_delta epoch files))
@@ -83,7 +83,7 @@ module _ (o : Outset) (g : Origin) (sound : Bool) (l : EngineState) (story : Sto
   -- and the books are those of the state.
   pub swapped_as : (generation : ℕ) (waits : List Dropped) (adopted end : ℕ) → books_of later (recorded_state l x generation waits (ended claim.table claim.lease l.leases) adopted end) ≡ swapped_books claim work (kept_of later x) old
   swapped_as generation waits adopted end = λ i. record (books_of later (recorded_state l x generation waits (ended claim.table claim.lease l.leases) adopted end)) {
-    bare = record old.bare { store = record { tables = skeletons i; floor = c.floor } };
+    bare = record old.bare { store = record { tables = projections i; floor = c.floor } };
     machine = record { ranges = ranges i; leases = ended claim.table claim.lease l.leases };
     pins = same_pins o g sound l story held h running refused v later agree i;
   }

@@ -40,7 +40,7 @@ use Rattle.mesa_invariant.specs.Changes.{Doing, IsChange, IsDecided}
 use Rattle.mesa_invariant.specs.Printing.{IsPut}
 use Rattle.mesa_invariant.specs.Sight.{is_of_schemas}
 use Rattle.mesa_invariant.specs.Turns.{entry}
-use Rattle.mesa_invariant.specs.Walk.{Outset, run_of, Counts, Passes, WalksWith, Writes}
+use Rattle.mesa_invariant.specs.Invariant.{Outset, run_of, Counts, Passes, KeepsInvariantTelling, Writes}
 use Rattle.mesa_invariant.specs.Works.{Regroups, Swaps}
 use Rattle.mesa_invariant.proofs.Changing.{unwritten_turn, written_turn}
 use Rattle.mesa_invariant.proofs.Recasting.{recast_turn, unrecast_turn}
@@ -81,8 +81,8 @@ module _ (n : Starts) (w : Rows) (sound : Bool) (l : EngineState) (story : Story
         recorded_vault o g sound l story held h running refused v (turn_with outcome.Stands) new new_held now (refused || is_refusal rep) made adopted adopts x waits removed clears only later gone recorded gone_now generation l.leases end bodies rep
         on (λ ok is. holds ok) stocked (λ is. long) (omega arith) risen (sources on.tells)
       where
-        on : WalksWith o sound (books_of later after) new new_held h (turn_with outcome.Stands) now (refused || is_refusal rep) rep
-        on = written_turn o sound (books_of v.rows l) story held h running refused v.walk session number low few c stage f d due m ran at place (books_of later after) rep change writes_is new moment passes (λ ok low. stands_now o g sound l story held h running refused v was_open ok) writes now new_held
+        on : KeepsInvariantTelling o sound (books_of later after) new new_held h (turn_with outcome.Stands) now (refused || is_refusal rep) rep
+        on = written_turn o sound (books_of v.rows l) story held h running refused v.invariant session number low few c stage f d due m ran at place (books_of later after) rep change writes_is new moment passes (λ ok low. stands_now o g sound l story held h running refused v was_open ok) writes now new_held
             counts (λ ok low. held_stand new l.area bodies end x later (holds ok)) put
 
     -- Its device work has failed.
@@ -90,7 +90,7 @@ module _ (n : Starts) (w : Rows) (sound : Bool) (l : EngineState) (story : Story
         → IsVault o g sound (failed_state l at l.leases adopted) new new_held (h ++ turn_with outcome.WriteFault ∷ []) now (refused || true)
     unwritten_vault can counts put =
         failed_vault o g sound l story held h running refused v (turn_with outcome.WriteFault) new new_held now (refused || true) made adopted adopts x waits removed clears only at l.leases
-        (unwritten_turn o sound (books_of v.rows l) story held h running refused v.walk session number low few c stage f d due m ran at place (books_of later after) rep change writes_is new moment passes (λ ok low. stands_now o g sound l story held h running refused v was_open ok) writes now new_held can counts put)
+        (unwritten_turn o sound (books_of v.rows l) story held h running refused v.invariant session number low few c stage f d due m ran at place (books_of later after) rep change writes_is new moment passes (λ ok low. stands_now o g sound l story held h running refused v was_open ok) writes now new_held can counts put)
         (omega arith)
 
   -- ---- the swap of a work
@@ -112,9 +112,9 @@ module _ (n : Starts) (w : Rows) (sound : Bool) (l : EngineState) (story : Story
         recorded_vault o g sound l story held h running refused v (closes_with outcome.Stands) new new_held now (refused || false) made adopted adopts x waits removed clears only later gone recorded gone_now generation (ended claim.table claim.lease l.leases) end bodies (swapped_reply work)
         on (λ ok is. holds ok) stocked (λ is. long) (subst (λ q. q ≤ l.leases.granted) (sym (ended_granted claim.table claim.lease l.leases)) (omega arith)) (same ∙ no_schemas work) (sources on.tells)
       where
-        on : WalksWith o sound (books_of later swapped_state) new new_held h (closes_with outcome.Stands) now (refused || false) (swapped_reply work)
-        on = subst (λ b. WalksWith o sound b new new_held h (closes_with outcome.Stands) now (refused || false) (swapped_reply work)) (sym books_are)
-            (swapped_turn o sound (books_of v.rows l) story held h running refused v.walk session number low few (command.Work words) refl m ran at place claim work errand due checked new moment passes (λ ok low. stands_now o g sound l story held h running refused v was_open ok) (kept_of later x) swaps writes now new_held
+        on : KeepsInvariantTelling o sound (books_of later swapped_state) new new_held h (closes_with outcome.Stands) now (refused || false) (swapped_reply work)
+        on = subst (λ b. KeepsInvariantTelling o sound b new new_held h (closes_with outcome.Stands) now (refused || false) (swapped_reply work)) (sym books_are)
+            (swapped_turn o sound (books_of v.rows l) story held h running refused v.invariant session number low few (command.Work words) refl m ran at place claim work errand due checked new moment passes (λ ok low. stands_now o g sound l story held h running refused v was_open ok) (kept_of later x) swaps writes now new_held
             counts (λ ok low. held_stand new l.area bodies end x later (holds ok)) put)
 
         no_schemas : (r : Work) → l.generation ≡ l.generation + one_if (is_of_schemas (swapped_reply r))
@@ -126,7 +126,7 @@ module _ (n : Starts) (w : Rows) (sound : Bool) (l : EngineState) (story : Story
         → IsVault o g sound (failed_state l at (ended claim.table claim.lease l.leases) adopted) new new_held (h ++ closes_with outcome.WriteFault ∷ []) now (refused || true)
     unswapped_vault counts put =
         failed_vault o g sound l story held h running refused v (closes_with outcome.WriteFault) new new_held now (refused || true) made adopted adopts x waits removed clears only at (ended claim.table claim.lease l.leases)
-        (unswapped_turn o sound (books_of v.rows l) story held h running refused v.walk session number low few (command.Work words) refl m ran at place claim work errand due checked new moment passes (λ ok low. stands_now o g sound l story held h running refused v was_open ok) (kept_of later x) swaps writes now new_held counts put)
+        (unswapped_turn o sound (books_of v.rows l) story held h running refused v.invariant session number low few (command.Work words) refl m ran at place claim work errand due checked new moment passes (λ ok low. stands_now o g sound l story held h running refused v was_open ok) (kept_of later x) swaps writes now new_held counts put)
         (subst (λ q. q ≤ l.leases.granted) (sym (ended_granted claim.table claim.lease l.leases)) (omega arith))
 
   -- ---- a recast
@@ -151,9 +151,9 @@ module _ (n : Starts) (w : Rows) (sound : Bool) (l : EngineState) (story : Story
         recorded_vault o g sound l story held h running refused v (recasts_with outcome.Stands) new new_held now (refused || false) made adopted adopts x waits removed clears only later gone recorded gone_now generation (ended claim.table claim.lease l.leases) end bodies recast_told
         on (λ ok is. holds ok) stocked (λ is. long) (subst (λ q. q ≤ l.leases.granted) (sym (ended_granted claim.table claim.lease l.leases)) (omega arith)) risen (sources on.tells)
       where
-        on : WalksWith o sound (books_of later recast_state) new new_held h (recasts_with outcome.Stands) now (refused || false) recast_told
-        on = subst (λ b. WalksWith o sound b new new_held h (recasts_with outcome.Stands) now (refused || false) recast_told) (sym books_are)
-            (recast_turn o sound (books_of v.rows l) story held h running refused v.walk session number low few (command.Recast words) refl m ran at place claim epoch r errand due checked still new moment passes (λ ok low. stands_now o g sound l story held h running refused v was_open ok) (kept_of later x) regroups writes now new_held
+        on : KeepsInvariantTelling o sound (books_of later recast_state) new new_held h (recasts_with outcome.Stands) now (refused || false) recast_told
+        on = subst (λ b. KeepsInvariantTelling o sound b new new_held h (recasts_with outcome.Stands) now (refused || false) recast_told) (sym books_are)
+            (recast_turn o sound (books_of v.rows l) story held h running refused v.invariant session number low few (command.Recast words) refl m ran at place claim epoch r errand due checked still new moment passes (λ ok low. stands_now o g sound l story held h running refused v was_open ok) (kept_of later x) regroups writes now new_held
             counts (λ ok low. held_stand new l.area bodies end x later (holds ok)) put)
 
     -- Its device work has failed: the lease has ended too.
@@ -161,5 +161,5 @@ module _ (n : Starts) (w : Rows) (sound : Bool) (l : EngineState) (story : Story
         → IsVault o g sound (failed_state l at (ended claim.table claim.lease l.leases) adopted) new new_held (h ++ recasts_with outcome.WriteFault ∷ []) now (refused || true)
     unrecast_vault counts put =
         failed_vault o g sound l story held h running refused v (recasts_with outcome.WriteFault) new new_held now (refused || true) made adopted adopts x waits removed clears only at (ended claim.table claim.lease l.leases)
-        (unrecast_turn o sound (books_of v.rows l) story held h running refused v.walk session number low few (command.Recast words) refl m ran at place claim epoch r errand due checked still new moment passes (λ ok low. stands_now o g sound l story held h running refused v was_open ok) (kept_of later x) regroups writes now new_held counts put)
+        (unrecast_turn o sound (books_of v.rows l) story held h running refused v.invariant session number low few (command.Recast words) refl m ran at place claim epoch r errand due checked still new moment passes (λ ok low. stands_now o g sound l story held h running refused v was_open ok) (kept_of later x) regroups writes now new_held counts put)
         (subst (λ q. q ≤ l.leases.granted) (sym (ended_granted claim.table claim.lease l.leases)) (omega arith))

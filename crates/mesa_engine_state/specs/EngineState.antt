@@ -46,23 +46,23 @@ pub record EngineState : Type 0 where
 -- ---- what it stands for
 
 -- a table without its contents
-abbrev pub skeleton_of : Stock → Table
-skeleton_of t = record { name = t.name; lineage = t.lineage; totals = t.totals; oldest = t.oldest; contents = [] }
+abbrev pub projection_of : Stock → Table
+projection_of t = record { name = t.name; lineage = t.lineage; totals = t.totals; oldest = t.oldest; contents = [] }
 
 -- a catalogue's tables without their contents
-abbrev pub skeletons : Catalog → Store
-skeletons c = record { tables = map skeleton_of c.tables; floor = c.floor }
+abbrev pub projections : Catalog → Store
+projections c = record { tables = map projection_of c.tables; floor = c.floor }
 
 -- the same of one version alone
-abbrev pub skeleton_at : ℕ → Stock → Table
-skeleton_at version t = record { name = t.name; lineage = t.lineage; totals = t.totals; oldest = version; contents = [] }
+abbrev pub projection_at : ℕ → Stock → Table
+projection_at version t = record { name = t.name; lineage = t.lineage; totals = t.totals; oldest = version; contents = [] }
 
-abbrev pub skeletons_at : ℕ → Catalog → Store
-skeletons_at version c = record { tables = map (skeleton_at version) c.tables; floor = version }
+abbrev pub projections_at : ℕ → Catalog → Store
+projections_at version c = record { tables = map (projection_at version) c.tables; floor = version }
 
 -- a pin without rows
 abbrev pub bare_held : HeldPin → Pin
-bare_held p = record { session = p.session; token = p.token; version = p.version; store = skeletons_at p.version p.copy }
+bare_held p = record { session = p.session; token = p.token; version = p.version; store = projections_at p.version p.copy }
 
 -- a pin with the rows that its files have
 abbrev pub held_with : Rows → HeldPin → Pin
@@ -71,7 +71,7 @@ held_with rows p = record { session = p.session; token = p.token; version = p.ve
 -- The books that a state stands for, where the files have these rows.
 abbrev pub books_of : Rows → EngineState → Books
 books_of rows l = record {
-  bare = record { store = skeletons l.catalogue; next = l.catalogue.next; given = l.given; pins = map bare_held l.pins; closed = l.closed };
+  bare = record { store = projections l.catalogue; next = l.catalogue.next; given = l.given; pins = map bare_held l.pins; closed = l.closed };
   machine = record { ranges = map ranges_of l.catalogue.tables; leases = l.leases };
   kept = kept_of rows l.catalogue;
   pins = map (held_with rows) l.pins;

@@ -22,9 +22,9 @@ use Rattle.mesa_invariant.specs.mesa_projection.Rows.{Rows}
 use Rattle.mesa_trash.specs.Filed.{AreFresh, AreNamedOrWait, PinFiles}
 use Rattle.mesa_trash.specs.Holding.{AreFiled, ids_of}
 use Rattle.mesa_invariant.specs.Sight.{schema_changes}
-use Rattle.mesa_invariant.specs.Walk.{Outset, IsWalk}
+use Rattle.mesa_invariant.specs.Invariant.{Outset, HoldsInvariant}
 use Rattle.mesa_image.specs.mesa_model.Versions.{common_oldest}
-use Rattle.mesa_engine_state.specs.EngineState.{HeldPin, EngineState, books_of, next_id, past_id, most_files, Holder, holders, ids_held, files_held, skeletons}
+use Rattle.mesa_engine_state.specs.EngineState.{HeldPin, EngineState, books_of, next_id, past_id, most_files, Holder, holders, ids_held, files_held, projections}
 
 -- All that stands written of each table so far: what was found of it, and the batches that the run accepted since, each carried through the recasts behind it.
 abbrev pub written_by : Outset → (ℕ → List Written) → List Entry → ℕ → List Written
@@ -58,7 +58,7 @@ AllStocked rows seen l = AreStocked rows l.catalogue × AllByRecursion (λ (x : 
 
 -- A pin's version is one that all tables of its copy of the catalogue have.
 abbrev pub IsVersioned : HeldPin → Type 0
-IsVersioned p = (common_oldest (skeletons p.copy) ≤ p.version) × (p.version < p.copy.next)
+IsVersioned p = (common_oldest (projections p.copy) ≤ p.version) × (p.version < p.copy.next)
 
 -- What a run has at its start beside its state: its number, what was written of each table, and the catalogue's generation.
 pub record Origin : Type 0 where
@@ -74,12 +74,12 @@ pub record AreCounted (o : Outset) (g : Origin) (l : EngineState) (h : List Entr
   pub generation : l.generation ≡ g.generation + schema_changes o.script (begins o.start) h
   pub run : l.catalogue.run ≡ g.run
 
--- What a vault keeps, for rows that its files may have, and the catalogues that stood at its open queries' positions: the walk of its history with the books of its state; that each image stands for its catalogue while it is open; the shape of its catalogues, whose files count their columns and keep the rules of records, and its counts; its files, which a read gives where the store was sound; and what its rows are and were made of.
+-- What a vault keeps, for rows that its files may have, and the catalogues that stood at its open queries' positions: the invariant of its history with the books of its state; that each image stands for its catalogue while it is open; the shape of its catalogues, whose files count their columns and keep the rules of records, and its counts; its files, which a read gives where the store was sound; and what its rows are and were made of.
 pub record IsVault (o : Outset) (g : Origin) (sound : Bool) (l : EngineState) (story : Story) (held : Option (List ℕ)) (h : List Entry) (running refused : Bool) : Type 0 where
   pub rows : Rows
   pub bodies : List (List ℕ)
   pub seen : ℕ → Catalog
-  pub walk : IsWalk o sound (books_of rows l) story held h running refused
+  pub invariant : HoldsInvariant o sound (books_of rows l) story held h running refused
   pub ranges : HasRanges o.start
   pub stands : IsTrue sound → l.closed ≡ None → IsHeld story l.area bodies l.end l.catalogue rows
   pub shaped : IsCatalog l.catalogue

@@ -17,7 +17,7 @@ pub trait Naming {
     /// Where it starts, by the rows of the files that are there when it begins.
     ghost start: { Rows → State };
 
-    /// Whatever the rows, the start has one skeleton.
+    /// Whatever the rows, the start has one projection.
     ghost alike: { (rows : Rows) → bare_state (start no_rows) ≡ bare_state (start rows) };
 
     /// Whether the store was sound when the run began, and its files had these rows.

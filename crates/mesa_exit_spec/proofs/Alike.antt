@@ -1,4 +1,4 @@
--- Whatever rows a store's files have, a run starts from one skeleton; and the record of a run changes nothing of its start.
+-- Whatever rows a store's files have, a run starts from one projection; and the record of a run changes nothing of its start.
 use Rattle.std.proofs.Common.{◌≡◌, ℕ, List, [], ◌∷◌, map, refl}
 use Rattle.mesa_model.specs.declared.commands.Script.{Script}
 use Rattle.mesa_look.specs.mesa_projection.Bare.{bare, bare_table, bare_state}

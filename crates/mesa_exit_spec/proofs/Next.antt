@@ -16,7 +16,7 @@ use Rattle.mesa_script.specs.Script.{script_of}
 use Rattle.mesa_arguments.specs.declared.forms.Form.{Form}
 use Rattle.mesa_arguments.specs.declared.forms.Form.TheVariants as form
 use Rattle.mesa_look.specs.mesa_projection.Rows.{Rows}
-use Rattle.mesa_invariant.specs.Walk.{run_at}
+use Rattle.mesa_invariant.specs.Invariant.{run_at}
 use Rattle.mesa_check.specs.mesa_image.Catalog.{Catalog}
 use Rattle.mesa_check.specs.mesa_image.Contents.{kept_of}
 use Rattle.mesa_check.specs.mesa_image.Sound.{StandsFor}

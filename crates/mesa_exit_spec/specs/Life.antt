@@ -11,7 +11,7 @@ use Rattle.mesa_check.specs.mesa_history.Found.{Kept, kept_in}
 use Rattle.mesa_check.specs.mesa_history.Law.{HoldsIn, written_in}
 use Rattle.mesa_check.specs.mesa_history.Run.{begins}
 use Rattle.mesa_check.specs.mesa_history.Sources.{Written, rows_now, sources_to}
-use Rattle.mesa_invariant.specs.Walk.{run_at}
+use Rattle.mesa_invariant.specs.Invariant.{run_at}
 use Rattle.mesa_exit_spec.specs.Start.{state_of}
 
 -- A run in a store's life: its script, and those of its turns that the store has: all of them, or the ones before a crash.

@@ -7,7 +7,7 @@ use Rattle.mesa_model.specs.declared.entries.Entry.{Entry}
 use Rattle.mesa_check.specs.mesa_history.Found.{Kept}
 use Rattle.mesa_check.specs.mesa_history.Law.{HoldsIn}
 use Rattle.mesa_arguments.specs.declared.forms.Form.{Form}
-use Rattle.mesa_invariant.specs.Walk.{run_at}
+use Rattle.mesa_invariant.specs.Invariant.{run_at}
 use Rattle.mesa_exit_spec.specs.Ports.{Ports}
 use Rattle.mesa_exit_spec.specs.Start.{state_of}
 use Rattle.mesa_exit_spec.specs.Completing.{AsksFor}

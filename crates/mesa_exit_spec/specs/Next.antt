@@ -9,7 +9,7 @@ use Rattle.mesa_model.specs.declared.entries.Entry.{Entry}
 use Rattle.mesa_check.specs.mesa_history.Found.{Kept}
 use Rattle.mesa_arguments.specs.declared.forms.Form.{Form}
 use Rattle.mesa_look.specs.mesa_projection.Rows.{Rows}
-use Rattle.mesa_invariant.specs.Walk.{run_at}
+use Rattle.mesa_invariant.specs.Invariant.{run_at}
 use Rattle.mesa_check.specs.mesa_image.Catalog.{Catalog}
 use Rattle.mesa_check.specs.mesa_image.Contents.{kept_of}
 use Rattle.mesa_check.specs.mesa_image.Sound.{StandsFor}

@@ -16,7 +16,7 @@ use Rattle.mesa_laws.specs.Printed.{AnswersFromTheFold}
 use Rattle.mesa_look.specs.mesa_projection.Rows.{Rows}
 use Rattle.mesa_invariant.specs.Printing.{IsPrinted, IsPrintedButRows}
 use Rattle.mesa_invariant.specs.Undamaged.{NoneDamaged}
-use Rattle.mesa_invariant.specs.Walk.{AllFound, HasCounted, Outset, run_at}
+use Rattle.mesa_invariant.specs.Invariant.{AllFound, HasCounted, Outset, run_at}
 use Rattle.mesa_check.specs.mesa_image.Catalog.{Catalog}
 use Rattle.mesa_check.specs.mesa_image.Sound.{StandsFor}
 use Rattle.mesa_check.specs.mesa_recover.Opening.{ReadsAs, most_runs}

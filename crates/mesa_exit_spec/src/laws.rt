@@ -23,7 +23,7 @@ ghost use Rattle.mesa_arguments.specs.declared.forms.Form.{Form as AnyForm};
 
 use mesa_disk::{Disk, Made};
 
-/// Whatever rows a store's files have, a run starts from one skeleton.
+/// Whatever rows a store's files have, a run starts from one projection.
 pub fn stores_start_alike()
     ensures { (script : Script) (c : Catalog) (rows others : Rows) → bare_state (start_of script c rows) ≡ bare_state (start_of script c others) }
 {}

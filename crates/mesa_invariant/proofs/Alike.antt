@@ -1,4 +1,4 @@
--- What is due hangs on a start's skeleton alone, where no answer is open.
+-- What is due hangs on a start's projection alone, where no answer is open.
 use Rattle.std.proofs.Common.{◌≡◌, ℕ, List, Bool, false, not, ◌&&◌, ◌==◌, IsTrue, refl, sym, ◌∙◌, ap, subst}
 use Rattle.mesa_projection.specs.mesa_model.declared.commands.Command.{Command}
 use Rattle.mesa_projection.specs.mesa_model.declared.commands.Script.{Script}
@@ -12,7 +12,7 @@ use Rattle.mesa_projection.specs.Bare.{bare_state, bare_stage, bare_place, bare_
 use Rattle.mesa_projection.proofs.Alike.{runs_alike}
 use Rattle.mesa_projection.proofs.Steps.{table_bare}
 use Rattle.mesa_invariant.specs.Turns.{Asks}
-use Rattle.mesa_invariant.specs.Walk.{run_at}
+use Rattle.mesa_invariant.specs.Invariant.{run_at}
 
 answered_bare : (s : Stage) → is_answered (bare_stage s) ≡ is_answered s
 answered_bare First = refl
@@ -35,7 +35,7 @@ stage_bare CutOff is = refl
 stage_is : (a b : Stage) → is_answered b ≡ false → bare_stage a ≡ bare_stage b → a ≡ b
 stage_is a b is same = sym (stage_bare a (sym (answered_bare a) ∙ ap is_answered same ∙ answered_bare b ∙ is)) ∙ same ∙ stage_bare b is
 
--- what is due of one start is due of each other one with its skeleton
+-- what is due of one start is due of each other one with its projection
 pub due_alike : (script : Script) (a b : State) (h : List Entry) (s n : ℕ) (c : Command) (stage : Stage) → bare_state a ≡ bare_state b → is_answered stage ≡ false → IsDue script (run_at script a h) s n c stage → IsDue script (run_at script b h) s n c stage
 unfolding place_of
 due_alike script a b h s n c stage same unanswered due =

@@ -31,10 +31,10 @@ use Rattle.mesa_invariant.specs.Causes.{Cause, Replies, Unread, Damaged, Unwritt
 use Rattle.mesa_invariant.specs.Printing.{IsBlockButRows, IsPut}
 use Rattle.mesa_invariant.specs.Queries.{HasNoAnswer, IsPinned, IsOpenFrom, MayClose, ClosesWith, closing_outcome, closing_told, closing_fault}
 use Rattle.mesa_invariant.specs.Turns.{entry}
-use Rattle.mesa_invariant.specs.Walk.{Outset, run_of, IsWalk, WalksOn, Counts}
+use Rattle.mesa_invariant.specs.Invariant.{Outset, run_of, HoldsInvariant, KeepsInvariant, Counts}
 use Rattle.mesa_invariant.proofs.Coming.{or_right, fits_open, renewal_open, renewal_later, comes_standing, comes_without_memory, comes_unread, comes_damaged}
 use Rattle.mesa_invariant.proofs.Pieces.{with_rows}
-use Rattle.mesa_invariant.proofs.Skeletons.{err_of, ok_of}
+use Rattle.mesa_invariant.proofs.Projections.{err_of, ok_of}
 use Rattle.mesa_invariant.proofs.Turning.{opened, position_at, quiet_turn, mute_turn, cause_turn}
 
 -- a query that is answered is answered by a warehouse that is open
@@ -45,7 +45,7 @@ answered_open w s words answer is = by w.closed refl
     by None e = e
     by (Some p) e = let never : query_answer (record w { closed = Some p }) s words ≡ Ok answer = subst (λ o. query_answer (record w { closed = o }) s words ≡ Ok answer) e is in absurd cc
 
-module _ (o : Outset) (sound : Bool) (books : Books) (story : Story) (held : Option (List ℕ)) (h : List Entry) (running refused : Bool) (v : IsWalk o sound books story held h running refused)
+module _ (o : Outset) (sound : Bool) (books : Books) (story : Story) (held : Option (List ℕ)) (h : List Entry) (running refused : Bool) (v : HoldsInvariant o sound books story held h running refused)
     (s n : ℕ) (low : s < 2 ^ 16) (few : n < 2 ^ 32) (words : QueryWords) (m : ℕ) (moment : m ≡ story.moment) (ran : running ≡ true) (new : Story) (unmoved : Unmoved story new) where
   abbrev r : Run
   r = run_of o h
@@ -63,7 +63,7 @@ module _ (o : Outset) (sound : Bool) (books : Books) (story : Story) (held : Opt
     decides_with out = entry s n kind.Decide out m
 
     same_answer : bare_result bare_answer (query_answer r.state.warehouse s words) ≡ bare_result bare_answer (query_answer books.bare s words)
-    same_answer = query-bare r.state.warehouse s words ∙ ap (λ x. bare_result bare_answer (query_answer x s words)) v.state.skeleton
+    same_answer = query-bare r.state.warehouse s words ∙ ap (λ x. bare_result bare_answer (query_answer x s words)) v.state.projection
 
     answered : (answer : Answer) → query_answer books.bare s words ≡ Ok answer → (x : Answer) × (query_answer r.state.warehouse s words ≡ Ok x) × (bare_answer x ≡ bare_answer answer)
     answered answer is = ok_of bare_answer (query_answer r.state.warehouse s words) _ (same_answer ∙ ap (bare_result bare_answer) is)
@@ -77,7 +77,7 @@ module _ (o : Outset) (sound : Bool) (books : Books) (story : Story) (held : Opt
       pinned_is : turn_of r asks (decides_with outcome.Stands) First outcome.Stands ≡ leaves r.state (Answered r.position given.0)
       pinned_is = ap (decided_query r.position r.state) given.1
 
-      pub pinned_turn : Counts story new false → WalksOn o sound books new held h (decides_with outcome.Stands) running refused
+      pub pinned_turn : Counts story new false → KeepsInvariant o sound books new held h (decides_with outcome.Stands) running refused
       pinned_turn counts =
           mute_turn o sound books story held h running refused v (decides_with outcome.Stands) asks First due (short _ refl refl) moment new unmoved
           (comes_standing r asks First s n kind.Decide m refl (renewal_open r.state.warehouse.closed First kind.Decide outcome.Stands refl)) (ap not (sym ran)) r.state (Answered r.position given.0) pinned_is counts books v.state refl
@@ -103,7 +103,7 @@ module _ (o : Outset) (sound : Bool) (books : Books) (story : Story) (held : Opt
     still_open answer is = answered_open r.state.warehouse s words (answered answer is).0 (answered answer is).1
 
     pub unpinned_turn : (cause : Cause) → HasNoAnswer books s words cause → Counts story new (is_read_fault cause) → (at : ℕ) → at ≡ length h → (now : Bool) (new_held : Option (List ℕ)) → IsPut (block (decides_with (outcome_of cause)) (Some (told_at at (reply_of cause)))) now held new_held
-        → WalksOn o sound books new new_held h (decides_with (outcome_of cause)) now (refused || is_refusal (reply_of cause))
+        → KeepsInvariant o sound books new new_held h (decides_with (outcome_of cause)) now (refused || is_refusal (reply_of cause))
     unpinned_turn (Replies rep) has counts at place now new_held put =
         cause_turn o sound books story held h running refused v (decides_with outcome.Stands) asks First due (short _ refl refl) moment new unmoved
         (comes_standing r asks First s n kind.Decide m refl (renewal_open r.state.warehouse.closed First kind.Decide outcome.Stands refl)) ran (Replies rep) refl tt refl r.state
@@ -163,7 +163,7 @@ module _ (o : Outset) (sound : Bool) (books : Books) (story : Story) (held : Opt
 
     pub close_turn : (cause : Option Cause) → MayClose cause → Counts story new (closing_fault cause) → (now : Bool) (new_held : Option (List ℕ)) (piece : List ℕ)
         → ClosesWith (closes_with (closing_outcome cause)) at open'.answer cause piece → (IsTrue sound → m < last → piece ≡ block (closes_with (closing_outcome cause)) (Some (closing_told at open'.answer cause))) → IsPut piece now held new_held
-        → WalksOn o sound books new new_held h (closes_with (closing_outcome cause)) now (refused || is_some cause)
+        → KeepsInvariant o sound books new new_held h (closes_with (closing_outcome cause)) now (refused || is_some cause)
     close_turn None may counts now new_held piece shows is put =
         quiet_turn o sound books story held h running refused v (closes_with outcome.Stands) asks stage open'.due (short _ refl refl) moment new unmoved
         (comes_standing r asks stage s n kind.Close m refl (renewal_later r.state.warehouse.closed stage kind.Close outcome.Stands refl)) (ap not (sym ran)) (closed_turned None) refl refl counts now new_held

@@ -1,4 +1,4 @@
--- A walk before its first turn, and one whose disk gave readers back.
+-- The invariant before its first turn, and one whose disk gave readers back.
 use Rattle.std.proofs.Common.{◌≡◌, ℕ, ◌+◌, ◌<◌, ◌≤◌, List, [], Bool, true, false, IsTrue, refl, sym, subst, arith, Option}
 use Rattle.std.specs.Io.KnownBytes.{Appends}
 use Rattle.std.proofs.KnownBytes.{Appends-nil}
@@ -12,11 +12,11 @@ use Rattle.mesa_projection.specs.mesa_history.Refused.{some_refused}
 use Rattle.mesa_output.specs.Output.{IsOutput}
 use Rattle.mesa_invariant.specs.Books.{Books, AreBooksOf}
 use Rattle.mesa_invariant.specs.Printing.{IsOutputButRows}
-use Rattle.mesa_invariant.specs.Walk.{Outset, run_of, AllBy, IsAtClock, AllFound, IsWalk, Counts}
+use Rattle.mesa_invariant.specs.Invariant.{Outset, run_of, AllBy, IsAtClock, AllFound, HoldsInvariant, Counts}
 
 -- Books of the start, on a disk whose images are found without any entry.
 pub started : (o : Outset) (sound : Bool) (books : Books) (story : Story) (held : Option (List ℕ)) → AreBooksOf sound books o.start → o.since ≤ story.moment → o.counted ≤ story.faults + story.read_faults → (IsTrue sound → AllFound o [] story) → held ≡ o.at_start
-    → IsWalk o sound books story held [] true false
+    → HoldsInvariant o sound books story held [] true false
 unfolding runs AllFit count_in some_refused IsOutput IsOutputButRows
 started o sound books story held state begun counted found same = record {
   state = state;
@@ -33,9 +33,9 @@ started o sound books story held state begun counted found same = record {
   found = found;
 }
 
--- Calls that move no image keep a walk, and so does a rise of a count.
-pub unmoved_walk : (o : Outset) (sound : Bool) (books : Books) (story new : Story) (held : Option (List ℕ)) (h : List Entry) (running refused : Bool) → Unmoved story new → Counts story new false → IsWalk o sound books story held h running refused → IsWalk o sound books new held h running refused
-unmoved_walk o sound books story new held h running refused same counts v = record {
+-- Calls that move no image keep the invariant, and so does a rise of a count.
+pub unmoved_invariant : (o : Outset) (sound : Bool) (books : Books) (story new : Story) (held : Option (List ℕ)) (h : List Entry) (running refused : Bool) → Unmoved story new → Counts story new false → HoldsInvariant o sound books story held h running refused → HoldsInvariant o sound books new held h running refused
+unmoved_invariant o sound books story new held h running refused same counts v = record {
   state = v.state;
   legal = v.legal;
   short = v.short;

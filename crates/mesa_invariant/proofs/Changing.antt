@@ -39,10 +39,10 @@ use Rattle.mesa_invariant.specs.Causes.{Cause, Replies, Unread, Damaged, Unwritt
 use Rattle.mesa_invariant.specs.Changes.{Doing, IsDecided, IsChange, HasFailed, failed_books}
 use Rattle.mesa_invariant.specs.Printing.{IsPut}
 use Rattle.mesa_invariant.specs.Turns.{entry}
-use Rattle.mesa_invariant.specs.Walk.{Outset, run_of, IsWalk, WalksOn, WalksWith, Counts, AllStand, Passes, Writes, StandsForEither}
+use Rattle.mesa_invariant.specs.Invariant.{Outset, run_of, HoldsInvariant, KeepsInvariant, KeepsInvariantTelling, Counts, AllStand, Passes, Writes, StandsForEither}
 use Rattle.mesa_invariant.proofs.Clock.{same_moment, not_closing, begun_moment, closing}
 use Rattle.mesa_invariant.proofs.Coming.{fits_open, renewal_open, comes_standing, comes_without_memory, comes_unwritten, comes_undrafted}
-use Rattle.mesa_invariant.proofs.Skeletons.{err_of, ok_of, plain_is, bare_plain, builds_is}
+use Rattle.mesa_invariant.proofs.Projections.{err_of, ok_of, plain_is, bare_plain, builds_is}
 use Rattle.mesa_invariant.proofs.Turning.{stays, counts_same, counts_any, counts_below, opened, position_at, puts_reply, puts_cause, told_turn, cause_turn, wrote_turn, failed_turn}
 
 -- ---- the commands
@@ -92,7 +92,7 @@ fault_fits c is = subst (λ b. IsTrue ((is_work c && false) || (b && true))) (sy
     right true = refl
     right false = refl
 
-module _ (o : Outset) (sound : Bool) (books : Books) (story : Story) (held : Option (List ℕ)) (h : List Entry) (running refused : Bool) (v : IsWalk o sound books story held h running refused)
+module _ (o : Outset) (sound : Bool) (books : Books) (story : Story) (held : Option (List ℕ)) (h : List Entry) (running refused : Bool) (v : HoldsInvariant o sound books story held h running refused)
     (s n : ℕ) (low : s < 2 ^ 16) (few : n < 2 ^ 32) (c : Command) (stage : Stage) (f : Doing) (d : IsDecided s c stage f) (due : IsDue o.script (run_of o h) s n c stage) (m : ℕ) (ran : running ≡ true) (at : ℕ) (place : at ≡ length h) where
   abbrev r : Run
   r = run_of o h
@@ -113,7 +113,7 @@ module _ (o : Outset) (sound : Bool) (books : Books) (story : Story) (held : Opt
   renewal out = renewal_open w.closed stage kind.Decide out refl
 
   alike : bare_result bare_done (f w) ≡ bare_result bare_done (f books.bare)
-  alike = d.alike w ∙ ap (λ x. bare_result bare_done (f x)) v.state.skeleton
+  alike = d.alike w ∙ ap (λ x. bare_result bare_done (f x)) v.state.projection
 
   -- ---- it fails
 
@@ -122,7 +122,7 @@ module _ (o : Outset) (sound : Bool) (books : Books) (story : Story) (held : Opt
 
   closed_stand : (b : Bool) → AreBooksOf sound (closed_books_if b at books) (closed_if b r.position r.state)
   closed_stand true = record {
-    skeleton = ap (λ (x : Warehouse). record x { closed = Some r.position }) v.state.skeleton ∙ ap (λ p. record books.bare { closed = Some p }) (sym at_is);
+    projection = ap (λ (x : Warehouse). record x { closed = Some r.position }) v.state.projection ∙ ap (λ p. record books.bare { closed = Some p }) (sym at_is);
     machine = v.state.machine;
     rows = v.state.rows;
     pins = v.state.pins;
@@ -135,7 +135,7 @@ module _ (o : Outset) (sound : Bool) (books : Books) (story : Story) (held : Opt
 
   -- a file that was built for it has failed: nothing was written, and the books close only where the clock stands at its last value
   undrafted_turn : (b : Bool) → closes r.moment (turn_with outcome.WriteFault) ≡ b → HasFailed books c f Unwritten → m ≡ story.moment → (now : Bool) (new_held : Option (List ℕ)) → IsPut (block (turn_with outcome.WriteFault) (Some (told_at at (reply_of Unwritten)))) now held new_held
-      → WalksOn o sound (closed_books_if b at books) story new_held h (turn_with outcome.WriteFault) now (refused || true)
+      → KeepsInvariant o sound (closed_books_if b at books) story new_held h (turn_with outcome.WriteFault) now (refused || true)
   undrafted_turn b closes_is failed moment now new_held put =
       let e = turn_with outcome.WriteFault in
       let there = begun_moment o.script o.start h s n c stage due (λ first. drafted_later c books.bare.store failed.1 failed.2 (subst (λ st. IsTrue (is_due_at c st kind.Decide)) first d.due)) in
@@ -146,7 +146,7 @@ module _ (o : Outset) (sound : Bool) (books : Books) (story : Story) (held : Opt
 
   -- It isn't done, whatever the cause.
   pub fails_turn : (cause : Cause) (b : Bool) → closes r.moment (turn_with outcome.WriteFault) ≡ b → HasFailed books c f cause → m ≡ story.moment → (now : Bool) (new_held : Option (List ℕ)) → IsPut (block (turn_with (outcome_of cause)) (Some (told_at at (reply_of cause)))) now held new_held
-      → WalksOn o sound (failed_books cause b at books) story new_held h (turn_with (outcome_of cause)) now (refused || is_refusal (reply_of cause))
+      → KeepsInvariant o sound (failed_books cause b at books) story new_held h (turn_with (outcome_of cause)) now (refused || is_refusal (reply_of cause))
   fails_turn (Replies rep) b closes_is failed moment now new_held put =
       cause_turn o sound books story held h running refused v (turn_with outcome.Stands) c stage due (short outcome.Stands) moment story (stays story) (comes_standing r c stage s n kind.Decide m d.due (renewal outcome.Stands))
       ran (Replies rep) refl tt refl r.state (refused_is failed.0 failed.1 ∙ ap (prints r.position r.state) (sym failed.2)) (ap is_written failed.2) (counts_same story) at place now new_held put books v.state refl
@@ -161,8 +161,8 @@ module _ (o : Outset) (sound : Bool) (books : Books) (story : Story) (held : Opt
   -- ---- it is done
 
   module _ (changed : Books) (rep : Reply) (change : IsChange sound books changed f rep) where
-    found : (x : Warehouse × Reply) × (f w ≡ Ok x) × (bare_done x ≡ bare_done (change.skeleton.0, rep))
-    found = ok_of bare_done (f w) _ (alike ∙ ap (bare_result bare_done) change.skeleton.1)
+    found : (x : Warehouse × Reply) × (f w ≡ Ok x) × (bare_done x ≡ bare_done (change.projection.0, rep))
+    found = ok_of bare_done (f w) _ (alike ∙ ap (bare_result bare_done) change.projection.1)
 
     abbrev after : Warehouse
     after = found.0.0
@@ -184,7 +184,7 @@ module _ (o : Outset) (sound : Bool) (books : Books) (story : Story) (held : Opt
 
     -- The books change, and nothing that a store keeps.
     pub changed_turn : is_written rep ≡ false → ((x : Warehouse) → f w ≡ Ok (x, rep) → kept_of (stepped r.state x rep) ≡ kept_of r.state) → m ≡ story.moment → (now : Bool) (new_held : Option (List ℕ)) → IsPut (block (turn_with outcome.Stands) (Some (told_at at rep))) now held new_held
-        → WalksOn o sound changed story new_held h (turn_with outcome.Stands) now (refused || is_refusal rep)
+        → KeepsInvariant o sound changed story new_held h (turn_with outcome.Stands) now (refused || is_refusal rep)
     changed_turn silent keeps moment now new_held put =
         told_turn o sound books story held h running refused v (turn_with outcome.Stands) c stage due (short outcome.Stands) moment story (stays story) (comes_standing r c stage s n kind.Decide m d.due (renewal outcome.Stands))
         ran refl stood_state rep decide_is silent (counts_same story) now new_held (puts_reply o sound books story held h running refused v (turn_with outcome.Stands) rep at place refl now new_held put) changed stood_books (keeps after done_is)
@@ -202,7 +202,7 @@ module _ (o : Outset) (sound : Bool) (books : Books) (story : Story) (held : Opt
 
       -- Its device work is done.
       pub written_turn : Counts story new false → (IsTrue sound → new.moment < last → AllStand o.stands new changed.kept) → IsPut (block (turn_with outcome.Stands) (Some (told_at at rep))) now held new_held
-          → WalksWith o sound changed new new_held h (turn_with outcome.Stands) now (refused || is_refusal rep) rep
+          → KeepsInvariantTelling o sound changed new new_held h (turn_with outcome.Stands) now (refused || is_refusal rep) rep
       written_turn counts stand put =
           wrote_turn o sound books story held h running refused v (turn_with outcome.Stands) c stage due (short outcome.Stands) new passes moment counts had_kept (comes_standing r c stage s n kind.Decide m d.due (renewal outcome.Stands)) ran refl stood_state rep decide_is now new_held
           (puts_reply o sound books story held h running refused v (turn_with outcome.Stands) rep at place refl now new_held put) writes_is changed stood_books (λ ok below. spans (kept_of stood_state) (sym (stood_books.rows ok)) ok below)
@@ -210,7 +210,7 @@ module _ (o : Outset) (sound : Bool) (books : Books) (story : Story) (held : Opt
 
       -- Its device work has failed, and the books close.
       pub unwritten_turn : is_writing c ≡ true → Counts story new true → IsPut (block (turn_with outcome.WriteFault) (Some (told_at at (reply_of Unwritten)))) now held new_held
-          → WalksOn o sound (closed_books at books) new new_held h (turn_with outcome.WriteFault) now (refused || true)
+          → KeepsInvariant o sound (closed_books at books) new new_held h (turn_with outcome.WriteFault) now (refused || true)
       unwritten_turn can counts put =
           let e = turn_with outcome.WriteFault in
           let closing_is : closes r.moment e ≡ true = closing r.moment story.moment e v.at (subst (λ x. Rose story.moment x) (sym moment) passes.rose) refl in

@@ -13,7 +13,7 @@ use Rattle.mesa_projection.specs.mesa_history.Replay.{closes, is_later, is_later
 use Rattle.mesa_projection.specs.mesa_history.Legal.{fits_moment, wrote, is_same_moment}
 use Rattle.mesa_projection.specs.mesa_history.Turns.{IsDue}
 use Rattle.mesa_projection.proofs.mesa_history.More.{last_moment_is}
-use Rattle.mesa_invariant.specs.Walk.{IsAtClock, run_at}
+use Rattle.mesa_invariant.specs.Invariant.{IsAtClock, run_at}
 
 le_is : (a b : ℕ) → a ≤ b → nat_le a b ≡ true
 le_is a b le = ⊎_elim (λ yes. yes.0) (λ no. absurd (omega (arith, no.1, le))) (leb_tells a b)

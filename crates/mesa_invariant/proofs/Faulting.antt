@@ -11,7 +11,7 @@ use Rattle.mesa_projection.specs.mesa_history.Replay.{closes}
 use Rattle.mesa_projection.specs.mesa_history.Run.{State}
 use Rattle.mesa_invariant.specs.Causes.{Cause, Replies, Unread, Damaged, Unwritten, NoMemory, is_read_fault, outcome_of}
 use Rattle.mesa_invariant.specs.Turns.{AnswersDisk, Faults, NoneFell, Shown, SomeRose, faults_of}
-use Rattle.mesa_invariant.specs.Walk.{Counts, run_at}
+use Rattle.mesa_invariant.specs.Invariant.{Counts, run_at}
 
 -- two entries that were added to one history are one
 one_entry : (h : List Entry) (a b : Entry) → h ++ a ∷ [] ≡ h ++ b ∷ [] → a ≡ b

@@ -19,7 +19,7 @@ use Rattle.mesa_projection.specs.mesa_history.Run.{place_of}
 use Rattle.mesa_projection.specs.mesa_history.Turns.{IsDue, place_then}
 use Rattle.mesa_projection.proofs.mesa_history.Turns.{turn_goes}
 use Rattle.mesa_invariant.specs.Turns.{Shown, entry, IsTurn, IsSeen, Takes, is_load, is_simple, Asks}
-use Rattle.mesa_invariant.specs.Walk.{run_at}
+use Rattle.mesa_invariant.specs.Invariant.{run_at}
 use Rattle.mesa_invariant.specs.Works.{closing_stage}
 
 recast_ends : (p : ℕ) (s : State) (claim : Claim) (r : Recast) (q : Result (Unit {0}) Refusal) → (recasts p s claim r q).stage ≡ Finished

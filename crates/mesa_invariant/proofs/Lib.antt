@@ -4,7 +4,7 @@ pub mod Clock
 pub mod Steps
 pub mod Coming
 pub mod Turning
-pub mod Skeletons
+pub mod Projections
 pub mod Changing
 pub mod Pieces
 pub mod Pinning

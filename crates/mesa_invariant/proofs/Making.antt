@@ -129,11 +129,11 @@ machine_bare w (reply.Refused refusal) m = refl
 pub made_change : (sound : Bool) (old new : Books) (f : Doing) (r : Reply) → ((w : Warehouse) → bare_result bare_done (f w) ≡ bare_result bare_done (f (bare w))) → (made : Warehouse) → f old.bare ≡ Ok (made, r) → old.bare.closed ≡ None → is_plain r ≡ true
     → bare made ≡ new.bare → machine_after made r old.machine ≡ new.machine → (IsTrue sound → old.pins ≡ new.pins)
     → ((s : State) (after : Warehouse) → AreBooksOf sound old s → f s.warehouse ≡ Ok (after, r) → IsTrue sound → (kept_of (stepped s after r) ≡ new.kept) × (after.pins ≡ s.warehouse.pins)) → IsChange sound old new f r
-made_change sound old new f r alike made done was_open plain skeleton machine pins does = record {
-  skeleton = (made, done);
-  follows = λ s after had is. (let bares = bare_after old s.warehouse f (alike s.warehouse) had.skeleton after made r is done in
+made_change sound old new f r alike made done was_open plain projection machine pins does = record {
+  projection = (made, done);
+  follows = λ s after had is. (let bares = bare_after old s.warehouse f (alike s.warehouse) had.projection after made r is done in
       record {
-        skeleton = bares ∙ skeleton;
+        projection = bares ∙ projection;
         machine = machine_bare after r s.machine ∙ (λ i. machine_after (bares i) r (had.machine i)) ∙ sym (machine_bare made r old.machine) ∙ machine;
         rows = λ ok. (does s after had is ok).0;
         pins = λ ok. (does s after had is ok).1 ∙ had.pins ok ∙ pins ok;

@@ -28,7 +28,7 @@ use Rattle.mesa_invariant.specs.Causes.{told_at}
 use Rattle.mesa_invariant.specs.Changes.{Doing, IsChange, MakesPin, ReleasesPin}
 use Rattle.mesa_invariant.specs.Printing.{IsPut}
 use Rattle.mesa_invariant.specs.Turns.{entry}
-use Rattle.mesa_invariant.specs.Walk.{Outset, run_of, IsWalk, WalksOn}
+use Rattle.mesa_invariant.specs.Invariant.{Outset, run_of, HoldsInvariant, KeepsInvariant}
 use Rattle.mesa_invariant.proofs.Changing.{pin_decided, release_decided, changed_turn}
 
 version_in : Reply → ℕ
@@ -65,24 +65,24 @@ pin_released w s token after r is = by w.closed (is_none (pin_of w s token)) is
     by None true e = absurd cc
     by None false e = let same : (record w { pins = without_pin s token w.pins }, reply.Released token) ≡ (after, r) = cc in (ap (λ (d : Warehouse × Reply). d.0) (sym same), ap (λ (d : Warehouse × Reply). d.1) (sym same))
 
--- the skeleton after a command, by what the books say it is
+-- the projection after a command, by what the books say it is
 pub bare_after : (books : Books) (w : Warehouse) (f : Doing) → bare_result bare_done (f w) ≡ bare_result bare_done (f (bare w)) → bare w ≡ books.bare → (after made : Warehouse) (r : Reply) → f w ≡ Ok (after, r) → f books.bare ≡ Ok (made, r) → bare after ≡ bare made
 unfolding done_in
-bare_after books w f alike skeleton after made r one two = ap (λ q. done_in q after) (sym (ap (bare_result bare_done) one) ∙ (alike ∙ ap (λ x. bare_result bare_done (f x)) skeleton ∙ ap (bare_result bare_done) two))
+bare_after books w f alike projection after made r one two = ap (λ q. done_in q after) (sym (ap (bare_result bare_done) one) ∙ (alike ∙ ap (λ x. bare_result bare_done (f x)) projection ∙ ap (bare_result bare_done) two))
 
 pub pin_change : (sound : Bool) (books : Books) (s : ℕ) (asked : VersionWord) (v : ℕ) → MakesPin books s asked v → books.bare.closed ≡ None → IsChange sound books (pinned_books s v books) (λ w. make_pin w s asked) (reply.Pinned (next_token books.bare s) v)
 unfolding version_in
 pin_change sound books s asked v is was_open = record {
-  skeleton = (with_pin books.bare s v, is);
+  projection = (with_pin books.bare s v, is);
   follows = λ st after had made. (let inv = pin_made st.warehouse s asked after (reply.Pinned (next_token books.bare s) v) made in
       let same : v ≡ inv.0 = ap version_in inv.2 in
       let after_is : after ≡ with_pin st.warehouse s v = inv.1 ∙ ap (with_pin st.warehouse s) (sym same) in
       record {
-        skeleton = bare_after books st.warehouse (λ w. make_pin w s asked) (pin-bare st.warehouse s asked) had.skeleton after (with_pin books.bare s v) _ made is;
+        projection = bare_after books st.warehouse (λ w. make_pin w s asked) (pin-bare st.warehouse s asked) had.projection after (with_pin books.bare s v) _ made is;
         machine = had.machine;
         rows = λ ok. ap (λ (w : Warehouse). kept_of (stepped st w (reply.Pinned (next_token books.bare s) v))) after_is ∙ had.rows ok;
         pins = λ ok. ap (λ (w : Warehouse). w.pins) after_is
-            ∙ (λ i. had.pins ok i ++ record { session = s; token = next_token (had.skeleton i) s; version = v; store = store_at (had.rows ok i).store v } ∷ []);
+            ∙ (λ i. had.pins ok i ++ record { session = s; token = next_token (had.projection i) s; version = v; store = store_at (had.rows ok i).store v } ∷ []);
       });
   opened = was_open;
   plain = refl;
@@ -90,10 +90,10 @@ pin_change sound books s asked v is was_open = record {
 
 pub release_change : (sound : Bool) (books : Books) (s token : ℕ) → ReleasesPin books s token → books.bare.closed ≡ None → IsChange sound books (released_books s token books) (λ w. release_pin w s token) (reply.Released token)
 release_change sound books s token is was_open = record {
-  skeleton = (record books.bare { pins = without_pin s token books.bare.pins }, is);
+  projection = (record books.bare { pins = without_pin s token books.bare.pins }, is);
   follows = λ st after had made. (let inv = pin_released st.warehouse s token after (reply.Released token) made in
       record {
-        skeleton = bare_after books st.warehouse (λ w. release_pin w s token) (release-bare st.warehouse s token) had.skeleton after (record books.bare { pins = without_pin s token books.bare.pins }) _ made is;
+        projection = bare_after books st.warehouse (λ w. release_pin w s token) (release-bare st.warehouse s token) had.projection after (record books.bare { pins = without_pin s token books.bare.pins }) _ made is;
         machine = had.machine;
         rows = λ ok. ap (λ (w : Warehouse). kept_of (stepped st w (reply.Released token))) inv.0 ∙ had.rows ok;
         pins = λ ok. ap (λ (w : Warehouse). w.pins) inv.0 ∙ ap (without_pin s token) (had.pins ok);
@@ -102,18 +102,18 @@ release_change sound books s token is was_open = record {
   plain = refl;
 }
 
-module _ (o : Outset) (sound : Bool) (books : Books) (story : Story) (held : Option (List ℕ)) (h : List Entry) (running refused : Bool) (v : IsWalk o sound books story held h running refused)
+module _ (o : Outset) (sound : Bool) (books : Books) (story : Story) (held : Option (List ℕ)) (h : List Entry) (running refused : Bool) (v : HoldsInvariant o sound books story held h running refused)
     (s n : ℕ) (low : s < 2 ^ 16) (few : n < 2 ^ 32) (m : ℕ) (moment : m ≡ story.moment) (ran : running ≡ true) (at : ℕ) (place : at ≡ length h) (was_open : books.bare.closed ≡ None) where
   -- a version is pinned
   pub pin_turn : (asked : VersionWord) → IsDue o.script (run_of o h) s n (command.Pin asked) First → (version : ℕ) → MakesPin books s asked version → (now : Bool) (new_held : Option (List ℕ))
-      → IsPut (block (entry s n kind.Decide outcome.Stands m) (Some (told_at at (reply.Pinned (next_token books.bare s) version)))) now held new_held → WalksOn o sound (pinned_books s version books) story new_held h (entry s n kind.Decide outcome.Stands m) now (refused || false)
+      → IsPut (block (entry s n kind.Decide outcome.Stands m) (Some (told_at at (reply.Pinned (next_token books.bare s) version)))) now held new_held → KeepsInvariant o sound (pinned_books s version books) story new_held h (entry s n kind.Decide outcome.Stands m) now (refused || false)
   pin_turn asked due version is now new_held put =
       changed_turn o sound books story held h running refused v s n low few (command.Pin asked) First (λ w. make_pin w s asked) (pin_decided s asked) due m ran at place (pinned_books s version books) (reply.Pinned (next_token books.bare s) version)
       (pin_change sound books s asked version is was_open) refl (λ after made. ap (λ (w : Warehouse). kept_of (stepped (run_of o h).state w (reply.Pinned (next_token books.bare s) version))) (pin_made (run_of o h).state.warehouse s asked after _ made).1) moment now new_held put
 
   -- a pin is released
   pub release_turn : (token : ℕ) → IsDue o.script (run_of o h) s n (command.Release token) First → ReleasesPin books s token → (now : Bool) (new_held : Option (List ℕ))
-      → IsPut (block (entry s n kind.Decide outcome.Stands m) (Some (told_at at (reply.Released token)))) now held new_held → WalksOn o sound (released_books s token books) story new_held h (entry s n kind.Decide outcome.Stands m) now (refused || false)
+      → IsPut (block (entry s n kind.Decide outcome.Stands m) (Some (told_at at (reply.Released token)))) now held new_held → KeepsInvariant o sound (released_books s token books) story new_held h (entry s n kind.Decide outcome.Stands m) now (refused || false)
   release_turn token due is now new_held put =
       changed_turn o sound books story held h running refused v s n low few (command.Release token) First (λ w. release_pin w s token) (release_decided s token) due m ran at place (released_books s token books) (reply.Released token)
       (release_change sound books s token is was_open) refl (λ after made. ap (λ (w : Warehouse). kept_of (stepped (run_of o h).state w (reply.Released token))) (pin_released (run_of o h).state.warehouse s token after _ made).0) moment now new_held put

@@ -23,7 +23,7 @@ use Rattle.mesa_invariant.specs.Causes.{Cause, Replies, Unread, Damaged, Unwritt
 use Rattle.mesa_invariant.specs.Changes.{HasNoPlan}
 use Rattle.mesa_invariant.specs.Printing.{IsPut}
 use Rattle.mesa_invariant.specs.Turns.{entry, looking}
-use Rattle.mesa_invariant.specs.Walk.{Outset, run_of, IsWalk, WalksOn}
+use Rattle.mesa_invariant.specs.Invariant.{Outset, run_of, HoldsInvariant, KeepsInvariant}
 use Rattle.mesa_invariant.proofs.Coming.{fits_open, renewal_open, comes_standing, comes_without_memory}
 use Rattle.mesa_invariant.proofs.Turning.{stays, counts_same, opened, mute_turn, told_turn, cause_turn, puts_reply, skipped_turn}
 
@@ -31,7 +31,7 @@ look_fits : (a : Bool) → IsTrue (a || false || false || true || false)
 look_fits true = refl
 look_fits false = refl
 
-module _ (o : Outset) (sound : Bool) (books : Books) (story : Story) (held : Option (List ℕ)) (h : List Entry) (running refused : Bool) (v : IsWalk o sound books story held h running refused)
+module _ (o : Outset) (sound : Bool) (books : Books) (story : Story) (held : Option (List ℕ)) (h : List Entry) (running refused : Bool) (v : HoldsInvariant o sound books story held h running refused)
     (s n : ℕ) (low : s < 2 ^ 16) (few : n < 2 ^ 32) (m : ℕ) (moment : m ≡ story.moment) where
   abbrev r : Run
   r = run_of o h
@@ -43,10 +43,10 @@ module _ (o : Outset) (sound : Bool) (books : Books) (story : Story) (held : Opt
     looks_with out = entry s n kind.Look out m
 
     -- it found the tables, or no memory for them
-    pub look_turn : (found : Bool) → WalksOn o sound books story held h (looks_with (looking running found)) running refused
+    pub look_turn : (found : Bool) → KeepsInvariant o sound books story held h (looks_with (looking running found)) running refused
     look_turn found = by running found refl
       where
-        by : (b f : Bool) → running ≡ b → WalksOn o sound books story held h (looks_with (looking b f)) running refused
+        by : (b f : Bool) → running ≡ b → KeepsInvariant o sound books story held h (looks_with (looking b f)) running refused
         by true true ran =
             mute_turn o sound books story held h running refused v (looks_with outcome.Stands) (command.Load rows) First due (record { session = low; command = few }) moment story (stays story)
             (comes_standing r (command.Load rows) First s n kind.Look m refl (renewal_open r.state.warehouse.closed First kind.Look outcome.Stands refl)) (ap not (sym ran)) r.state Looked refl (counts_same story) books v.state refl
@@ -62,11 +62,11 @@ module _ (o : Outset) (sound : Bool) (books : Books) (story : Story) (held : Opt
     decides_with out = entry s n kind.Decide out m
 
     plan_is : explained r.state.warehouse r.state.machine words ≡ explained books.bare books.machine words
-    plan_is = explain-bare r.state.warehouse r.state.machine words ∙ (λ i. explained (v.state.skeleton i) (v.state.machine i) words)
+    plan_is = explain-bare r.state.warehouse r.state.machine words ∙ (λ i. explained (v.state.projection i) (v.state.machine i) words)
 
     -- the ranges are printed
     pub explained_turn : (rep : Reply) → explained books.bare books.machine words ≡ Ok rep → is_written rep ≡ false → (now : Bool) (new_held : Option (List ℕ)) → IsPut (block (decides_with outcome.Stands) (Some (told_at at rep))) now held new_held
-        → WalksOn o sound books story new_held h (decides_with outcome.Stands) now (refused || is_refusal rep)
+        → KeepsInvariant o sound books story new_held h (decides_with outcome.Stands) now (refused || is_refusal rep)
     explained_turn rep is silent now new_held put =
         told_turn o sound books story held h running refused v (decides_with outcome.Stands) (command.Explain words) First due (record { session = low; command = few }) moment story (stays story)
         (comes_standing r (command.Explain words) First s n kind.Decide m refl (renewal_open r.state.warehouse.closed First kind.Decide outcome.Stands refl)) ran refl r.state rep (ap (decided_explain r.position r.state) (plan_is ∙ is)) silent (counts_same story) now new_held
@@ -74,7 +74,7 @@ module _ (o : Outset) (sound : Bool) (books : Books) (story : Story) (held : Opt
 
     -- they aren't
     pub unexplained_turn : (cause : Cause) → HasNoPlan books words cause → (now : Bool) (new_held : Option (List ℕ)) → IsPut (block (decides_with (outcome_of cause)) (Some (told_at at (reply_of cause)))) now held new_held
-        → WalksOn o sound books story new_held h (decides_with (outcome_of cause)) now (refused || is_refusal (reply_of cause))
+        → KeepsInvariant o sound books story new_held h (decides_with (outcome_of cause)) now (refused || is_refusal (reply_of cause))
     unexplained_turn (Replies rep) has now new_held put =
         cause_turn o sound books story held h running refused v (decides_with outcome.Stands) (command.Explain words) First due (record { session = low; command = few }) moment story (stays story)
         (comes_standing r (command.Explain words) First s n kind.Decide m refl (renewal_open r.state.warehouse.closed First kind.Decide outcome.Stands refl)) ran (Replies rep) refl tt refl r.state

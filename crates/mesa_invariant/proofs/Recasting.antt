@@ -26,11 +26,11 @@ use Rattle.mesa_invariant.specs.Books.{Books, AreBooksOf, closed_books, ended_bo
 use Rattle.mesa_invariant.specs.Causes.{Unwritten, reply_of, told_at}
 use Rattle.mesa_invariant.specs.Printing.{IsPut}
 use Rattle.mesa_invariant.specs.Turns.{entry}
-use Rattle.mesa_invariant.specs.Walk.{Outset, run_of, IsWalk, WalksOn, WalksWith, Counts, AllStand, Passes, Writes}
+use Rattle.mesa_invariant.specs.Invariant.{Outset, run_of, HoldsInvariant, KeepsInvariant, KeepsInvariantTelling, Counts, AllStand, Passes, Writes}
 use Rattle.mesa_invariant.specs.Works.{Regroups}
 use Rattle.mesa_invariant.proofs.Working.{checked_is, done_turn, undone_turn, unfit_turn}
 
--- the skeleton of a recast warehouse is the recast skeleton
+-- the projection of a recast warehouse is the recast projection
 recast_bare : (w : Warehouse) (b : Warehouse) (table : ℕ) (r : Recast) → bare w ≡ b → bare (with_recast w table r) ≡ with_recast b table r
 recast_bare w b table r is = once ∙ ap (λ x. with_recast x table r) is
   where
@@ -41,11 +41,11 @@ recast_bare w b table r is = once ∙ ap (λ x. with_recast x table r) is
       };
     }
 
--- a table but for its contents is told by the skeleton
+-- a table but for its contents is told by the projection
 bare_there : (w : Warehouse) (b : Warehouse) (table : ℕ) → bare w ≡ b → bare_table (table_at w.store table) ≡ table_at b.store table
 bare_there w b table is = sym (table_bare w.store table) ∙ ap (λ (x : Warehouse). table_at x.store table) is
 
-module _ (o : Outset) (sound : Bool) (books : Books) (story : Story) (held : Option (List ℕ)) (h : List Entry) (running refused : Bool) (v : IsWalk o sound books story held h running refused)
+module _ (o : Outset) (sound : Bool) (books : Books) (story : Story) (held : Option (List ℕ)) (h : List Entry) (running refused : Bool) (v : HoldsInvariant o sound books story held h running refused)
     (s n : ℕ) (low : s < 2 ^ 16) (few : n < 2 ^ 32) (c : Command) (is_one : is_work c ≡ true) (m : ℕ) (ran : running ≡ true) (at : ℕ) (place : at ≡ length h)
     (claim : Claim) (epoch : ℕ) (recast : Recast) (errand : claim.errand ≡ Recasts epoch recast) (due : IsDue o.script (run_of o h) s n c (Renewed claim)) (holds : claim_checked books.bare books.machine at claim ≡ Ok tt) where
   abbrev r : Run
@@ -55,7 +55,7 @@ module _ (o : Outset) (sound : Bool) (books : Books) (story : Story) (held : Opt
   told_table = table_at books.bare.store claim.table
 
   there : bare_table (table_at r.state.warehouse.store claim.table) ≡ told_table
-  there = bare_there r.state.warehouse books.bare claim.table v.state.skeleton
+  there = bare_there r.state.warehouse books.bare claim.table v.state.projection
 
   -- what the books say of the recast is what Replay says
   still_is : still_checked (table_at r.state.warehouse.store claim.table).lineage epoch recast ≡ still_checked told_table.lineage epoch recast
@@ -66,7 +66,7 @@ module _ (o : Outset) (sound : Bool) (books : Books) (story : Story) (held : Opt
 
   -- the table has changed, or a view would lose a column: the lease ends
   pub changed_turn : (x : Refusal) → still_checked told_table.lineage epoch recast ≡ Err x → m ≡ story.moment → (new : Story) → Unmoved story new → Counts story new false → (now : Bool) (new_held : Option (List ℕ))
-      → IsPut (block (entry s n kind.Close outcome.Stands m) (Some (told_at at (reply.Refused x)))) now held new_held → WalksOn o sound (ended_books claim books) new new_held h (entry s n kind.Close outcome.Stands m) now (refused || true)
+      → IsPut (block (entry s n kind.Close outcome.Stands m) (Some (told_at at (reply.Refused x)))) now held new_held → KeepsInvariant o sound (ended_books claim books) new new_held h (entry s n kind.Close outcome.Stands m) now (refused || true)
   changed_turn x is moment new unmoved counts now new_held put =
       unfit_turn o sound books story held h running refused v s n low few c is_one m ran at place moment new unmoved claim due x
       (ap (completes r.position r.state claim) (checked_is o sound books story held h running refused v s n low few c is_one m ran at place claim ∙ holds) ∙ does_is ∙ ap (recasts r.position r.state claim recast) is) counts now new_held put
@@ -84,7 +84,7 @@ module _ (o : Outset) (sound : Bool) (books : Books) (story : Story) (held : Opt
 
     recast_stands : AreBooksOf sound (recast_books claim recast kept books) recast_state
     recast_stands = record {
-      skeleton = recast_bare r.state.warehouse books.bare claim.table recast v.state.skeleton;
+      projection = recast_bare r.state.warehouse books.bare claim.table recast v.state.projection;
       machine = λ i. claim_recast (v.state.machine i) claim;
       rows = λ ok. regroups r.state v.state ok;
       pins = v.state.pins;
@@ -92,13 +92,13 @@ module _ (o : Outset) (sound : Bool) (books : Books) (story : Story) (held : Opt
 
     -- its device work is done: the books have the table recast, and the lease has ended
     pub recast_turn : Counts story new false → (IsTrue sound → new.moment < last → AllStand o.stands new kept) → IsPut (block (entry s n kind.Close outcome.Stands m) (Some (told_at at rep))) now held new_held
-        → WalksWith o sound (recast_books claim recast kept books) new new_held h (entry s n kind.Close outcome.Stands m) now (refused || false) rep
+        → KeepsInvariantTelling o sound (recast_books claim recast kept books) new new_held h (entry s n kind.Close outcome.Stands m) now (refused || false) rep
     recast_turn counts stand put =
         done_turn o sound books story held h running refused v s n low few c is_one m ran at place claim due holds new moment passes had recast_state rep recast_is refl refl kept (λ ok. regroups r.state v.state ok) writes now new_held
         (recast_books claim recast kept books) recast_stands counts stand put
 
     -- its device work has failed: the books close, and the lease has ended
     pub unrecast_turn : Counts story new true → IsPut (block (entry s n kind.Close outcome.WriteFault m) (Some (told_at at (reply_of Unwritten)))) now held new_held
-        → WalksOn o sound (closed_books at (ended_books claim books)) new new_held h (entry s n kind.Close outcome.WriteFault m) now (refused || true)
+        → KeepsInvariant o sound (closed_books at (ended_books claim books)) new new_held h (entry s n kind.Close outcome.WriteFault m) now (refused || true)
     unrecast_turn counts put =
         undone_turn o sound books story held h running refused v s n low few c is_one m ran at place claim due holds new moment passes had recast_state rep recast_is refl refl kept (λ ok. regroups r.state v.state ok) writes now new_held counts put

@@ -1,4 +1,4 @@
--- A walk with one entry more: three lemmas, by what the turn's device work did.
+-- The invariant with one entry more: three lemmas, by what the turn's device work did.
 use Rattle.std.proofs.Common.{◌≡◌, ◌⊎◌, inl, inr, ⊎_elim, ℕ, ◌+◌, ◌<◌, ◌≤◌, List, [], ◌∷◌, ◌++◌, Bool, true, false, not, ◌||◌, IsTrue, refl, sym, ◌∙◌, ap, subst, arith, Option}
 use Rattle.std.proofs.lemmas.Bool.Decides.{leb_tells}
 use Rattle.mesa_fault.specs.Causes.{last}
@@ -18,7 +18,7 @@ use Rattle.mesa_projection.proofs.mesa_history.Refusing.{refused_more}
 use Rattle.mesa_projection.proofs.mesa_history.Finding.{all_more, all_later, still, without, with_it, as_tried, unchanged}
 use Rattle.mesa_invariant.specs.Books.{Books, AreBooksOf}
 use Rattle.mesa_invariant.specs.Printing.{Prints}
-use Rattle.mesa_invariant.specs.Walk.{Outset, run_of, IsAtClock, AllFound, HasCounted, faults_in, IsWalk, Counts, StandsForEither, AllStand, HasLaws, Passes}
+use Rattle.mesa_invariant.specs.Invariant.{Outset, run_of, IsAtClock, AllFound, HasCounted, faults_in, HoldsInvariant, Counts, StandsForEither, AllStand, HasLaws, Passes}
 use Rattle.mesa_invariant.proofs.Pieces.{shown_more}
 use Rattle.mesa_invariant.proofs.Printed.{printed_more, sink_more}
 
@@ -63,7 +63,7 @@ found_step F G P old new m since run laws higher m_is below was still_ now here 
 
 -- ---- one entry more
 
-module _ (o : Outset) (sound : Bool) (books : Books) (old : Story) (held : Option (List ℕ)) (h : List Entry) (running refused : Bool) (v : IsWalk o sound books old held h running refused) where
+module _ (o : Outset) (sound : Bool) (books : Books) (old : Story) (held : Option (List ℕ)) (h : List Entry) (running refused : Bool) (v : HoldsInvariant o sound books old held h running refused) where
   abbrev r : Run
   r = run_of o h
 
@@ -88,7 +88,7 @@ module _ (o : Outset) (sound : Bool) (books : Books) (old : Story) (held : Optio
 
     -- all but what is found
     with_entry : (after : Books) (new : Story) → old.moment ≤ new.moment → e.moment ≡ new.moment → Counts old new (is_disk_fault r e) → AreBooksOf sound after made.state → (IsTrue sound → AllFound o (h ++ e ∷ []) new)
-        → IsWalk o sound after new new_held (h ++ e ∷ []) now (refused || tells_refusal made.told)
+        → HoldsInvariant o sound after new new_held (h ++ e ∷ []) now (refused || tells_refusal made.told)
     with_entry after new later moment counts state found = record {
       state = subst (AreBooksOf sound after) (sym state_is) state;
       legal = fit_more o.script b h e v.legal step.fits;
@@ -106,7 +106,7 @@ module _ (o : Outset) (sound : Bool) (books : Books) (old : Story) (held : Optio
 
     -- An entry that moves nothing on the disk, and keeps what a store keeps, whatever the books become.
     pub quiet : (after : Books) (new : Story) → Unmoved old new → Counts old new (is_disk_fault r e) → e.moment ≡ old.moment → AreBooksOf sound after made.state → kept_of made.state ≡ kept_of r.state
-        → IsWalk o sound after new new_held (h ++ e ∷ []) now (refused || tells_refusal made.told)
+        → HoldsInvariant o sound after new new_held (h ++ e ∷ []) now (refused || tells_refusal made.told)
     quiet after new same counts moment state kept =
         let unmoved : kept_in (go o.script r e) ≡ kept_in r = kept_now ∙ kept ∙ sym (kept_in_is r) in
         with_entry after new (omega (arith, same.moment)) (moment ∙ sym same.moment) counts state
@@ -124,7 +124,7 @@ module _ (o : Outset) (sound : Bool) (books : Books) (old : Story) (held : Optio
 
       -- An entry whose device work wrote what it makes.
       pub wrote : (after : Books) → AreBooksOf sound after made.state → (IsTrue sound → new.moment < last → Spans (StandsForEither o.stands (kept_of r.state) (kept_of made.state)) old new) → (IsTrue sound → new.moment < last → AllStand o.stands new (kept_of made.state))
-          → IsWalk o sound after new new_held (h ++ e ∷ []) now (refused || tells_refusal made.told)
+          → HoldsInvariant o sound after new new_held (h ++ e ∷ []) now (refused || tells_refusal made.told)
       wrote after state spans done =
           with_entry after new passes.later moment counts state
           (λ ok below t c begun le left.
@@ -138,7 +138,7 @@ module _ (o : Outset) (sound : Bool) (books : Books) (old : Story) (held : Optio
 
       -- An entry whose device work failed, which closes; what it tried is what it would have made had it stood.
       pub tried : (after : Books) (aim : Kept) → AreBooksOf sound after made.state → kept_of made.state ≡ kept_of r.state → closes r.moment e ≡ true → (IsTrue sound → aim ≡ kept_in (go o.script r (stood e)))
-          → (IsTrue sound → new.moment < last → Spans (StandsForEither o.stands (kept_of r.state) aim) old new) → IsWalk o sound after new new_held (h ++ e ∷ []) now (refused || tells_refusal made.told)
+          → (IsTrue sound → new.moment < last → Spans (StandsForEither o.stands (kept_of r.state) aim) old new) → HoldsInvariant o sound after new new_held (h ++ e ∷ []) now (refused || tells_refusal made.told)
       tried after aim state kept closing aim_is spans =
           let unmoved : kept_of r.state ≡ kept_in (go o.script r e) = sym kept ∙ sym kept_now in
           let had : IsTrue sound → old.moment < last → (u : ℕ) (d : Image) → old.may_leave d → G u d = λ ok low u d left'. with_it o.stands o.script b h e u d (kept_of r.state) (had_old ok low d left') unmoved in

@@ -1,4 +1,4 @@
--- A walk with one turn of a session's command more.
+-- The invariant with one turn of a session's command more.
 use Rattle.std.proofs.Common.{◌≡◌, ℕ, ◌<◌, List, length, Bool, true, false, not, ◌||◌, IsTrue, refl, sym, ◌∙◌, ap, subst, arith, Option, None, Some}
 use Rattle.mesa_fault.specs.Causes.{Rose, last}
 use Rattle.mesa_disk.specs.Story.{Story, Unmoved, Spans}
@@ -24,7 +24,7 @@ use Rattle.mesa_invariant.specs.Books.{Books, AreBooksOf}
 use Rattle.mesa_invariant.specs.Causes.{Cause, Replies, Unread, Damaged, Unwritten, NoMemory, outcome_of, reply_of, replayed, CanBeTold, told_at}
 use Rattle.mesa_invariant.specs.Printing.{IsPut, Puts, Prints}
 use Rattle.mesa_invariant.specs.Turns.{entry}
-use Rattle.mesa_invariant.specs.Walk.{Outset, run_of, IsWalk, WalksOn, WalksWith, Counts, StandsForEither, AllStand, Passes}
+use Rattle.mesa_invariant.specs.Invariant.{Outset, run_of, HoldsInvariant, KeepsInvariant, KeepsInvariantTelling, Counts, StandsForEither, AllStand, Passes}
 use Rattle.mesa_invariant.proofs.Clock.{quiet_moment, written_moment, closing_moment}
 use Rattle.mesa_invariant.proofs.Coming.{comes_skipped}
 use Rattle.mesa_invariant.proofs.Pieces.{with_rows}
@@ -56,7 +56,7 @@ refusal_replayed (Damaged damage) = refl
 refusal_replayed Unwritten = refl
 refusal_replayed NoMemory = refl
 
-module _ (o : Outset) (sound : Bool) (books : Books) (story : Story) (held : Option (List ℕ)) (h : List Entry) (running refused : Bool) (v : IsWalk o sound books story held h running refused) where
+module _ (o : Outset) (sound : Bool) (books : Books) (story : Story) (held : Option (List ℕ)) (h : List Entry) (running refused : Bool) (v : HoldsInvariant o sound books story held h running refused) where
   abbrev r : Run
   r = run_of o h
 
@@ -66,7 +66,7 @@ module _ (o : Outset) (sound : Bool) (books : Books) (story : Story) (held : Opt
 
   -- what books that are open say of Replay's warehouse
   pub opened : books.bare.closed ≡ None → r.state.warehouse.closed ≡ None
-  opened is = ap (λ (w : Warehouse). w.closed) v.state.skeleton ∙ is
+  opened is = ap (λ (w : Warehouse). w.closed) v.state.projection ∙ is
 
   -- the block of a reply that stands
   pub puts_reply : (e : Entry) (rep : Reply) (at : ℕ) → at ≡ length h → e.outcome ≡ outcome.Stands → (now : Bool) (new_held : Option (List ℕ)) → IsPut (block e (Some (told_at at rep))) now held new_held → Puts sound e (told_at r.position rep) now held new_held
@@ -88,9 +88,9 @@ module _ (o : Outset) (sound : Bool) (books : Books) (story : Story) (held : Opt
       -- Any such turn that keeps what a store keeps, whatever the books become.
       pub quiet_turn : is_skipped e ≡ not running → (made : Turned) → turn_of r c e stage e.outcome ≡ made → wrote made.told ≡ false → Counts story new (is_disk_fault r e)
           → (now : Bool) (new_held : Option (List ℕ)) → Prints sound e made.told running now held new_held → (after : Books) → AreBooksOf sound after made.state → kept_of made.state ≡ kept_of r.state
-          → WalksOn o sound after new new_held h e now (refused || tells_refusal made.told)
+          → KeepsInvariant o sound after new new_held h e now (refused || tells_refusal made.told)
       quiet_turn skipped made is silent counts now new_held prints' after state kept =
-          record { walk = quiet o sound books story held h running refused v e made now new_held step after new unmoved counts moment state kept; silent = still_silent }
+          record { invariant = quiet o sound books story held h running refused v e made now new_held step after new unmoved counts moment state kept; silent = still_silent }
         where
           turn : turned o.script r e ≡ made
           turn = turned_at o.script r e c stage due ∙ is
@@ -109,23 +109,23 @@ module _ (o : Outset) (sound : Bool) (books : Books) (story : Story) (held : Opt
 
       -- one that prints nothing
       pub mute_turn : is_skipped e ≡ not running → (state : State) (to : Stage) → turn_of r c e stage e.outcome ≡ leaves state to → Counts story new (is_disk_fault r e) → (after : Books) → AreBooksOf sound after state → kept_of state ≡ kept_of r.state
-          → WalksOn o sound after new held h e running refused
+          → KeepsInvariant o sound after new held h e running refused
       mute_turn skipped state to is counts after state_is kept =
-          subst (WalksOn o sound after new held h e running) (or-false refused) (quiet_turn skipped (leaves state to) is refl counts running held (refl, refl) after state_is kept)
+          subst (KeepsInvariant o sound after new held h e running) (or-false refused) (quiet_turn skipped (leaves state to) is refl counts running held (refl, refl) after state_is kept)
 
       -- one that prints a reply without rows
       pub told_turn : running ≡ true → is_skipped e ≡ false → (state : State) (rep : Reply) → turn_of r c e stage e.outcome ≡ prints r.position state rep → is_written rep ≡ false → Counts story new (is_disk_fault r e)
           → (now : Bool) (new_held : Option (List ℕ)) → Puts sound e (told_at r.position rep) now held new_held → (after : Books) → AreBooksOf sound after state → kept_of state ≡ kept_of r.state
-          → WalksOn o sound after new new_held h e now (refused || is_refusal rep)
+          → KeepsInvariant o sound after new new_held h e now (refused || is_refusal rep)
       told_turn ran done state rep is silent counts now new_held puts after state_is kept =
           quiet_turn (done ∙ ap not (sym ran)) (prints r.position state rep) is silent counts now new_held (ran, puts) after state_is kept
 
       -- one that prints why it didn't do what its command asks
       pub cause_turn : running ≡ true → (cause : Cause) → e.outcome ≡ outcome_of cause → CanBeTold cause → is_skipped e ≡ false → (state : State) → turn_of r c e stage e.outcome ≡ prints r.position state (replayed cause) → is_written (replayed cause) ≡ false
           → Counts story new (is_disk_fault r e) → (at : ℕ) → at ≡ length h → (now : Bool) (new_held : Option (List ℕ)) → IsPut (block e (Some (told_at at (reply_of cause)))) now held new_held → (after : Books) → AreBooksOf sound after state → kept_of state ≡ kept_of r.state
-          → WalksOn o sound after new new_held h e now (refused || is_refusal (reply_of cause))
+          → KeepsInvariant o sound after new new_held h e now (refused || is_refusal (reply_of cause))
       cause_turn ran cause ends can done state is silent counts at place now new_held put after state_is kept =
-          subst (λ b. WalksOn o sound after new new_held h e now (refused || b)) (refusal_replayed cause)
+          subst (λ b. KeepsInvariant o sound after new new_held h e now (refused || b)) (refusal_replayed cause)
           (told_turn ran done state (replayed cause) is silent counts now new_held (puts_cause e cause at place ends can now new_held put) after state_is kept)
 
     -- ---- turns with device work
@@ -144,8 +144,8 @@ module _ (o : Outset) (sound : Bool) (books : Books) (story : Story) (held : Opt
 
       -- one whose device work wrote what it makes
       pub wrote_turn : is_written rep ≡ true → (after : Books) → AreBooksOf sound after state → (IsTrue sound → new.moment < last → Spans (StandsForEither o.stands (kept_of r.state) (kept_of state)) story new)
-          → (IsTrue sound → new.moment < last → AllStand o.stands new (kept_of state)) → WalksWith o sound after new new_held h e now (refused || is_refusal rep) rep
-      wrote_turn writes after state_is spans stand = record { walk = wrote_step o sound books story held h running refused v e (prints r.position state rep) now new_held step new passes counts moment had after state_is spans stand; tells = told }
+          → (IsTrue sound → new.moment < last → AllStand o.stands new (kept_of state)) → KeepsInvariantTelling o sound after new new_held h e now (refused || is_refusal rep) rep
+      wrote_turn writes after state_is spans stand = record { invariant = wrote_step o sound books story held h running refused v e (prints r.position state rep) now new_held step new passes counts moment had after state_is spans stand; tells = told }
         where
           told : told_by o.script r e ≡ Some (told_at r.position rep)
           told = ap (λ (t : Turned). t.told) turn
@@ -161,9 +161,9 @@ module _ (o : Outset) (sound : Bool) (books : Books) (story : Story) (held : Opt
 
       -- one whose device work failed
       pub failed_turn : is_written rep ≡ false → closes r.moment e ≡ true → (aim : Kept) → (after : Books) → AreBooksOf sound after state → kept_of state ≡ kept_of r.state → (IsTrue sound → aim ≡ kept_in (go o.script r (stood e)))
-          → (IsTrue sound → new.moment < last → Spans (StandsForEither o.stands (kept_of r.state) aim) story new) → WalksOn o sound after new new_held h e now (refused || is_refusal rep)
+          → (IsTrue sound → new.moment < last → Spans (StandsForEither o.stands (kept_of r.state) aim) story new) → KeepsInvariant o sound after new new_held h e now (refused || is_refusal rep)
       failed_turn silent closing_is aim after state_is kept aim_is spans =
-          record { walk = tried o sound books story held h running refused v e (prints r.position state rep) now new_held step new passes counts moment had after aim state_is kept closing_is aim_is spans; silent = still_silent }
+          record { invariant = tried o sound books story held h running refused v e (prints r.position state rep) now new_held step new passes counts moment had after aim state_is kept closing_is aim_is spans; silent = still_silent }
         where
           still_silent : wrote (told_by o.script r e) ≡ false
           still_silent = ap (λ (t : Turned). wrote t.told) turn ∙ silent
@@ -180,6 +180,6 @@ module _ (o : Outset) (sound : Bool) (books : Books) (story : Story) (held : Opt
   -- ---- a turn that is skipped, once the sink has failed
 
   pub skipped_turn : (s n : ℕ) (c : Command) (stage : Stage) (k : Kind) (m : ℕ) → IsDue o.script r s n c stage → IsShort (entry s n k outcome.Skipped m) → IsTrue (is_due_at c stage k) → running ≡ false → m ≡ story.moment → (new : Story) → Unmoved story new → Counts story new false
-      → WalksOn o sound books new held h (entry s n k outcome.Skipped m) running refused
+      → KeepsInvariant o sound books new held h (entry s n k outcome.Skipped m) running refused
   skipped_turn s n c stage k m due short comes failed moment new unmoved counts =
       mute_turn (entry s n k outcome.Skipped m) c stage due short moment new unmoved (comes_skipped r c stage s n k m comes) (ap not (sym failed)) r.state CutOff refl counts books v.state refl

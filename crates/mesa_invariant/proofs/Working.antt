@@ -43,7 +43,7 @@ use Rattle.mesa_invariant.specs.Books.{Books, AreBooksOf, closed_books, closed_b
 use Rattle.mesa_invariant.specs.Causes.{Cause, Replies, Unread, Damaged, Unwritten, NoMemory, is_read_fault, outcome_of, reply_of, told_at}
 use Rattle.mesa_invariant.specs.Printing.{IsPut}
 use Rattle.mesa_invariant.specs.Turns.{entry}
-use Rattle.mesa_invariant.specs.Walk.{Outset, run_at, run_of, IsWalk, WalksOn, WalksWith, Counts, AllStand, Passes, Writes, StandsForEither}
+use Rattle.mesa_invariant.specs.Invariant.{Outset, run_at, run_of, HoldsInvariant, KeepsInvariant, KeepsInvariantTelling, Counts, AllStand, Passes, Writes, StandsForEither}
 use Rattle.mesa_invariant.specs.Works.{HasNoClaim, HasNotMerged, Swaps, closing_stage, unmerged_books}
 use Rattle.mesa_invariant.proofs.Clock.{same_moment, not_closing, begun_moment, closing}
 use Rattle.mesa_invariant.proofs.Coming.{fits_open, or_right, renewal_open, comes_standing, comes_without_memory, comes_unread, comes_damaged, comes_unwritten, comes_undrafted}
@@ -196,7 +196,7 @@ close_later false claim first = absurd cc
 close_refused : (early : Bool) (claim : Claim) (position : ℕ) (s : State) (x : Refusal) → refused_turn position s kind.Close (closing_stage early claim) x ≡ refuses position (with_machine s (claim_ended s.machine claim)) x
 close_refused early claim position s x = λ i. refuses (close_at early claim position i) (close_ends early claim s i) x
 
-module _ (o : Outset) (sound : Bool) (books : Books) (story : Story) (held : Option (List ℕ)) (h : List Entry) (running refused : Bool) (v : IsWalk o sound books story held h running refused)
+module _ (o : Outset) (sound : Bool) (books : Books) (story : Story) (held : Option (List ℕ)) (h : List Entry) (running refused : Bool) (v : HoldsInvariant o sound books story held h running refused)
     (s n : ℕ) (low : s < 2 ^ 16) (few : n < 2 ^ 32) (works : Command) (is_one : is_work works ≡ true) (m : ℕ) (ran : running ≡ true) (at : ℕ) (place : at ≡ length h) where
   abbrev r : Run
   r = run_of o h
@@ -215,14 +215,14 @@ module _ (o : Outset) (sound : Bool) (books : Books) (story : Story) (held : Opt
 
   -- what the books say of a claim is what Replay says
   pub claim_is : claim_asked w r.state.machine r.position works ≡ claim_asked books.bare books.machine at works
-  claim_is = asked-bare w r.state.machine r.position works ∙ (λ i. claim_asked (v.state.skeleton i) (v.state.machine i) (sym at_is i) works)
+  claim_is = asked-bare w r.state.machine r.position works ∙ (λ i. claim_asked (v.state.projection i) (v.state.machine i) (sym at_is i) works)
 
   pub checked_is : (claim : Claim) → claim_checked w r.state.machine r.position claim ≡ claim_checked books.bare books.machine at claim
-  checked_is claim = λ i. claim_checked (v.state.skeleton i) (v.state.machine i) (sym at_is i) claim
+  checked_is claim = λ i. claim_checked (v.state.projection i) (v.state.machine i) (sym at_is i) claim
 
   -- the books with another range machine
   pub machine_stands : (a b : Machine) → a ≡ b → a.ranges ≡ r.state.machine.ranges → AreBooksOf sound (record books { machine = b }) (with_machine r.state a)
-  machine_stands a b is same = record { skeleton = v.state.skeleton; machine = is; rows = λ ok. ap (λ x. record (kept_of r.state) { ranges = x }) same ∙ v.state.rows ok; pins = v.state.pins }
+  machine_stands a b is same = record { projection = v.state.projection; machine = is; rows = λ ok. ap (λ x. record (kept_of r.state) { ranges = x }) same ∙ v.state.rows ok; pins = v.state.pins }
 
   -- ---- turns that move nothing on the disk
 
@@ -235,7 +235,7 @@ module _ (o : Outset) (sound : Bool) (books : Books) (story : Story) (held : Opt
 
       -- it is granted
       pub granted_turn : (claim : Claim) → claim_asked books.bare books.machine at works ≡ Ok claim → Counts story new false
-          → WalksOn o sound (granted_books at claim books) new held h (entry s n kind.Grant outcome.Stands m) running refused
+          → KeepsInvariant o sound (granted_books at claim books) new held h (entry s n kind.Grant outcome.Stands m) running refused
       granted_turn claim is counts =
           mute_turn o sound books story held h running refused v (entry s n kind.Grant outcome.Stands m) works First due (short kind.Grant outcome.Stands) moment new unmoved
           (comes_standing r works First s n kind.Grant m fit.grants (renewal_open w.closed First kind.Grant outcome.Stands refl)) (ap not (sym ran)) (with_machine r.state (claimed r.state.machine r.position claim)) (Granted claim) (grant_is (Ok claim) is) counts
@@ -253,7 +253,7 @@ module _ (o : Outset) (sound : Bool) (books : Books) (story : Story) (held : Opt
 
       -- it isn't
       pub ungranted_turn : (cause : Cause) → HasNoClaim books (claim_asked books.bare books.machine at works) cause → Counts story new (is_read_fault cause) → (now : Bool) (new_held : Option (List ℕ)) → IsPut (block (entry s n kind.Grant (outcome_of cause) m) (Some (told_at at (reply_of cause)))) now held new_held
-          → WalksOn o sound books new new_held h (entry s n kind.Grant (outcome_of cause) m) now (refused || is_refusal (reply_of cause))
+          → KeepsInvariant o sound books new new_held h (entry s n kind.Grant (outcome_of cause) m) now (refused || is_refusal (reply_of cause))
       ungranted_turn (Replies rep) has counts now new_held put =
           cause_turn o sound books story held h running refused v (entry s n kind.Grant outcome.Stands m) works First due (short kind.Grant outcome.Stands) moment new unmoved
           (comes_standing r works First s n kind.Grant m fit.grants (renewal_open w.closed First kind.Grant outcome.Stands refl)) ran (Replies rep) refl tt refl r.state (grant_is (Err rep) has) (claim_silent books.bare books.machine at works rep has) counts at place now new_held put books v.state refl
@@ -279,7 +279,7 @@ module _ (o : Outset) (sound : Bool) (books : Books) (story : Story) (held : Opt
     module _ (claim : Claim) (due : IsDue o.script (run_of o h) s n works (Granted claim)) where
       -- its lease holds anew
       pub renewed_turn : claim_checked books.bare books.machine at claim ≡ Ok tt → Counts story new false
-          → WalksOn o sound (renewed_books at claim books) new held h (entry s n kind.Renew outcome.Stands m) running refused
+          → KeepsInvariant o sound (renewed_books at claim books) new held h (entry s n kind.Renew outcome.Stands m) running refused
       renewed_turn holds counts =
           mute_turn o sound books story held h running refused v (entry s n kind.Renew outcome.Stands m) works (Granted claim) due (short kind.Renew outcome.Stands) moment new unmoved
           (comes_standing r works (Granted claim) s n kind.Renew m refl refl) (ap not (sym ran)) (with_machine r.state (claim_renewed r.state.machine r.position claim)) (Renewed claim) (ap (renews r.position r.state claim) (checked_is claim ∙ holds)) counts
@@ -291,7 +291,7 @@ module _ (o : Outset) (sound : Bool) (books : Books) (story : Story) (held : Opt
 
       -- it is lost, or the books are closed
       pub unrenewed_turn : (x : Refusal) → claim_checked books.bare books.machine at claim ≡ Err x → Counts story new false → (now : Bool) (new_held : Option (List ℕ)) → IsPut (block (entry s n kind.Renew outcome.Stands m) (Some (told_at at (reply.Refused x)))) now held new_held
-          → WalksOn o sound books new new_held h (entry s n kind.Renew outcome.Stands m) now (refused || true)
+          → KeepsInvariant o sound books new new_held h (entry s n kind.Renew outcome.Stands m) now (refused || true)
       unrenewed_turn x lost counts now new_held put =
           cause_turn o sound books story held h running refused v (entry s n kind.Renew outcome.Stands m) works (Granted claim) due (short kind.Renew outcome.Stands) moment new unmoved
           (comes_standing r works (Granted claim) s n kind.Renew m refl refl) ran (Replies (reply.Refused x)) refl tt refl r.state (ap (renews r.position r.state claim) (checked_is claim ∙ lost)) refl counts at place now new_held put books v.state refl
@@ -311,9 +311,9 @@ module _ (o : Outset) (sound : Bool) (books : Books) (story : Story) (held : Opt
 
       -- the books are closed: nothing changes
       pub shut_turn : (p : ℕ) → books.bare.closed ≡ Some p → Counts story new false → (now : Bool) (new_held : Option (List ℕ)) → IsPut (block (entry s n kind.Close outcome.Stands m) (Some (told_at at (reply.Refused (no.Closed p))))) now held new_held
-          → WalksOn o sound books new new_held h (entry s n kind.Close outcome.Stands m) now (refused || true)
+          → KeepsInvariant o sound books new new_held h (entry s n kind.Close outcome.Stands m) now (refused || true)
       shut_turn p shut counts now new_held put =
-          let shut_is : w.closed ≡ Some p = ap (λ (x : Warehouse). x.closed) v.state.skeleton ∙ shut in
+          let shut_is : w.closed ≡ Some p = ap (λ (x : Warehouse). x.closed) v.state.projection ∙ shut in
           let checked : claim_checked w r.state.machine r.position claim ≡ Err (no.Closed p) = λ i. claim_checked (record w { closed = shut_is i }) r.state.machine r.position claim in
           cause_turn o sound books story held h running refused v (entry s n kind.Close outcome.Stands m) works stage due (short kind.Close outcome.Stands) moment new unmoved
           (comes_standing r works stage s n kind.Close m (close_due early claim works) (or_right _ _ (subst (λ x. IsTrue (is_some x)) (sym shut_is) refl))) ran (Replies (reply.Refused (no.Closed p))) refl tt refl r.state
@@ -324,7 +324,7 @@ module _ (o : Outset) (sound : Bool) (books : Books) (story : Story) (held : Opt
 
       closed_stand : (b : Bool) → AreBooksOf sound (closed_books_if b at (ended_books claim books)) (closed_state b)
       closed_stand true = record {
-        skeleton = ap (λ (x : Warehouse). record x { closed = Some r.position }) v.state.skeleton ∙ ap (λ p. record books.bare { closed = Some p }) (sym at_is);
+        projection = ap (λ (x : Warehouse). record x { closed = Some r.position }) v.state.projection ∙ ap (λ p. record books.bare { closed = Some p }) (sym at_is);
         machine = λ i. claim_ended (v.state.machine i) claim;
         rows = v.state.rows;
         pins = v.state.pins;
@@ -340,7 +340,7 @@ module _ (o : Outset) (sound : Bool) (books : Books) (story : Story) (held : Opt
 
       -- for whatever cause: the lease ends
       pub unmerged_turn : (cause : Cause) (b : Bool) → closes r.moment (entry s n kind.Close outcome.WriteFault m) ≡ b → HasNotMerged books cause → Counts story new (is_read_fault cause) → (now : Bool) (new_held : Option (List ℕ)) → IsPut (block (entry s n kind.Close (outcome_of cause) m) (Some (told_at at (reply_of cause)))) now held new_held
-          → WalksOn o sound (unmerged_books cause b at claim books) new new_held h (entry s n kind.Close (outcome_of cause) m) now (refused || is_refusal (reply_of cause))
+          → KeepsInvariant o sound (unmerged_books cause b at claim books) new new_held h (entry s n kind.Close (outcome_of cause) m) now (refused || is_refusal (reply_of cause))
       unmerged_turn (Replies rep) b closes_is has counts now new_held put = absurd has
       unmerged_turn Unread b closes_is has counts now new_held put =
           cause_turn o sound books story held h running refused v (entry s n kind.Close outcome.ReadFault m) works stage due (short kind.Close outcome.ReadFault) moment new unmoved
@@ -367,14 +367,14 @@ module _ (o : Outset) (sound : Bool) (books : Books) (story : Story) (held : Opt
     module _ (claim : Claim) (due : IsDue o.script (run_of o h) s n works (Renewed claim)) where
       -- the lease is lost, or the books are closed: nothing changes
       pub lost_turn : (x : Refusal) → claim_checked books.bare books.machine at claim ≡ Err x → Counts story new false → (now : Bool) (new_held : Option (List ℕ)) → IsPut (block (entry s n kind.Close outcome.Stands m) (Some (told_at at (reply.Refused x)))) now held new_held
-          → WalksOn o sound books new new_held h (entry s n kind.Close outcome.Stands m) now (refused || true)
+          → KeepsInvariant o sound books new new_held h (entry s n kind.Close outcome.Stands m) now (refused || true)
       lost_turn x lost counts now new_held put =
           cause_turn o sound books story held h running refused v (entry s n kind.Close outcome.Stands m) works (Renewed claim) due (short kind.Close outcome.Stands) moment new unmoved
           (comes_standing r works (Renewed claim) s n kind.Close m refl refl) ran (Replies (reply.Refused x)) refl tt refl r.state (ap (completes r.position r.state claim) (checked_is claim ∙ lost)) refl counts at place now new_held put books v.state refl
 
       -- the lease holds, and its errand is refused: the lease ends
       pub unfit_turn : (x : Refusal) → completes r.position r.state claim (claim_checked w r.state.machine r.position claim) ≡ refuses r.position (with_machine r.state (claim_ended r.state.machine claim)) x → Counts story new false → (now : Bool) (new_held : Option (List ℕ))
-          → IsPut (block (entry s n kind.Close outcome.Stands m) (Some (told_at at (reply.Refused x)))) now held new_held → WalksOn o sound (ended_books claim books) new new_held h (entry s n kind.Close outcome.Stands m) now (refused || true)
+          → IsPut (block (entry s n kind.Close outcome.Stands m) (Some (told_at at (reply.Refused x)))) now held new_held → KeepsInvariant o sound (ended_books claim books) new new_held h (entry s n kind.Close outcome.Stands m) now (refused || true)
       unfit_turn x unfit counts now new_held put =
           cause_turn o sound books story held h running refused v (entry s n kind.Close outcome.Stands m) works (Renewed claim) due (short kind.Close outcome.Stands) moment new unmoved
           (comes_standing r works (Renewed claim) s n kind.Close m refl refl) ran (Replies (reply.Refused x)) refl tt refl (with_machine r.state (claim_ended r.state.machine claim)) unfit refl counts at place now new_held put
@@ -382,7 +382,7 @@ module _ (o : Outset) (sound : Bool) (books : Books) (story : Story) (held : Opt
 
       -- there is no memory for what it does: the lease ends
       pub starved_turn : books.bare.closed ≡ None → Counts story new false → (now : Bool) (new_held : Option (List ℕ)) → IsPut (block (entry s n kind.Close outcome.Memory m) (Some (told_at at (reply.Refused no.Memory)))) now held new_held
-          → WalksOn o sound (ended_books claim books) new new_held h (entry s n kind.Close outcome.Memory m) now (refused || true)
+          → KeepsInvariant o sound (ended_books claim books) new new_held h (entry s n kind.Close outcome.Memory m) now (refused || true)
       starved_turn is counts now new_held put =
           cause_turn o sound books story held h running refused v (entry s n kind.Close outcome.Memory m) works (Renewed claim) due (short kind.Close outcome.Memory) moment new unmoved
           (comes_without_memory r works (Renewed claim) s n kind.Close m refl fit.close_starved (fits_open w.closed false false false false (opened o sound books story held h running refused v is))) ran NoMemory refl tt refl (with_machine r.state (claim_ended r.state.machine claim)) refl refl counts at place now new_held put
@@ -408,9 +408,9 @@ module _ (o : Outset) (sound : Bool) (books : Books) (story : Story) (held : Opt
 
     -- its device work is done
     pub done_turn : (after : Books) → AreBooksOf sound after state → Counts story new false → (IsTrue sound → new.moment < last → AllStand o.stands new kept) → IsPut (block (entry s n kind.Close outcome.Stands m) (Some (told_at at rep))) now held new_held
-        → WalksWith o sound after new new_held h (entry s n kind.Close outcome.Stands m) now (refused || false) rep
+        → KeepsInvariantTelling o sound after new new_held h (entry s n kind.Close outcome.Stands m) now (refused || false) rep
     done_turn after stands counts stand put =
-        subst (λ b. WalksWith o sound after new new_held h (entry s n kind.Close outcome.Stands m) now (refused || b) rep) told
+        subst (λ b. KeepsInvariantTelling o sound after new new_held h (entry s n kind.Close outcome.Stands m) now (refused || b) rep) told
         (wrote_turn o sound books story held h running refused v (entry s n kind.Close outcome.Stands m) works (Renewed claim) due (short kind.Close outcome.Stands) new passes moment counts had_kept
         (comes_standing r works (Renewed claim) s n kind.Close m refl refl) ran refl state rep done_is now new_held
         (puts_reply o sound books story held h running refused v (entry s n kind.Close outcome.Stands m) rep at place refl now new_held put) writing after stands
@@ -418,7 +418,7 @@ module _ (o : Outset) (sound : Bool) (books : Books) (story : Story) (held : Opt
 
     -- its device work has failed: the books close, and the lease has ended
     pub undone_turn : Counts story new true → IsPut (block (entry s n kind.Close outcome.WriteFault m) (Some (told_at at (reply_of Unwritten)))) now held new_held
-        → WalksOn o sound (closed_books at (ended_books claim books)) new new_held h (entry s n kind.Close outcome.WriteFault m) now (refused || true)
+        → KeepsInvariant o sound (closed_books at (ended_books claim books)) new new_held h (entry s n kind.Close outcome.WriteFault m) now (refused || true)
     undone_turn counts put =
         let e = entry s n kind.Close outcome.WriteFault m in
         let shut : State = closed_off (closed_if true r.position r.state) (Renewed claim) in
@@ -428,7 +428,7 @@ module _ (o : Outset) (sound : Bool) (books : Books) (story : Story) (held : Opt
         ran refl shut (reply_of Unwritten) (ap (λ b. refuses r.position (closed_off (closed_if b r.position r.state) (Renewed claim)) no.WriteFault) closing_is) now new_held
         (puts_cause o sound books story held h running refused v e Unwritten at place refl tt now new_held put) refl closing_is kept (closed_books at (ended_books claim books))
         (record {
-          skeleton = ap (λ (x : Warehouse). record x { closed = Some r.position }) v.state.skeleton ∙ ap (λ p. record books.bare { closed = Some p }) (sym at_is);
+          projection = ap (λ (x : Warehouse). record x { closed = Some r.position }) v.state.projection ∙ ap (λ p. record books.bare { closed = Some p }) (sym at_is);
           machine = λ i. claim_ended (v.state.machine i) claim;
           rows = v.state.rows;
           pins = v.state.pins;
@@ -448,13 +448,13 @@ module _ (o : Outset) (sound : Bool) (books : Books) (story : Story) (held : Opt
 
     -- its device work is done: the books have its range, and the lease has ended
     pub swapped_turn : Counts story new false → (IsTrue sound → new.moment < last → AllStand o.stands new kept) → IsPut (block (entry s n kind.Close outcome.Stands m) (Some (told_at at (swapped_reply work)))) now held new_held
-        → WalksWith o sound (swapped_books claim work kept books) new new_held h (entry s n kind.Close outcome.Stands m) now (refused || false) (swapped_reply work)
+        → KeepsInvariantTelling o sound (swapped_books claim work kept books) new new_held h (entry s n kind.Close outcome.Stands m) now (refused || false) (swapped_reply work)
     swapped_turn counts stand put =
         done_turn claim due holds new moment passes had swapped_state (swapped_reply work) swapped_is (swap_writes work) (swap_told work) kept (λ ok. swaps r.state v.state ok) writes now new_held (swapped_books claim work kept books)
-        (record { skeleton = v.state.skeleton; machine = λ i. claim_merged (v.state.machine i) claim work; rows = λ ok. swaps r.state v.state ok; pins = v.state.pins }) counts stand put
+        (record { projection = v.state.projection; machine = λ i. claim_merged (v.state.machine i) claim work; rows = λ ok. swaps r.state v.state ok; pins = v.state.pins }) counts stand put
 
     -- its device work has failed
     pub unswapped_turn : Counts story new true → IsPut (block (entry s n kind.Close outcome.WriteFault m) (Some (told_at at (reply_of Unwritten)))) now held new_held
-        → WalksOn o sound (closed_books at (ended_books claim books)) new new_held h (entry s n kind.Close outcome.WriteFault m) now (refused || true)
+        → KeepsInvariant o sound (closed_books at (ended_books claim books)) new new_held h (entry s n kind.Close outcome.WriteFault m) now (refused || true)
     unswapped_turn counts put =
         undone_turn claim due holds new moment passes had swapped_state (swapped_reply work) swapped_is (swap_writes work) (swap_told work) kept (λ ok. swaps r.state v.state ok) writes now new_held counts put

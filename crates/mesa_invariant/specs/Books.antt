@@ -17,9 +17,9 @@ pub record Books : Type 0 where
   pub kept : Kept
   pub pins : List Pin
 
--- The books are those of a state: they have its skeleton and its range machine always, and what it keeps with all rows where the store was sound.
+-- The books are those of a state: they have its projection and its range machine always, and what it keeps with all rows where the store was sound.
 pub record AreBooksOf (sound : Bool) (books : Books) (s : State) : Type 0 where
-  pub skeleton : bare s.warehouse ≡ books.bare
+  pub projection : bare s.warehouse ≡ books.bare
   pub machine : s.machine ≡ books.machine
   pub rows : IsTrue sound → kept_of s ≡ books.kept
   pub pins : IsTrue sound → s.warehouse.pins ≡ books.pins

@@ -35,7 +35,7 @@ is_plain r = true
 
 -- Books become these by what a command does, with a reply: whatever state they were the books of, they are those of the state after it.
 pub record IsChange (sound : Bool) (old new : Books) (f : Doing) (r : Reply) : Type 0 where
-  pub skeleton : (after : Warehouse) × (f old.bare ≡ Ok (after, r))
+  pub projection : (after : Warehouse) × (f old.bare ≡ Ok (after, r))
   pub follows : (s : State) (after : Warehouse) → AreBooksOf sound old s → f s.warehouse ≡ Ok (after, r) → AreBooksOf sound new (stepped s after r)
   pub opened : old.bare.closed ≡ None
   pub plain : is_plain r ≡ true

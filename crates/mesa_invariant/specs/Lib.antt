@@ -4,7 +4,7 @@ pub use Rattle.mesa_output.specs as mesa_output
 pub use Rattle.mesa_projection.specs as mesa_projection
 pub mod Books
 pub mod Printing
-pub mod Walk
+pub mod Invariant
 pub mod Turns
 pub mod Undamaged
 pub mod Causes

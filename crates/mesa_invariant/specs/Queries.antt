@@ -17,7 +17,7 @@ use Rattle.mesa_projection.specs.Bare.{bare_page}
 use Rattle.mesa_output.specs.Output.{IsDamage, block}
 use Rattle.mesa_invariant.specs.Books.{Books, AreBooksOf}
 use Rattle.mesa_invariant.specs.Causes.{Cause, Replies, Unread, Damaged, Unwritten, NoMemory, is_read_fault, outcome_of, reply_of, told_at}
-use Rattle.mesa_invariant.specs.Walk.{run_at}
+use Rattle.mesa_invariant.specs.Invariant.{run_at}
 
 -- Why a query isn't answered: it is refused as the books say; it would be answered, and a file that it needs couldn't be opened; or books that are open met want of memory.
 abbrev pub HasNoAnswer : Books → ℕ → QueryWords → Cause → Type 0

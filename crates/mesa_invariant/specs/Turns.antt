@@ -16,7 +16,7 @@ use Rattle.mesa_projection.specs.mesa_history.Counting.{is_bench_fault, is_disk_
 use Rattle.mesa_projection.specs.mesa_history.Replay.{is_skip}
 use Rattle.mesa_projection.specs.mesa_history.Legal.{AllFit, fits_sink, is_query, is_work}
 use Rattle.mesa_projection.specs.mesa_history.Turns.{IsDue, place_then}
-use Rattle.mesa_invariant.specs.Walk.{run_at}
+use Rattle.mesa_invariant.specs.Invariant.{run_at}
 
 -- What a caller sees of a vault: the history so far, whether its sink hasn't failed, and the disk's clock.
 pub record Shown : Type 0 where

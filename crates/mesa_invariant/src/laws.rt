@@ -16,9 +16,9 @@ ghost use Rattle.mesa_projection.specs.Bare.{bare_state};
 ghost use Rattle.mesa_invariant.specs.Books.{Books, pinned_books, released_books};
 ghost use Rattle.mesa_invariant.specs.Changes.{IsChange, MakesPin, ReleasesPin};
 ghost use Rattle.mesa_invariant.specs.Turns.{Asks, IsSeen, IsTurn, Shown, Takes, is_load, is_simple};
-ghost use Rattle.mesa_invariant.specs.Walk.{run_at};
+ghost use Rattle.mesa_invariant.specs.Invariant.{run_at};
 
-/// What is due hangs on a start's skeleton alone, unless an answer is open: so it is known of a
+/// What is due hangs on a start's projection alone, unless an answer is open: so it is known of a
 /// start whose rows nobody has read.
 pub fn starts_are_alike()
     ensures due { (script : Script) (a b : State) (h : List Entry) (session number : ℕ) (c : Command) (stage : Stage) → bare_state a ≡ bare_state b → is_answered stage ≡ false

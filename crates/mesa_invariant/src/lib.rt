@@ -1,4 +1,4 @@
-//! The walk: what a vault's books, its disk and its sink are to the history of its run, and how each
+//! The invariant: what a vault's books, its disk and its sink are to the history of its run, and how each
 //! turn keeps it.
 //!
 //! A vault's books are its catalogue, pins, leases and closing position. What they stand for is a
@@ -8,7 +8,7 @@
 //! history says.
 //!
 //! There is no code here. The turns of a vault are lemmas over books, in public modules of this
-//! crate's proofs, each of which asks what a call of the vault has done and gives the walk with one
+//! crate's proofs, each of which asks what a call of the vault has done and gives the invariant with one
 //! entry more.
 #![tactic(auto)]
 

@@ -1,4 +1,4 @@
--- What is legal, and what is refused, hangs on a start's skeleton alone.
+-- What is legal, and what is refused, hangs on a start's projection alone.
 use Rattle.std.proofs.Common.{◌≡◌, ℕ, List, [], ◌∷◌, Bool, true, false, not, ◌&&◌, ◌||◌, ◌==◌, refl, sym, ◌∙◌, ap, subst, Option, Some, None, IsTrue, is_some, is_none, is_ok}
 use Rattle.std.specs.Prelude.{option_map, if◌then◌else◌}
 use Rattle.std.specs.List.{list_all}
@@ -207,7 +207,7 @@ unfolding AllFit
 fit_alike script r s [] same all = tt
 fit_alike script r s (e ∷ h) same all = (fits_alike script r s e same all.0, fit_alike script (go script r e) (go script s e) h (go_alike script r s e same) all.1)
 
--- whether some reply is a refusal hangs on the skeleton alone
+-- whether some reply is a refusal hangs on the projection alone
 pub refused_alike : (script : Script) (r s : Run) (h : List Entry) → bare_run r ≡ bare_run s → some_refused script r h ≡ some_refused script s h
 unfolding some_refused
 refused_alike script r s [] same = refl

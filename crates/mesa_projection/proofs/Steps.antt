@@ -147,7 +147,7 @@ alter-bare w words =
     (with_store w _ _ w.next (reply.Altered words.table (epoch_of (table_at w.store number).lineage + 1)) (set_bare w.store number (λ (t : Table). table_changed t c) (λ t. refl))
     ∙ ap (λ (l : Lineage). done_of (Ok (record (bare w) { store = record (bare_store w.store) { tables = set (map bare_table w.store.tables) number (table_changed (table_at (bare_store w.store) number) c) } }, reply.Altered words.table (epoch_of l + 1)))) lineage))))
 
--- a recast leaves the same skeleton
+-- a recast leaves the same projection
 pub recast_same : (w : Warehouse) (number : ℕ) (r : Recast) → bare (with_recast w number r) ≡ bare (with_recast (bare w) number r)
 recast_same w number r = λ i. record w { store = set_bare w.store number (λ (t : Table). table_recast t r) (λ t. refl) i; pins = sym (pins_twice w.pins) i }
 

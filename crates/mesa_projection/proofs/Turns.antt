@@ -1,4 +1,4 @@
--- A turn does the same to a run without rows: it tells the same but for a page's rows, leaves the session at the same stage, and the same skeleton.
+-- A turn does the same to a run without rows: it tells the same but for a page's rows, leaves the session at the same stage, and the same projection.
 use Rattle.std.proofs.Common.{◌≡◌, ℕ, Bool, true, false, refl, sym, ◌∙◌, ap, Option, Some, None, Result, Ok, Err}
 use Rattle.mesa_history.specs.mesa_model.declared.commands.Command.{Command}
 use Rattle.mesa_history.specs.mesa_model.declared.commands.Command.TheVariants as command
@@ -165,7 +165,7 @@ turn_bare r c e stage outcome.WriteFault = refused_bare r.position (closed_if (c
 turn_bare r c e stage outcome.Damaged = refused_bare r.position r.state (bare_state r.state) e.kind stage (no.Damaged some_damage) (state_twice r.state)
 turn_bare r c e stage outcome.Skipped = left r.state (bare_state r.state) CutOff CutOff (state_twice r.state) refl
 
--- The skeleton of a turn hangs on the skeleton alone.
+-- The projection of a turn hangs on the projection alone.
 pub turned-bare : (script : Script) (r : Run) (e : Entry) → bare_turned (turned script r e) ≡ bare_turned (turned script (bare_run r) e)
 unfolding turned place_of
 turned-bare script r e = by (command_of script e)

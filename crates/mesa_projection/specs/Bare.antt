@@ -1,4 +1,4 @@
--- Skeletons: a warehouse without its rows, by which commands are refused, and all of a reply but a page's rows.
+-- Projections: a warehouse without its rows, by which commands are refused, and all of a reply but a page's rows.
 use Rattle.std.specs.Prelude.{[], map, None, option_map, Result, Ok, Err}
 use Rattle.mesa_history.specs.mesa_model.declared.replies.Page.{Page}
 use Rattle.mesa_history.specs.mesa_model.declared.replies.Refusal.{Refusal}

@@ -1,4 +1,4 @@
-// Laws of skeletons.
+// Laws of projections.
 ghost use Rattle.std.specs.Prelude.{◌≡◌, ℕ, List, Bool};
 ghost use Rattle.mesa_history.specs.mesa_filter.declared.words.QueryWords.{QueryWords};
 ghost use Rattle.mesa_history.specs.Legal.{IsLegal};
@@ -16,9 +16,9 @@ ghost use Rattle.mesa_history.specs.mesa_model.declared.commands.Script.{Script}
 ghost use Rattle.mesa_history.specs.mesa_model.declared.entries.Entry.{Entry};
 ghost use Rattle.mesa_projection.specs.Bare.{bare, bare_answer, bare_done, bare_result, bare_run, bare_state, bare_turned};
 
-/// A command does the same to a warehouse and to its skeleton: it is refused alike, and else has the
-/// same reply but for a page's rows, and leaves the same skeleton. A work, a recast and an explain are
-/// answered by the skeleton.
+/// A command does the same to a warehouse and to its projection: it is refused alike, and else has the
+/// same reply but for a page's rows, and leaves the same projection. A work, a recast and an explain are
+/// answered by the projection.
 pub fn commands_see_no_rows()
     ensures step { (w : Warehouse) (session : ℕ) (c : Command) → bare_done (step w session c) ≡ bare_done (step (bare w) session c) }
     ensures query { (w : Warehouse) (session : ℕ) (words : QueryWords) → bare_result bare_answer (query_answer w session words) ≡ bare_result bare_answer (query_answer (bare w) session words) }
@@ -27,8 +27,8 @@ pub fn commands_see_no_rows()
     ensures recast { (w : Warehouse) (m : Machine) (position : ℕ) (words : RecastWords) → recast_claim_of w m position words ≡ recast_claim_of (bare w) m position words }
 {}
 
-/// Starts with one skeleton have the same legal histories, in which the same turns are refused, and
-/// every history takes them to one skeleton.
+/// Starts with one projection have the same legal histories, in which the same turns are refused, and
+/// every history takes them to one projection.
 pub fn runs_are_alike()
     ensures turn { (script : Script) (r : Run) (e : Entry) → bare_turned (turned script r e) ≡ bare_turned (turned script (bare_run r) e) }
     ensures run { (script : Script) (r s : Run) (h : List Entry) → bare_run r ≡ bare_run s → bare_run (runs script r h) ≡ bare_run (runs script s h) }

@@ -1,5 +1,5 @@
-//! Skeletons: what of a warehouse, of a turn and of a run doesn't hang on the stored rows. Which turn
-//! is due, what is refused and what is legal hang on the skeleton alone, so they are known of a store
+//! Projections: what of a warehouse, of a turn and of a run doesn't hang on the stored rows. Which turn
+//! is due, what is refused and what is legal hang on the projection alone, so they are known of a store
 //! whose rows nobody has read.
 #![tactic(auto)]
 

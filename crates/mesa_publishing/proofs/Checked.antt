@@ -17,7 +17,7 @@ use Rattle.mesa_model.specs.declared.replies.Refusal.TheVariants.{SumBound}
 use Rattle.mesa_catalog.specs.mesa_image.Catalog.{Catalog, Stock, stock_at}
 use Rattle.mesa_catalog.specs.mesa_image.Shape.{IsShaped}
 use Rattle.mesa_catalog.specs.Lookups.{known_as}
-use Rattle.mesa_metadata.specs.mesa_engine_state.EngineState.{skeleton_of}
+use Rattle.mesa_metadata.specs.mesa_engine_state.EngineState.{projection_of}
 use Rattle.mesa_tasks.specs.Batches.{AreParts, HasFiles, Share, is_over, share_of, shares_from}
 use Rattle.mesa_tasks.specs.declared.made.MadeFiles.{MadeFiles}
 use Rattle.mesa_tasks.specs.declared.prepared.PreparedPart.{PreparedPart}
@@ -27,7 +27,7 @@ use Rattle.mesa_publishing.proofs.Totals.{both_ok, none_alone, nothing_over, ove
 use Rattle.mesa_publishing.proofs.Loads.{AreTables, checked_none, share_many}
 
 -- a table's check by its rows is the one by their totals
-bound_same : (t : Stock) (load : List Row) → bound_checked (skeleton_of t) load ≡ totals_checked t (abs_totals (columns_of t.lineage) load)
+bound_same : (t : Stock) (load : List Row) → bound_checked (projection_of t) load ≡ totals_checked t (abs_totals (columns_of t.lineage) load)
 bound_same t load = by (over_bound t.totals (abs_totals (columns_of t.lineage) load))
   where
     by : (o : Option ℕ) → elim o as (λ x. Result (Unit {0}) Refusal) [ None ↦ Ok tt | Some place ↦ Err (SumBound t.name (sum_name (columns_of t.lineage) place)) ] ≡ refused_at t o
@@ -35,25 +35,25 @@ bound_same t load = by (over_bound t.totals (abs_totals (columns_of t.lineage) l
     by (Some place) = refl
 
 -- no rows are never refused
-none_refused : (t : Stock) → AllByRecursion (λ total. total < sum_bound) t.totals → bound_checked (skeleton_of t) [] ≡ Ok tt
+none_refused : (t : Stock) → AllByRecursion (λ total. total < sum_bound) t.totals → bound_checked (projection_of t) [] ≡ Ok tt
 none_refused t all = bound_same t [] ∙ ap (refused_at t) (nothing_over t.totals (sum_places 0 (aggs_of (columns_of t.lineage))) all)
 
 module _ {M : Type 0} (bytes : M → Option (List ℕ)) (id_of : M → ℕ) (over : Bool) (c : Catalog) (batch : List Placed) where
   -- what a step of the tables' checks needs
   step_same : (n : ℕ) (t : Stock) (ts : List Stock) (load : List Row) → rows_for n batch ≡ load → (shares : List Share) (parts : List (PreparedPart M)) → stock_at c n ≡ t → AllByRecursion (λ total. total < sum_bound) t.totals
       → AreParts bytes id_of over (share_of n t.lineage load ++ shares) parts
-      → ((more : List (PreparedPart M)) → AreParts bytes id_of over shares more → bounds_checked batch (n + 1) (map skeleton_of ts) ≡ parts_checked c more)
-      → (bound_checked (skeleton_of t) load >> bounds_checked batch (n + 1) (map skeleton_of ts)) ≡ parts_checked c parts
-  step_same n t ts [] is shares parts at small are rest = ap (λ (r : Result (Unit {0}) Refusal). r >> bounds_checked batch (n + 1) (map skeleton_of ts)) (none_refused t small) ∙ rest parts are
+      → ((more : List (PreparedPart M)) → AreParts bytes id_of over shares more → bounds_checked batch (n + 1) (map projection_of ts) ≡ parts_checked c more)
+      → (bound_checked (projection_of t) load >> bounds_checked batch (n + 1) (map projection_of ts)) ≡ parts_checked c parts
+  step_same n t ts [] is shares parts at small are rest = ap (λ (r : Result (Unit {0}) Refusal). r >> bounds_checked batch (n + 1) (map projection_of ts)) (none_refused t small) ∙ rest parts are
   step_same n t ts (row ∷ load) is shares [] at small are rest = absurd are
   step_same n t ts (row ∷ load) is shares (part ∷ parts) at small are rest =
-      let own : bound_checked (skeleton_of t) (row ∷ load) ≡ totals_checked (stock_at c part.table) part.totals =
+      let own : bound_checked (projection_of t) (row ∷ load) ≡ totals_checked (stock_at c part.table) part.totals =
       bound_same t (row ∷ load) ∙ ap (refused_at t) (sym (over_cut t.totals (abs_totals (columns_of t.lineage) (row ∷ load)))) ∙ ap (totals_checked t) (sym are.0.totals) ∙ ap (λ (u : Stock). totals_checked u part.totals) (sym (ap (stock_at c) are.0.table ∙ at)) in
       λ i. own i >> rest parts are.1 i
 
   -- the batch is refused by its rows as by its parts
   pub checked_same : (floor next n : ℕ) (ts : List Stock) (parts : List (PreparedPart M)) → AllByRecursion (IsShaped floor next) ts → AreTables c n ts → AreParts bytes id_of over (shares_from batch n (map known_as ts)) parts
-      → bounds_checked batch n (map skeleton_of ts) ≡ parts_checked c parts
+      → bounds_checked batch n (map projection_of ts) ≡ parts_checked c parts
   checked_same floor next n [] [] shaped tables are = refl
   checked_same floor next n [] (part ∷ parts) shaped tables are = absurd are
   checked_same floor next n (t ∷ ts) parts shaped tables are =

@@ -34,7 +34,7 @@ use Rattle.mesa_catalog.specs.mesa_image.Brought.{AreTold}
 use Rattle.mesa_catalog.specs.mesa_image.Ids.{brought_ids, named}
 use Rattle.mesa_catalog.specs.mesa_image.Sourced.{tables_read}
 use Rattle.mesa_catalog.specs.Lookups.{known_as, sight_of}
-use Rattle.mesa_metadata.specs.mesa_engine_state.EngineState.{EngineState, first_id, most_files, next_id, skeleton_of}
+use Rattle.mesa_metadata.specs.mesa_engine_state.EngineState.{EngineState, first_id, most_files, next_id, projection_of}
 use Rattle.mesa_metadata.proofs.mesa_engine_state.Changing.{tables_are}
 use Rattle.mesa_tasks.specs.Batches.{AreParts, IsPrepared, is_over, shares, shares_from}
 use Rattle.mesa_tasks.specs.declared.made.MadeFile.{MadeFile}
@@ -89,7 +89,7 @@ Done = Result (Warehouse × Reply) Refusal
 -- what a batch that was read does: the next version, if there may be one more and no sum passes its bound
 abbrev then_loaded : EngineState → List Placed → Done
 then_loaded l batch = refuse_if (nat_le max_versions l.catalogue.next) (no.VersionsFull max_versions)
-    >> (bounds_checked batch 0 (map skeleton_of l.catalogue.tables) >> Ok (with_batch (bare_of l) batch, reply.Loaded l.catalogue.next (length batch)))
+    >> (bounds_checked batch 0 (map projection_of l.catalogue.tables) >> Ok (with_batch (bare_of l) batch, reply.Loaded l.catalogue.next (length batch)))
 
 load_is : (l : EngineState) (words : List RowWords) (batch : List Placed) → l.closed ≡ None → batch_of (tables_read l.catalogue) words ≡ Ok batch → load_batch (bare_of l) words ≡ then_loaded l batch
 load_is l words batch unclosed read =
@@ -107,14 +107,14 @@ pub full_due : (l : EngineState) (words : List RowWords) (batch : List Placed) (
 full_due l words batch e unclosed read full is =
     subst (λ (e : Unpublished). IsDue (load_batch (bare_of l) words) e) (sym is)
     (load_is l words batch unclosed read
-    ∙ ap (λ b. refuse_if b (no.VersionsFull max_versions) >> (bounds_checked batch 0 (map skeleton_of l.catalogue.tables) >> Ok (with_batch (bare_of l) batch, reply.Loaded l.catalogue.next (length batch)))) (is_full l.catalogue.next full))
+    ∙ ap (λ b. refuse_if b (no.VersionsFull max_versions) >> (bounds_checked batch 0 (map projection_of l.catalogue.tables) >> Ok (with_batch (bare_of l) batch, reply.Loaded l.catalogue.next (length batch)))) (is_full l.catalogue.next full))
 
 -- with a version more to come, the load is the check of the bound
 bounded_is : (l : EngineState) (words : List RowWords) (batch : List Placed) → l.closed ≡ None → batch_of (tables_read l.catalogue) words ≡ Ok batch → l.catalogue.next < max_versions
-    → load_batch (bare_of l) words ≡ (bounds_checked batch 0 (map skeleton_of l.catalogue.tables) >> Ok (with_batch (bare_of l) batch, reply.Loaded l.catalogue.next (length batch)))
+    → load_batch (bare_of l) words ≡ (bounds_checked batch 0 (map projection_of l.catalogue.tables) >> Ok (with_batch (bare_of l) batch, reply.Loaded l.catalogue.next (length batch)))
 bounded_is l words batch unclosed read few =
     load_is l words batch unclosed read
-    ∙ ap (λ b. refuse_if b (no.VersionsFull max_versions) >> (bounds_checked batch 0 (map skeleton_of l.catalogue.tables) >> Ok (with_batch (bare_of l) batch, reply.Loaded l.catalogue.next (length batch)))) (not_full l.catalogue.next few)
+    ∙ ap (λ b. refuse_if b (no.VersionsFull max_versions) >> (bounds_checked batch 0 (map projection_of l.catalogue.tables) >> Ok (with_batch (bare_of l) batch, reply.Loaded l.catalogue.next (length batch)))) (not_full l.catalogue.next few)
 
 due_then : {A : Type 0} (r : Result (Unit {0}) Refusal) (next : Result A Refusal) (e : Unpublished) → IsDue r e → IsDue (r >> next) e
 due_then r next (un.Refused x) is = ap (λ q. q >> next) is
@@ -140,12 +140,12 @@ module _ {M : Type 0} (bytes : M → Option (List ℕ)) (id_of : M → ℕ) (l :
       by : (n k : ℕ) → n ≤ max_tables → k ≤ n * (1 + max_views) → k ≤ most_files
       by n k few le = omega arith
 
-  same_check : bounds_checked batch 0 (map skeleton_of c.tables) ≡ parts_checked c parts
+  same_check : bounds_checked batch 0 (map projection_of c.tables) ≡ parts_checked c parts
   same_check = checked_same bytes id_of over c batch c.floor c.next 0 c.tables parts shaped.tables (all_tables c) is.parts
 
   pub bounds_due : (words : List RowWords) → batch_of (tables_read l.catalogue) words ≡ Ok batch → (e : Unpublished) → l.closed ≡ None → c.next < max_versions → IsDue (parts_checked c parts) e → IsDue (load_batch (bare_of l) words) e
   bounds_due words read e unclosed few due =
-      subst (λ (r : Done). IsDue r e) (sym (bounded_is l words batch unclosed read few)) (due_then (bounds_checked batch 0 (map skeleton_of c.tables)) (Ok (with_batch (bare_of l) batch, reply.Loaded c.next (length batch))) e (subst (λ (r : Result (Unit {0}) Refusal). IsDue r e) (sym same_check) due))
+      subst (λ (r : Done). IsDue r e) (sym (bounded_is l words batch unclosed read few)) (due_then (bounds_checked batch 0 (map projection_of c.tables)) (Ok (with_batch (bare_of l) batch, reply.Loaded c.next (length batch))) e (subst (λ (r : Result (Unit {0}) Refusal). IsDue r e) (sym same_check) due))
 
   module _ (words : List RowWords) (read : batch_of (tables_read l.catalogue) words ≡ Ok batch) (few : c.next < max_versions) (checked : parts_checked c parts ≡ Ok tt) where
     pub is_loaded : IsLoaded l words batch

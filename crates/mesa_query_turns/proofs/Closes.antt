@@ -39,7 +39,7 @@ use Rattle.mesa_engine.specs.mesa_engine_state.mesa_invariant.Printing.{IsPut}
 use Rattle.mesa_engine.specs.mesa_engine_state.mesa_invariant.Queries.{ClosesWith, MayClose, closing_fault, closing_outcome, closing_told}
 use Rattle.mesa_engine.specs.mesa_engine_state.mesa_invariant.Turns.{Shown, IsSeen, Takes, entry}
 use Rattle.mesa_engine.specs.mesa_engine_state.mesa_invariant.Undamaged.{is_damaged}
-use Rattle.mesa_engine.specs.mesa_engine_state.mesa_invariant.Walk.{Outset, Counts, run_at, run_of}
+use Rattle.mesa_engine.specs.mesa_engine_state.mesa_invariant.Invariant.{Outset, Counts, run_at, run_of}
 
 -- a reader that has failed is counted
 some_counted : {R : Type 0} (faults : R → ℕ) (old new : ℕ) (inputs : List (Input R)) → AllByRecursion (λ (i : Input R). 0 < faults (reader_in i) → Rose old new) inputs → SomeFailed faults inputs → Rose old new
@@ -69,7 +69,7 @@ pub closed_query : (o : Outset) (g : Origin) (sound : Bool) (l : EngineState) (s
     → IsVault o g sound (answered_state l (is_of_another s)) new new_held (h ++ entry s number kind.Close (closing_outcome cause) m ∷ []) now (refused || is_some cause)
 closed_query o g sound l story held h running refused v s number low few m moment ran new unmoved at tells due cause may counts now new_held piece shows is put =
     answered_vault o g sound l story held h running refused v (entry s number kind.Close (closing_outcome cause) m) new new_held now (refused || is_some cause) unmoved (is_of_another s)
-    (close_turn o sound (books_of v.rows l) story held h running refused v.walk s number low few due.words m moment ran new unmoved at tells due.opened cause may counts now new_held piece shows is put)
+    (close_turn o sound (books_of v.rows l) story held h running refused v.invariant s number low few due.words m moment ran new unmoved at tells due.opened cause may counts now new_held piece shows is put)
 
 -- ---- the engine behind it
 

@@ -42,7 +42,7 @@ use Rattle.mesa_engine.specs.mesa_engine_state.mesa_invariant.Printing.{IsPut}
 use Rattle.mesa_engine.specs.mesa_engine_state.mesa_invariant.Queries.{HasNoAnswer, IsOpenFrom, IsPinned, IsUnanswered}
 use Rattle.mesa_engine.specs.mesa_engine_state.mesa_invariant.Turns.{Shown, IsSeen, Takes, entry}
 use Rattle.mesa_engine.specs.mesa_engine_state.mesa_invariant.Undamaged.{is_damaged}
-use Rattle.mesa_engine.specs.mesa_engine_state.mesa_invariant.Walk.{Outset, Counts, WalksOn, run_at, run_of}
+use Rattle.mesa_engine.specs.mesa_engine_state.mesa_invariant.Invariant.{Outset, Counts, KeepsInvariant, run_at, run_of}
 
 -- ---- why a query isn't answered
 
@@ -107,29 +107,29 @@ module _ (o : Outset) (g : Origin) (sound : Bool) (l : EngineState) (story : Sto
   module _ (tells : Answer → Type 0) (pinned : IsPinned sound (books_of v.rows l) s words tells) (counts : Counts story new false) (at : ℕ) (place : at ≡ length h) where
     -- It is answered, and holds the files that it is answered from, or a pin does.
     pub opened_vault : l.closed ≡ None → (asked : VersionWord) → IsVault o g sound (asked_state l s asked at) new held (h ++ entry s number kind.Decide outcome.Stands m ∷ []) running refused
-    opened_vault was_open asked = by asked (pinned_turn o sound (books_of v.rows l) story held h running refused v.walk s number low few words m moment ran new unmoved due tells pinned counts)
+    opened_vault was_open asked = by asked (pinned_turn o sound (books_of v.rows l) story held h running refused v.invariant s number low few words m moment ran new unmoved due tells pinned counts)
       where
-        by : (x : VersionWord) → WalksOn o sound (books_of v.rows l) new held h (entry s number kind.Decide outcome.Stands m) running refused → IsVault o g sound (asked_state l s x at) new held (h ++ entry s number kind.Decide outcome.Stands m ∷ []) running refused
+        by : (x : VersionWord) → KeepsInvariant o sound (books_of v.rows l) new held h (entry s number kind.Decide outcome.Stands m) running refused → IsVault o g sound (asked_state l s x at) new held (h ++ entry s number kind.Decide outcome.Stands m ∷ []) running refused
         by asks.Latest on = queried_vault o g sound l story held h running refused v (entry s number kind.Decide outcome.Stands m) new held running refused unmoved was_open s (hold_now l at) (λ i. record { at = place i; next = (hold_now l at).next }) on
         by (asks.At version) on = queried_vault o g sound l story held h running refused v (entry s number kind.Decide outcome.Stands m) new held running refused unmoved was_open s (hold_now l at) (λ i. record { at = place i; next = (hold_now l at).next }) on
         by (asks.Pin token) on = still_vault o g sound l story held h running refused v (entry s number kind.Decide outcome.Stands m) new held running refused unmoved on
 
     pub opened_from : IsOpenFrom o.script (run_of o (h ++ entry s number kind.Decide outcome.Stands m ∷ [])) s number words at tells
-    opened_from = pinned_open o sound (books_of v.rows l) story held h running refused v.walk s number low few words m moment ran new unmoved due tells pinned at place
+    opened_from = pinned_open o sound (books_of v.rows l) story held h running refused v.invariant s number low few words m moment ran new unmoved due tells pinned at place
 
   -- It isn't answered.
   pub unopened_vault : (cause : Cause) → HasNoAnswer (books_of no_rows l) s words cause → Counts story new (is_read_fault cause) → (at : ℕ) → at ≡ length h → (now : Bool) (new_held : Option (List ℕ))
       → IsPut (block (entry s number kind.Decide (outcome_of cause) m) (Some (told_at at (reply_of cause)))) now held new_held → IsVault o g sound l new new_held (h ++ entry s number kind.Decide (outcome_of cause) m ∷ []) now (refused || is_refusal (reply_of cause))
   unopened_vault cause has counts at place now new_held put =
       still_vault o g sound l story held h running refused v (entry s number kind.Decide (outcome_of cause) m) new new_held now (refused || is_refusal (reply_of cause)) unmoved
-      (unpinned_turn o sound (books_of v.rows l) story held h running refused v.walk s number low few words m moment ran new unmoved due cause (any_rows v.rows l s words cause has) counts at place now new_held put)
+      (unpinned_turn o sound (books_of v.rows l) story held h running refused v.invariant s number low few words m moment ran new unmoved due cause (any_rows v.rows l s words cause has) counts at place now new_held put)
 
   -- It is over then.
   pub unopened_takes : (cause : Cause) → HasNoAnswer (books_of no_rows l) s words cause → (clock : ℕ) (shown : Shown) → shown.clock ≡ m → IsSeen o.script o.start shown → shown.history ≡ h ++ entry s number kind.Decide (outcome_of cause) shown.clock ∷ []
       → Takes o.script o.start (record { history = h; running = running; clock = clock }) shown s number kind.Decide Finished
   unopened_takes cause has clock shown at seen grew =
       takes_as o.script o.start (record { history = h; running = running; clock = clock }) shown s number (command.Query words) First kind.Decide Finished due (outcome_of cause)
-      (unpinned_ends o sound (books_of v.rows l) story held h running refused v.walk s number low few words shown.clock (at ∙ moment) ran new unmoved due cause (any_rows v.rows l s words cause has))
+      (unpinned_ends o sound (books_of v.rows l) story held h running refused v.invariant s number low few words shown.clock (at ∙ moment) ran new unmoved due cause (any_rows v.rows l s words cause has))
       grew (not_skipped cause ∙ ap not (sym ran)) (λ on. ran) seen
 
 -- two answers that a query was given at one place are one

@@ -9,7 +9,7 @@ use Rattle.mesa_filter.specs.declared.words.QueryWords.{QueryWords}
 use Rattle.mesa_filter.specs.declared.words.VersionWord.{VersionWord}
 use Rattle.mesa_filter.specs.declared.words.VersionWord.TheVariants as asks
 use Rattle.mesa_engine.specs.mesa_catalog.mesa_image.Catalog.{Catalog}
-use Rattle.mesa_engine.specs.mesa_engine_state.EngineState.{HeldPin, EngineState, bare_held, books_of, skeleton_at, skeleton_of, skeletons, skeletons_at}
+use Rattle.mesa_engine.specs.mesa_engine_state.EngineState.{HeldPin, EngineState, bare_held, books_of, projection_at, projection_of, projections, projections_at}
 use Rattle.mesa_engine.specs.mesa_engine_state.Turned.{is_held_pin}
 use Rattle.mesa_plans.specs.mesa_list.Checks.{◌>>=◌, ◌>>◌}
 use Rattle.mesa_model.specs.Pins.{is_pin}
@@ -25,11 +25,11 @@ use Rattle.mesa_rules.specs.Seen.{HasCatalog, known_in, known_of}
 use Rattle.mesa_engine.specs.mesa_projection.Rows.{Rows}
 
 -- the tables of a catalogue without their contents
-known_skeletons : (c : Catalog) → known_in (skeletons c) ≡ map known_as c.tables
-known_skeletons c = map-map known_of skeleton_of c.tables
+known_projections : (c : Catalog) → known_in (projections c) ≡ map known_as c.tables
+known_projections c = map-map known_of projection_of c.tables
 
-known_at : (version : ℕ) (c : Catalog) → known_in (skeletons_at version c) ≡ map known_as c.tables
-known_at version c = map-map known_of (skeleton_at version) c.tables
+known_at : (version : ℕ) (c : Catalog) → known_in (projections_at version c) ≡ map known_as c.tables
+known_at version c = map-map known_of (projection_at version) c.tables
 
 -- a pin without rows is found where the state has it
 found_held : (s token : ℕ) (pins : List HeldPin) → find (is_pin s token) (map bare_held pins) ≡ option_map bare_held (find (is_held_pin s token) pins)
@@ -61,8 +61,8 @@ module _ (rows : Rows) (l : EngineState) (s : ℕ) (words : QueryWords) where
   has_catalog : l.closed ≡ None → HasCatalog l.catalogue (books_of rows l).bare
   has_catalog was_open = record {
     opened = was_open;
-    tables = known_skeletons l.catalogue;
-    oldests = map-map (λ (t : Table). t.oldest) skeleton_of l.catalogue.tables;
+    tables = known_projections l.catalogue;
+    oldests = map-map (λ (t : Table). t.oldest) projection_of l.catalogue.tables;
     floor = refl;
     next = refl;
   }
@@ -81,8 +81,8 @@ module _ (rows : Rows) (l : EngineState) (s : ℕ) (words : QueryWords) where
   sees_present v is other was_open c same = subst (λ (x : Catalog). Sees x None words s w) (sym same) (by v is other)
     where
       by : (x : VersionWord) → words.version ≡ x → ((token : ℕ) → x ≡ asks.Pin token → ⊥) → Sees l.catalogue None words s w
-      by asks.Latest e never = sees_as asks.Latest e was_open w.store refl l.catalogue (known_skeletons l.catalogue) None (asked_there l.catalogue w (has_catalog was_open) asks.Latest)
-      by (asks.At n) e never = sees_as (asks.At n) e was_open w.store refl l.catalogue (known_skeletons l.catalogue) None (asked_there l.catalogue w (has_catalog was_open) (asks.At n))
+      by asks.Latest e never = sees_as asks.Latest e was_open w.store refl l.catalogue (known_projections l.catalogue) None (asked_there l.catalogue w (has_catalog was_open) asks.Latest)
+      by (asks.At n) e never = sees_as (asks.At n) e was_open w.store refl l.catalogue (known_projections l.catalogue) None (asked_there l.catalogue w (has_catalog was_open) (asks.At n))
       by (asks.Pin token) e never = absurd (never token refl)
 
   -- those of a pin

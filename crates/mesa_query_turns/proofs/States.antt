@@ -70,13 +70,13 @@ module _ (l : EngineState) (session : ℕ) (words : QueryWords) (c : Catalog) (a
     w = s.warehouse
 
     opened : s.warehouse.closed ≡ None
-    opened = ap (λ (x : Warehouse). x.closed) are.skeleton ∙ sees.opened
+    opened = ap (λ (x : Warehouse). x.closed) are.projection ∙ sees.opened
 
     present : (v : VersionWord) → words.version ≡ v → l.catalogue ≡ c → store_asked s.warehouse session v ≡ Ok s.warehouse.store
         → (HasCatalog c s.warehouse → (n : ℕ) → version_seen s.warehouse s.warehouse.store (table_at s.warehouse.store n) v ≡ version_in c None v n) → SeesContents rows c None number version words session s.warehouse
     present v is same store seen =
         let kept : s.warehouse.store ≡ (kept_of rows c).store = ap (λ (k : Kept). k.store) (are.rows refl) ∙ ap (λ (x : Catalog). (kept_of rows x).store) same in
-        let next : s.warehouse.next ≡ c.next = ap (λ (x : Warehouse). x.next) are.skeleton ∙ ap (λ (x : Catalog). x.next) same in
+        let next : s.warehouse.next ≡ c.next = ap (λ (x : Warehouse). x.next) are.projection ∙ ap (λ (x : Catalog). x.next) same in
         let has = subst (HasContents rows c number version) (sym kept) (present_contents rows c number version there low high) in
         let catalog = kept_catalog rows c s.warehouse opened kept next in
         record {

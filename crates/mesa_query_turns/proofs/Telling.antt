@@ -58,7 +58,7 @@ use Rattle.mesa_trash.specs.Filed.{PinFiles}
 use Rattle.mesa_engine.specs.mesa_engine_state.mesa_invariant.Books.{AreBooksOf}
 use Rattle.mesa_engine.specs.mesa_engine_state.mesa_invariant.Queries.{IsOpen, IsPinned}
 use Rattle.mesa_engine.specs.mesa_engine_state.mesa_invariant.Turns.{entry}
-use Rattle.mesa_engine.specs.mesa_engine_state.mesa_invariant.Walk.{Outset, Counts, run_at}
+use Rattle.mesa_engine.specs.mesa_engine_state.mesa_invariant.Invariant.{Outset, Counts, run_at}
 
 -- ---- the catalogue that a query sees
 
@@ -132,7 +132,7 @@ module _ (o : Outset) (g : Origin) (sound : Bool) (l : EngineState) (story : Sto
       let read = asked_read image told session words.version c has.asked in
       let there = name_there c words.relation f.relation has.relation in
       let range = version_range l session words c has.asked f.relation.table f.query.version there.0 has.version shaped v.versions in
-      let rowed : AreBooksOf true (books_of v.rows l) s = record { skeleton = are.skeleton; machine = are.machine; rows = λ yes. are.rows ok; pins = λ yes. are.pins ok } in
+      let rowed : AreBooksOf true (books_of v.rows l) s = record { projection = are.projection; machine = are.machine; rows = λ yes. are.rows ok; pins = λ yes. are.pins ok } in
       let sees = sees_state l session words c has.asked f.relation.table f.query.version there.0 has.version has.sees v.rows range.0 range.1 s rowed in
       let found : Ok (answer_found sees.sees.store f) ≡ Ok answer = sym (has.answered s.warehouse session sees.sees) ∙ is in
       let same : answer_found sees.sees.store f ≡ answer = cc in
@@ -167,7 +167,7 @@ files_headed bytes faults told l session words p has sound rows s answer are is 
     let l' = (stock_at has.catalogue f.relation.table).lineage in
     let found = answer_found has.sees.store f in
     let both : Ok (bare_answer answer) ≡ Ok (bare_answer found) =
-    ap (bare_result bare_answer) (sym is) ∙ query-bare s.warehouse session words ∙ ap (λ (x : Warehouse). bare_result bare_answer (query_answer x session words)) are.skeleton ∙ ap (bare_result bare_answer) (has.answered (books_of no_rows l).bare session has.sees) in
+    ap (bare_result bare_answer) (sym is) ∙ query-bare s.warehouse session words ∙ ap (λ (x : Warehouse). bare_result bare_answer (query_answer x session words)) are.projection ∙ ap (bare_result bare_answer) (has.answered (books_of no_rows l).bare session has.sees) in
     let same : bare_answer answer ≡ bare_answer found = cc in
     record {
       at = ap (λ (a : Answer). a.page.version) same ∙ sym (read_version l' f) ∙ sym has.files.version;

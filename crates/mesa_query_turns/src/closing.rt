@@ -15,7 +15,7 @@ ghost use Rattle.mesa_engine.specs.mesa_engine_state.mesa_invariant.Printing.{Is
 ghost use Rattle.mesa_engine.specs.mesa_engine_state.mesa_invariant.Queries.{closing_fault, closing_outcome};
 ghost use Rattle.mesa_engine.specs.mesa_engine_state.mesa_invariant.Turns.{AnswersDisk, SomeRose, Takes};
 ghost use Rattle.mesa_engine.specs.mesa_engine_state.mesa_invariant.Undamaged.{is_damaged};
-ghost use Rattle.mesa_engine.specs.mesa_engine_state.mesa_invariant.Walk.{run_at};
+ghost use Rattle.mesa_engine.specs.mesa_engine_state.mesa_invariant.Invariant.{run_at};
 
 use crate::damages::may_be_told;
 use crate::give_back;

@@ -12,7 +12,7 @@ ghost use Rattle.mesa_model.specs.mesa_schema.Columns.{Columns};
 ghost use Rattle.mesa_engine.specs.mesa_projection.Rows.{no_rows};
 ghost use Rattle.mesa_tasks.specs.Pins.{IsPinned};
 ghost use Rattle.mesa_engine.specs.mesa_engine_state.mesa_invariant.Queries.{HasNoAnswer};
-ghost use Rattle.mesa_engine.specs.mesa_engine_state.mesa_invariant.Walk.{Counts};
+ghost use Rattle.mesa_engine.specs.mesa_engine_state.mesa_invariant.Invariant.{Counts};
 
 use crate::opening::files_asked;
 use mesa_disk::{Disk, Made};

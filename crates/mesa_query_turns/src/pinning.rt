@@ -11,7 +11,7 @@ ghost use Rattle.mesa_engine.specs.mesa_projection.Rows.{no_rows};
 ghost use Rattle.mesa_tasks.specs.Pins.{IsPinned};
 ghost use Rattle.mesa_engine.specs.mesa_engine_state.mesa_invariant.Queries.{IsOpen};
 ghost use Rattle.mesa_engine.specs.mesa_engine_state.mesa_invariant.Turns.{AnswersDisk, IsSeen, IsTurn, SomeRose, Takes};
-ghost use Rattle.mesa_engine.specs.mesa_engine_state.mesa_invariant.Walk.{run_at};
+ghost use Rattle.mesa_engine.specs.mesa_engine_state.mesa_invariant.Invariant.{run_at};
 
 use crate::holding::hold_files;
 use mesa_disk::{Disk, Made};

@@ -10,7 +10,7 @@ use Rattle.mesa_engine.specs.mesa_history.Replay.{is_skip}
 use Rattle.mesa_engine.specs.mesa_history.Run.{First}
 use Rattle.mesa_engine.specs.mesa_history.Turns.{IsDue}
 use Rattle.mesa_engine.specs.mesa_engine_state.mesa_invariant.Turns.{entry, is_load, looking}
-use Rattle.mesa_engine.specs.mesa_engine_state.mesa_invariant.Walk.{Outset, run_of}
+use Rattle.mesa_engine.specs.mesa_engine_state.mesa_invariant.Invariant.{Outset, run_of}
 use Rattle.mesa_engine.proofs.mesa_engine_state.mesa_invariant.Reading.{look_turn}
 use Rattle.mesa_engine.proofs.mesa_engine_state.mesa_invariant.Turning.{stays}
 use Rattle.mesa_engine.specs.mesa_engine_state.EngineState.{EngineState, books_of}
@@ -42,4 +42,4 @@ pub looked_vault : (o : Outset) (g : Origin) (sound : Bool) (l : EngineState) (s
     → IsVault o g sound l story held (h ++ entry s number kind.Look (looking running found) m ∷ []) running refused
 looked_vault o g sound l story held h running refused v s number low few m moment rows due found =
     still_vault o g sound l story held h running refused v (entry s number kind.Look (looking running found) m) story held running refused (stays story)
-    (look_turn o sound (books_of v.rows l) story held h running refused v.walk s number low few m moment rows due found)
+    (look_turn o sound (books_of v.rows l) story held h running refused v.invariant s number low few m moment rows due found)

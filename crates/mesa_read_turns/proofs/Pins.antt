@@ -33,10 +33,10 @@ use Rattle.mesa_engine.specs.mesa_engine_state.mesa_invariant.Causes.{told_at}
 use Rattle.mesa_engine.specs.mesa_engine_state.mesa_invariant.Changes.{MakesPin}
 use Rattle.mesa_engine.specs.mesa_engine_state.mesa_invariant.Printing.{IsPut}
 use Rattle.mesa_engine.specs.mesa_engine_state.mesa_invariant.Turns.{entry}
-use Rattle.mesa_engine.specs.mesa_engine_state.mesa_invariant.Walk.{Outset, run_of}
+use Rattle.mesa_engine.specs.mesa_engine_state.mesa_invariant.Invariant.{Outset, run_of}
 use Rattle.mesa_engine.proofs.mesa_engine_state.mesa_invariant.Pinning.{pin_turn}
 use Rattle.mesa_engine.proofs.mesa_engine_state.mesa_invariant.Turning.{stays}
-use Rattle.mesa_engine.specs.mesa_engine_state.EngineState.{EngineState, bare_held, books_of, skeleton_of, skeletons}
+use Rattle.mesa_engine.specs.mesa_engine_state.EngineState.{EngineState, bare_held, books_of, projection_of, projections}
 use Rattle.mesa_engine.specs.mesa_engine_state.Turned.{pinned_state}
 use Rattle.mesa_engine.specs.mesa_engine_state.Vault.{Origin, IsVault}
 use Rattle.mesa_engine.proofs.mesa_engine_state.Staying.{pinned_vault}
@@ -60,8 +60,8 @@ module _ (rows : Rows) (l : EngineState) where
   catalog_there c is open' =
       subst (λ (x : Catalog). HasCatalog x (books_of rows l).bare) (sym is) (record {
         opened = open';
-        tables = map-map known_of skeleton_of l.catalogue.tables;
-        oldests = map-map (λ (t : Table). t.oldest) skeleton_of l.catalogue.tables;
+        tables = map-map known_of projection_of l.catalogue.tables;
+        oldests = map-map (λ (t : Table). t.oldest) projection_of l.catalogue.tables;
         floor = refl;
         next = refl;
       })
@@ -120,7 +120,7 @@ module _ (w : Warehouse) where
 -- ---- the first version that all tables have is there, where any is
 
 among_there : (floor next : ℕ) (tables : List Stock) → AllByRecursion (IsShaped floor next) tables → (floor < next) ⊎ ((floor ≡ 0) × (next ≡ 0))
-    → (oldest_among floor (map skeleton_of tables) < next) ⊎ ((oldest_among floor (map skeleton_of tables) ≡ 0) × (next ≡ 0))
+    → (oldest_among floor (map projection_of tables) < next) ⊎ ((oldest_among floor (map projection_of tables) ≡ 0) × (next ≡ 0))
 among_there floor next [] all there = there
 among_there floor next (t ∷ tables) all there =
     elim (among_there floor next tables all.1 there) [
@@ -128,7 +128,7 @@ among_there floor next (t ∷ tables) all there =
       | inr empty ↦ (let zero = empty.0 in let none = empty.1 in elim all.0.oldest [ inl own ↦ absurd (omega (arith, own, none)) | inr its ↦ (let first = its.0 in inr (omega (arith, first, zero), none)) ])
     ]
 
-common_there : (c : Catalog) → IsCatalog c → (common_oldest (skeletons c) < c.next) ⊎ ((common_oldest (skeletons c) ≡ 0) × (c.next ≡ 0))
+common_there : (c : Catalog) → IsCatalog c → (common_oldest (projections c) < c.next) ⊎ ((common_oldest (projections c) ≡ 0) × (c.next ≡ 0))
 common_there c is = among_there c.floor c.next c.tables is.tables is.floor
 
 -- ---- its turn
@@ -141,8 +141,8 @@ pub with_pin_vault : (o : Outset) (g : Origin) (sound : Bool) (l : EngineState) 
     → IsVault o g sound (pinned_state l s version (hold_now l at)) story new_held (h ++ entry s number kind.Decide outcome.Stands m ∷ []) now (refused || false)
 with_pin_vault o g sound l story held h running refused v s number low few m moment ran at place was_open asked version a due makes now new_held put =
     pinned_vault o g sound l story held h running refused v (entry s number kind.Decide outcome.Stands m) story new_held now (refused || false) (stays story) was_open s version (hold_now l at) (λ i. record { at = place i; next = (hold_now l at).next })
-    (version_there (books_of a l).bare (common_oldest (skeletons l.catalogue)) asked version (asked_version (books_of a l).bare s asked version makes) (common_there l.catalogue v.shaped))
-    (pin_turn o sound (books_of v.rows l) story held h running refused v.walk s number low few m moment ran at place was_open asked due version makes now new_held put)
+    (version_there (books_of a l).bare (common_oldest (projections l.catalogue)) asked version (asked_version (books_of a l).bare s asked version makes) (common_there l.catalogue v.shaped))
+    (pin_turn o sound (books_of v.rows l) story held h running refused v.invariant s number low few m moment ran at place was_open asked due version makes now new_held put)
 
 -- ---- how many pins a session was given
 

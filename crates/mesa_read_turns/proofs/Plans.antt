@@ -33,7 +33,7 @@ use Rattle.mesa_engine.specs.mesa_engine_state.mesa_invariant.Causes.{told_at}
 use Rattle.mesa_engine.specs.mesa_engine_state.mesa_invariant.Changes.{HasNoPlan, is_plain}
 use Rattle.mesa_engine.specs.mesa_engine_state.mesa_invariant.Printing.{IsPut}
 use Rattle.mesa_engine.specs.mesa_engine_state.mesa_invariant.Turns.{entry}
-use Rattle.mesa_engine.specs.mesa_engine_state.mesa_invariant.Walk.{Outset, run_of}
+use Rattle.mesa_engine.specs.mesa_engine_state.mesa_invariant.Invariant.{Outset, run_of}
 use Rattle.mesa_engine.proofs.mesa_engine_state.mesa_invariant.Reading.{explained_turn}
 use Rattle.mesa_engine.proofs.mesa_engine_state.mesa_invariant.Turning.{stays}
 use Rattle.mesa_engine.specs.mesa_engine_state.EngineState.{EngineState, books_of}
@@ -72,7 +72,7 @@ pub explained_vault : (o : Outset) (g : Origin) (sound : Bool) (l : EngineState)
     → IsVault o g sound l story new_held (h ++ entry s number kind.Decide outcome.Stands m ∷ []) now (refused || is_refusal rep)
 explained_vault o g sound l story held h running refused v s number low few m moment ran at place words rep a due is now new_held put =
     still_vault o g sound l story held h running refused v (entry s number kind.Decide outcome.Stands m) story new_held now (refused || is_refusal rep) (stays story)
-    (explained_turn o sound (books_of v.rows l) story held h running refused v.walk s number low few m moment words due ran at place rep is (plan_told (books_of a l).bare (books_of a l).machine words rep is).silent now new_held put)
+    (explained_turn o sound (books_of v.rows l) story held h running refused v.invariant s number low few m moment words due ran at place rep is (plan_told (books_of a l).bare (books_of a l).machine words rep is).silent now new_held put)
 
 -- ---- why there is none
 

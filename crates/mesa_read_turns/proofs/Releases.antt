@@ -21,7 +21,7 @@ use Rattle.mesa_engine.specs.mesa_engine_state.mesa_invariant.Causes.{told_at}
 use Rattle.mesa_engine.specs.mesa_engine_state.mesa_invariant.Changes.{ReleasesPin}
 use Rattle.mesa_engine.specs.mesa_engine_state.mesa_invariant.Printing.{IsPut}
 use Rattle.mesa_engine.specs.mesa_engine_state.mesa_invariant.Turns.{entry}
-use Rattle.mesa_engine.specs.mesa_engine_state.mesa_invariant.Walk.{Outset, run_of}
+use Rattle.mesa_engine.specs.mesa_engine_state.mesa_invariant.Invariant.{Outset, run_of}
 use Rattle.mesa_engine.proofs.mesa_engine_state.mesa_invariant.Pinning.{release_turn}
 use Rattle.mesa_engine.proofs.mesa_engine_state.mesa_invariant.Turning.{stays}
 use Rattle.mesa_engine.specs.mesa_engine_state.EngineState.{HeldPin, EngineState, bare_held, books_of}
@@ -60,7 +60,7 @@ pub without_vault : (o : Outset) (g : Origin) (sound : Bool) (l : EngineState) (
     → IsVault o g sound (released_state l s token) story new_held (h ++ entry s number kind.Decide outcome.Stands m ∷ []) now (refused || false)
 without_vault o g sound l story held h running refused v s number low few m moment ran at place was_open token a due releases now new_held put =
     released_vault o g sound l story held h running refused v (entry s number kind.Decide outcome.Stands m) story new_held now (refused || false) (stays story) s token
-    (release_turn o sound (books_of v.rows l) story held h running refused v.walk s number low few m moment ran at place was_open token due releases now new_held put)
+    (release_turn o sound (books_of v.rows l) story held h running refused v.invariant s number low few m moment ran at place was_open token due releases now new_held put)
 
 -- an option is none where what is made of it is none
 pub none_as : {A B : Type 0} (f : A → B) (x : Option A) (y : Option B) → option_map f x ≡ y → is_none x ≡ is_none y

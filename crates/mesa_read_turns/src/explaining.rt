@@ -15,7 +15,7 @@ ghost use Rattle.mesa_engine.specs.mesa_script.Rows.{body_of};
 ghost use Rattle.mesa_engine.specs.mesa_projection.Rows.{no_rows};
 ghost use Rattle.mesa_engine.specs.mesa_engine_state.mesa_invariant.Changes.{HasNoPlan};
 ghost use Rattle.mesa_engine.specs.mesa_engine_state.mesa_invariant.Turns.{AnswersDisk, Takes};
-ghost use Rattle.mesa_engine.specs.mesa_engine_state.mesa_invariant.Walk.{run_at};
+ghost use Rattle.mesa_engine.specs.mesa_engine_state.mesa_invariant.Invariant.{run_at};
 
 use crate::spans::lines_of;
 use mesa_disk::{Disk, Made};

@@ -8,7 +8,7 @@ ghost use Rattle.mesa_engine.specs.mesa_projection.Rows.{no_rows};
 ghost use Rattle.mesa_engine.specs.mesa_engine_state.mesa_invariant.Sight.{tables_seen};
 ghost use Rattle.mesa_engine.specs.mesa_engine_state.mesa_invariant.Turns as spec;
 ghost use Rattle.mesa_engine.specs.mesa_engine_state.mesa_invariant.Turns.{AnswersDisk, Asks, Takes, is_load};
-ghost use Rattle.mesa_engine.specs.mesa_engine_state.mesa_invariant.Walk.{run_at};
+ghost use Rattle.mesa_engine.specs.mesa_engine_state.mesa_invariant.Invariant.{run_at};
 
 use mesa_batch::Glance;
 use mesa_disk::{Disk, Made};

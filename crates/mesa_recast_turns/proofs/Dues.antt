@@ -12,7 +12,7 @@ use Rattle.mesa_engine.specs.mesa_image.Catalog.{ranges_of}
 use Rattle.mesa_engine.specs.mesa_engine_state.EngineState.{EngineState}
 use Rattle.mesa_engine.specs.mesa_engine_state.Vault.{Origin, IsVault}
 use Rattle.mesa_engine.proofs.mesa_engine_state.Beginning.{vault_claims}
-use Rattle.mesa_engine.specs.mesa_engine_state.mesa_invariant.Walk.{Outset, run_of}
+use Rattle.mesa_engine.specs.mesa_engine_state.mesa_invariant.Invariant.{Outset, run_of}
 use Rattle.mesa_list.specs.Checks.{refused_as}
 use Rattle.mesa_model.specs.Refusals.{recast_refusal}
 use Rattle.mesa_model.specs.declared.commands.Command.TheVariants as command
@@ -35,5 +35,5 @@ pub recast_is_there : (o : Outset) (g : Origin) (l : EngineState) (story : Story
 recast_is_there o g l story held h running refused v s number words claim epoch r errand due =
     let at_stage : HasErrand (run_of o h).state claim claim.errand = subst (λ (p : Place). HasClaimAt (run_of o h).state p.stage) due.place (vault_claims o g false l story held h running refused v s) in
     let has : HasRecastClaim (run_of o h).state claim epoch r = subst (λ (e : Errand). HasErrand (run_of o h).state claim e) errand at_stage in
-    let within = subst (λ (m : Machine). claim.table < length m.ranges) v.walk.state.machine has.there in
+    let within = subst (λ (m : Machine). claim.table < length m.ranges) v.invariant.state.machine has.there in
     omega (arith, within, length-map l.catalogue.tables ranges_of)

@@ -15,7 +15,7 @@ use Rattle.mesa_tasks.specs.Recasts.{AreRangesOf, AreRewritten, own}
 use Rattle.mesa_tasks.specs.declared.recasting.RecastRange.{RecastRange}
 use Rattle.mesa_tasks.specs.declared.recasting.RecastedRange.{RecastedRange}
 use Rattle.mesa_engine.specs.mesa_engine_state.mesa_invariant.Turns.{SomeRose, faults_of}
-use Rattle.mesa_engine.specs.mesa_engine_state.mesa_invariant.Walk.{HasCounted}
+use Rattle.mesa_engine.specs.mesa_engine_state.mesa_invariant.Invariant.{HasCounted}
 use Rattle.mesa_engine.proofs.mesa_engine_state.Lists.{all_joined, all_so}
 use Rattle.mesa_close_turns.specs.mesa_copy.Copying.{AreRangesBounded, known_range, known_ranges}
 use Rattle.mesa_close_turns.specs.mesa_publishing.mesa_compact.Bounded.{AreBounded}

@@ -5,7 +5,7 @@ use Rattle.mesa_disk.specs.Story.{Story, Unmoved}
 use Rattle.mesa_disk.specs.mesa_fault.Causes.{last}
 use Rattle.mesa_engine.specs.mesa_engine_state.EngineState.{EngineState, books_of}
 use Rattle.mesa_engine.specs.mesa_engine_state.Vault.{Origin, IsVault}
-use Rattle.mesa_engine.specs.mesa_engine_state.mesa_invariant.Walk.{Counts, HasCounted, IsWalk, Outset, faults_in}
+use Rattle.mesa_engine.specs.mesa_engine_state.mesa_invariant.Invariant.{Counts, HasCounted, HoldsInvariant, Outset, faults_in}
 use Rattle.mesa_model.specs.declared.entries.Entry.{Entry}
 use Rattle.mesa_close_turns.specs.Unmerged.{closing_cause}
 use Rattle.mesa_close_turns.proofs.Closings.{IsPaid, paid_back}
@@ -26,21 +26,21 @@ with_counts story calls reads = record story { faults = calls; read_faults = rea
 
 module _ (o : Outset) (g : Origin) (sound : Bool) (l : EngineState) (story new : Story) (held : Option (List ℕ)) (h : List Entry) (running refused : Bool) (v : IsVault o g sound l story held h running refused)
     (unmoved : Unmoved story new) (calls : story.faults ≤ new.faults) (reads : story.read_faults ≤ new.read_faults) where
-  -- a walk hangs on the counts only by how many faults it has answered
-  counted_so : (calls reads : ℕ) → HasCounted o.counted (with_counts story calls reads) (faults_in o h) → IsWalk o sound (books_of v.rows l) (with_counts story calls reads) held h running refused
+  -- the invariant hangs on the counts only by how many faults it has answered
+  counted_so : (calls reads : ℕ) → HasCounted o.counted (with_counts story calls reads) (faults_in o h) → HoldsInvariant o sound (books_of v.rows l) (with_counts story calls reads) held h running refused
   counted_so calls reads counts = record {
-    state = v.walk.state;
-    legal = v.walk.legal;
-    short = v.walk.short;
-    by = v.walk.by;
-    at = v.walk.at;
-    begun = v.walk.begun;
-    sink = v.walk.sink;
-    told = v.walk.told;
+    state = v.invariant.state;
+    legal = v.invariant.legal;
+    short = v.invariant.short;
+    by = v.invariant.by;
+    at = v.invariant.at;
+    begun = v.invariant.begun;
+    sink = v.invariant.sink;
+    told = v.invariant.told;
     counts = counts;
-    shown = v.walk.shown;
-    printed = v.walk.printed;
-    found = v.walk.found;
+    shown = v.invariant.shown;
+    printed = v.invariant.printed;
+    found = v.invariant.found;
   }
 
   unmoved_so : (calls reads : ℕ) → Unmoved (with_counts story calls reads) new
@@ -48,13 +48,13 @@ module _ (o : Outset) (g : Origin) (sound : Bool) (l : EngineState) (story new :
 
   -- where a count stands at its last value, it may be taken to have risen
   as_it_is : Counts story new true → IsPaid o g sound l story new held h running refused v true
-  as_it_is counts = record { before = story; walk = v.walk; moment = refl; unmoved = unmoved; counts = counts; quiet = record { faults = calls; reads = reads; rose = λ low answers. absurd cc } }
+  as_it_is counts = record { before = story; invariant = v.invariant; moment = refl; unmoved = unmoved; counts = counts; quiet = record { faults = calls; reads = reads; rose = λ low answers. absurd cc } }
 
-  -- and else one of them has, which no entry has answered yet: the walk is one from before it
+  -- and else one of them has, which no entry has answered yet: the invariant is one from before it
   from_calls : (n : ℕ) → story.faults ≡ suc n → HasCounted o.counted (with_counts story n story.read_faults) (faults_in o h) → IsPaid o g sound l story new held h running refused v true
   from_calls n is counts = record {
     before = with_counts story n story.read_faults;
-    walk = counted_so n story.read_faults counts;
+    invariant = counted_so n story.read_faults counts;
     moment = refl;
     unmoved = unmoved_so n story.read_faults;
     counts = record { faults = omega (arith, is, calls); reads = reads; rose = λ low answers. inl (omega (arith, is, calls)) };
@@ -64,7 +64,7 @@ module _ (o : Outset) (g : Origin) (sound : Bool) (l : EngineState) (story new :
   from_reads : (n : ℕ) → story.read_faults ≡ suc n → HasCounted o.counted (with_counts story story.faults n) (faults_in o h) → IsPaid o g sound l story new held h running refused v true
   from_reads n is counts = record {
     before = with_counts story story.faults n;
-    walk = counted_so story.faults n counts;
+    invariant = counted_so story.faults n counts;
     moment = refl;
     unmoved = unmoved_so story.faults n;
     counts = record { faults = calls; reads = omega (arith, is, reads); rose = λ low answers. inr (omega (arith, is, reads)) };

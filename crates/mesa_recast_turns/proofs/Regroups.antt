@@ -61,10 +61,10 @@ use Rattle.mesa_tasks.specs.declared.recasting.Recast.{Recast}
 use Rattle.mesa_engine.specs.mesa_engine_state.mesa_invariant.Causes.{Unwritten, reply_of, told_at}
 use Rattle.mesa_engine.specs.mesa_engine_state.mesa_invariant.Printing.{IsPut}
 use Rattle.mesa_engine.specs.mesa_engine_state.mesa_invariant.Turns.{entry}
-use Rattle.mesa_engine.specs.mesa_engine_state.mesa_invariant.Walk.{Counts, Passes, StandsForEither, Writes, run_of}
+use Rattle.mesa_engine.specs.mesa_engine_state.mesa_invariant.Invariant.{Counts, Passes, StandsForEither, Writes, run_of}
 use Rattle.mesa_engine.specs.mesa_engine_state.mesa_invariant.Works.{Regroups}
 use Rattle.mesa_engine.proofs.mesa_engine_state.mesa_invariant.Working.{checked_open}
-use Rattle.mesa_engine.specs.mesa_engine_state.EngineState.{EngineState, books_of, first_id, holders, ids_held, next_id, skeleton_of}
+use Rattle.mesa_engine.specs.mesa_engine_state.EngineState.{EngineState, books_of, first_id, holders, ids_held, next_id, projection_of}
 use Rattle.mesa_engine.specs.mesa_engine_state.Recorded.{IsRecorded, failed_state, left_by, recorded_state, removed_by, waiting}
 use Rattle.mesa_engine.specs.mesa_engine_state.Vault.{IsVault, Starts, outset_of, written_by}
 use Rattle.mesa_engine.proofs.mesa_engine_state.Agreeing.{named_agree, same_kept}
@@ -82,8 +82,8 @@ use Rattle.mesa_close_turns.proofs.Swaps.{all_among, not_among}
 use Rattle.mesa_close_turns.proofs.mesa_write_turns.Written.{IsWhole, IsWorked}
 
 -- the table of a number as the books have it
-pub table_is : (l : EngineState) (table : ℕ) → table_at (books_of no_rows l).bare.store table ≡ skeleton_of (stock_at l.catalogue table)
-table_is l table = map_at skeleton_of l.catalogue.tables table no_stock
+pub table_is : (l : EngineState) (table : ℕ) → table_at (books_of no_rows l).bare.store table ≡ projection_of (stock_at l.catalogue table)
+table_is l table = map_at projection_of l.catalogue.tables table no_stock
 
 -- what a claim's table is told as
 abbrev pub told_of : {R : Type 0} → EngineState → Recast R → Reply

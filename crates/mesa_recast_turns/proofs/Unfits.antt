@@ -29,7 +29,7 @@ use Rattle.mesa_engine.specs.mesa_engine_state.mesa_invariant.Causes.{Cause, out
 use Rattle.mesa_engine.specs.mesa_engine_state.mesa_invariant.Printing.{IsPut}
 use Rattle.mesa_engine.specs.mesa_engine_state.mesa_invariant.Turns.{Shown, IsSeen, Takes, entry}
 use Rattle.mesa_engine.specs.mesa_engine_state.mesa_invariant.Undamaged.{is_damaged}
-use Rattle.mesa_engine.specs.mesa_engine_state.mesa_invariant.Walk.{run_at, run_of}
+use Rattle.mesa_engine.specs.mesa_engine_state.mesa_invariant.Invariant.{run_at, run_of}
 use Rattle.mesa_engine.proofs.mesa_engine_state.mesa_invariant.Going.{complete_takes}
 use Rattle.mesa_engine.proofs.mesa_engine_state.mesa_invariant.Turning.{counts_same, stays}
 use Rattle.mesa_engine.proofs.mesa_engine_state.mesa_invariant.Recasting.{changed_turn}
@@ -53,13 +53,13 @@ module _ (n : Starts) (w : Rows) (sound : Bool) (l : EngineState) (story : Story
       → IsVault (outset_of n w) (n.origin w) sound (unfit_state e claim.table claim.lease l) story new_held (h ++ entry s number kind.Close (outcome_of (cause_met e)) m ∷ []) now (refused || is_refusal (reply_of (cause_met e)))
   unfit_vault (why.Lost x) has put =
       still_vault (outset_of n w) (n.origin w) sound l story held h running refused v (entry s number kind.Close (outcome_of (cause_met (why.Lost x))) m) story new_held now (refused || true) (stays story)
-      (lost_turn (outset_of n w) sound (books_of v.rows l) story held h running refused v.walk s number low few (command.Recast words) refl m ran at place moment story (stays story) claim due x has (counts_same story) now new_held put)
+      (lost_turn (outset_of n w) sound (books_of v.rows l) story held h running refused v.invariant s number low few (command.Recast words) refl m ran at place moment story (stays story) claim due x has (counts_same story) now new_held put)
   unfit_vault (why.Changed x) has put =
       leased_vault (outset_of n w) (n.origin w) sound l story held h running refused v (entry s number kind.Close (outcome_of (cause_met (why.Changed x))) m) story new_held now (refused || true) (stays story) (ended claim.table claim.lease l.leases) few_granted
-      (changed_turn (outset_of n w) sound (books_of v.rows l) story held h running refused v.walk s number low few (command.Recast words) refl m ran at place claim epoch recast errand due has.0 x has.1 moment story (stays story) (counts_same story) now new_held put)
+      (changed_turn (outset_of n w) sound (books_of v.rows l) story held h running refused v.invariant s number low few (command.Recast words) refl m ran at place claim epoch recast errand due has.0 x has.1 moment story (stays story) (counts_same story) now new_held put)
   unfit_vault why.Memory has put =
       leased_vault (outset_of n w) (n.origin w) sound l story held h running refused v (entry s number kind.Close (outcome_of (cause_met why.Memory)) m) story new_held now (refused || true) (stays story) (ended claim.table claim.lease l.leases) few_granted
-      (starved_turn (outset_of n w) sound (books_of v.rows l) story held h running refused v.walk s number low few (command.Recast words) refl m ran at place moment story (stays story) claim due has (counts_same story) now new_held put)
+      (starved_turn (outset_of n w) sound (books_of v.rows l) story held h running refused v.invariant s number low few (command.Recast words) refl m ran at place moment story (stays story) claim due has (counts_same story) now new_held put)
 
 -- no damage keeps a table from being recast
 refused_undamaged : (e : Unfit) → is_damaged (outcome_of (cause_met e)) ≡ false

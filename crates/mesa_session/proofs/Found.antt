@@ -24,7 +24,7 @@ use Rattle.mesa_core.proofs.mesa_history.Due.{fit_below}
 use Rattle.mesa_engine.specs.mesa_projection.Rows.{Rows, no_rows}
 use Rattle.mesa_engine.specs.mesa_invariant.Queries.{IsOpenFrom}
 use Rattle.mesa_engine.specs.mesa_invariant.Turns.{Shown, IsTurn, IsSeen}
-use Rattle.mesa_engine.specs.mesa_invariant.Walk.{run_at}
+use Rattle.mesa_engine.specs.mesa_invariant.Invariant.{run_at}
 use Rattle.mesa_tasks.specs.declared.prepared.LoadError.{LoadError}
 use Rattle.mesa_tasks.specs.declared.prepared.Prepared.{Prepared}
 use Rattle.mesa_tasks.specs.declared.querying.Pinned.{Pinned}

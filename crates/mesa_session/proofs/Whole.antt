@@ -9,7 +9,7 @@ use Rattle.mesa_core.specs.mesa_history.Run.{State}
 use Rattle.mesa_core.proofs.mesa_history.Ending.{legal_ended}
 use Rattle.mesa_turn.specs.Passes.{Known}
 use Rattle.mesa_engine.specs.mesa_invariant.Turns.{IsSeen, Shown}
-use Rattle.mesa_engine.specs.mesa_invariant.Walk.{run_at}
+use Rattle.mesa_engine.specs.mesa_invariant.Invariant.{run_at}
 use Rattle.mesa_session_laws.specs.Passes.{HasEnded}
 
 -- the last pass has seen the whole history

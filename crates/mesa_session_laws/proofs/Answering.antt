@@ -25,7 +25,7 @@ use Rattle.mesa_history.specs.Replay.{closes, go, runs}
 use Rattle.mesa_history.specs.Run.{Run, State, begins, command_at, command_of}
 use Rattle.mesa_history.proofs.Counting.{count_more}
 use Rattle.mesa_invariant.specs.Turns.{AnswersDraft, Shown, entry, is_load, is_simple}
-use Rattle.mesa_invariant.specs.Walk.{run_at}
+use Rattle.mesa_invariant.specs.Invariant.{run_at}
 use Rattle.mesa_session_laws.specs.Answers.{Answers, AreTimely, Owes, answered, answered_in}
 use Rattle.mesa_session_laws.proofs.Behind.{Others, all_behind, found_behind, none_others, within_one}
 use Rattle.mesa_session_laws.proofs.Turning.{Step, step_seen}

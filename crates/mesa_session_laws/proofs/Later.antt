@@ -23,7 +23,7 @@ use Rattle.mesa_tasks.specs.Recasts.{recast_table}
 use Rattle.mesa_tasks.specs.declared.merging.Task.{Task}
 use Rattle.mesa_tasks.specs.declared.recasting.Recast.{Recast}
 use Rattle.mesa_tasks.specs.declared.recasting.RecastRange.{RecastRange}
-use Rattle.mesa_invariant.specs.Walk.{run_at}
+use Rattle.mesa_invariant.specs.Invariant.{run_at}
 use Rattle.mesa_publishing.specs.mesa_engine_state.Written.{written_at}
 
 -- ---- what is written behind a history

@@ -21,7 +21,7 @@ use Rattle.mesa_history.proofs.Due.{fit_below}
 use Rattle.mesa_history.proofs.More.{runs_more}
 use Rattle.mesa_history.proofs.Turns.{prologue_is}
 use Rattle.mesa_invariant.specs.Turns.{Shown, entry, IsTurn, IsSeen, Asks}
-use Rattle.mesa_invariant.specs.Walk.{run_at}
+use Rattle.mesa_invariant.specs.Invariant.{run_at}
 use Rattle.mesa_session_laws.specs.Passes.{run_seen, at_stage, HasSort, Holds, Mine, Took}
 use Rattle.mesa_session_laws.proofs.Behind.{all_behind, comes_in_time, place_found, whole_found, within_one}
 

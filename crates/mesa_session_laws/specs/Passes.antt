@@ -8,7 +8,7 @@ use Rattle.mesa_model.specs.declared.commands.Script.{Script}
 use Rattle.mesa_model.specs.Entry.{history_of}
 use Rattle.mesa_history.specs.Run.{State, Stage, Place, Run, place_of, command_at, begins}
 use Rattle.mesa_history.specs.Legal.{AllFit, has_ended}
-use Rattle.mesa_invariant.specs.Walk.{run_at}
+use Rattle.mesa_invariant.specs.Invariant.{run_at}
 
 -- what stands after the turns that a pass has seen
 abbrev pub run_seen : Script → State → List ℕ → Run

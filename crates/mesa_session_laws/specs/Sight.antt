@@ -6,7 +6,7 @@ use Rattle.mesa_model.specs.declared.entries.Entry.{Entry}
 use Rattle.mesa_model.specs.Warehouse.{Store, Table}
 use Rattle.mesa_history.specs.Run.{State, begins}
 use Rattle.mesa_invariant.specs.Sight.{schema_changes}
-use Rattle.mesa_invariant.specs.Walk.{run_at}
+use Rattle.mesa_invariant.specs.Invariant.{run_at}
 
 -- each table's name, and its columns and views through its life
 abbrev pub tables_known : Store → List Known

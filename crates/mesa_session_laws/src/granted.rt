@@ -26,7 +26,7 @@ ghost use Rattle.mesa_publishing.specs.Grown.{HasBecome};
 ghost use Rattle.mesa_publishing.specs.Recasts.{HasItsRanges};
 ghost use Rattle.mesa_tasks.specs.Tasks.{IsMerged, IsTask};
 ghost use Rattle.mesa_tasks.specs.declared.recasting.Recast.{Recast as AnyRecast};
-ghost use Rattle.mesa_invariant.specs.Walk.{run_at};
+ghost use Rattle.mesa_invariant.specs.Invariant.{run_at};
 ghost use Rattle.mesa_publishing.specs.mesa_engine_state.Written.{written_at};
 ghost use Rattle.mesa_session_laws.specs.Known.{AllAreBounded, AllHaveRange, AllHaveRanges, IsKnownOf, lineage_in};
 

@@ -21,7 +21,7 @@ use Rattle.mesa_check.specs.mesa_catalog.mesa_image.Contents.{kept_of, table_of}
 use Rattle.mesa_check.specs.mesa_catalog.mesa_image.Sound.{StandsFor}
 use Rattle.mesa_check.specs.mesa_catalog.mesa_image.Ids.{named}
 use Rattle.mesa_check.proofs.mesa_catalog.mesa_image.AllSourced.{all_found}
-use Rattle.mesa_engine_state.specs.EngineState.{books_of, first_id, skeleton_of}
+use Rattle.mesa_engine_state.specs.EngineState.{books_of, first_id, projection_of}
 use Rattle.mesa_engine_state.specs.Vault.{IsReady, Starts}
 use Rattle.mesa_session.specs.mesa_metadata.Memory.{opened_state}
 use Rattle.mesa_session.specs.mesa_engine.Beginning.{IsBegun}
@@ -41,14 +41,14 @@ turns_are (x ∷ xs) = let rest = turns_are xs in omega (arith, rest)
 pub few_turns : (script : Script) → IsSmall script → turns_of script.sessions ≤ most_turns
 few_turns script small = let turns = turns_are script.sessions in omega (arith, turns, small.commands)
 
-bare_tables : (rows : Rows) (next : ℕ) (ts : List Stock) → map bare_table (map (table_of rows next) ts) ≡ map skeleton_of ts
+bare_tables : (rows : Rows) (next : ℕ) (ts : List Stock) → map bare_table (map (table_of rows next) ts) ≡ map projection_of ts
 bare_tables rows next [] = refl
-bare_tables rows next (t ∷ ts) = ap (λ (x : List Table). skeleton_of t ∷ x) (bare_tables rows next ts)
+bare_tables rows next (t ∷ ts) = ap (λ (x : List Table). projection_of t ∷ x) (bare_tables rows next ts)
 
 books_are : (script : Script) (c : Catalog) (area : Area) (end : ℕ) (w : Rows) (sound : Bool) → AreBooksOf sound (books_of w (opened_state c area end script.lease)) (start_of script c w)
 unfolding kept_of
 books_are script c area end w sound = record {
-  skeleton = λ i. record (books_of w (opened_state c area end script.lease)).bare { store = record { tables = bare_tables w c.next c.tables i; floor = c.floor } };
+  projection = λ i. record (books_of w (opened_state c area end script.lease)).bare { store = record { tables = bare_tables w c.next c.tables i; floor = c.floor } };
   machine = refl;
   rows = λ is. refl;
   pins = λ is. refl;

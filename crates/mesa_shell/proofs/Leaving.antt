@@ -7,7 +7,7 @@ use Rattle.mesa_check.specs.mesa_history.Refused.{some_refused}
 use Rattle.mesa_check.specs.mesa_history.Run.{begins}
 use Rattle.mesa_look.specs.mesa_projection.Rows.{Rows}
 use Rattle.mesa_check.specs.mesa_catalog.declared.begun.Begun.{Begun}
-use Rattle.mesa_engine_state.specs.mesa_invariant.Walk.{AllFound}
+use Rattle.mesa_engine_state.specs.mesa_invariant.Invariant.{AllFound}
 use Rattle.mesa_engine_state.specs.Vault.{IsRead}
 use Rattle.mesa_exit.specs.mesa_exit_spec.Counting.{HasBenchCounts}
 use Rattle.mesa_exit.specs.mesa_exit_spec.Ports.{Ports}

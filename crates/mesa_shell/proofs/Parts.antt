@@ -15,7 +15,7 @@ use Rattle.mesa_look.specs.mesa_projection.Bare.{bare_run, bare_state}
 use Rattle.mesa_look.proofs.mesa_projection.Alike.{go_alike, legal_alike}
 use Rattle.mesa_session.specs.mesa_session_laws.Answers.{AreTimely, HasCounted, HaveCounted}
 use Rattle.mesa_engine_state.specs.mesa_invariant.Printing.{IsPrintedButRows}
-use Rattle.mesa_engine_state.specs.mesa_invariant.Walk.{HasCounted as HasCountedFaults}
+use Rattle.mesa_engine_state.specs.mesa_invariant.Invariant.{HasCounted as HasCountedFaults}
 use Rattle.mesa_exit.specs.mesa_exit_spec.Counting.{HasBenchCounts}
 use Rattle.mesa_exit.specs.mesa_exit_spec.Run.{RanAnyhow}
 use Rattle.mesa_engine_state.specs.Vault.{IsRead}
@@ -33,7 +33,7 @@ timely (e ∷ h) until below to = (omega (arith, below, to.0), timely h until be
 
 -- ---- benches
 
--- which entries answer a fault of a bench hangs on the skeleton alone
+-- which entries answer a fault of a bench hangs on the projection alone
 counts_alike : (script : Script) (session : ℕ) (r s : Run) (h : List Entry) → bare_run r ≡ bare_run s → count_in (is_bench_fault session) script r h ≡ count_in (is_bench_fault session) script s h
 unfolding count_in
 counts_alike script session r s [] same = refl

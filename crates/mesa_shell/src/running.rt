@@ -9,7 +9,7 @@ ghost use Rattle.mesa_look.specs.mesa_projection.Rows.{Rows};
 ghost use Rattle.mesa_session.specs.mesa_session_laws.Passes.{turns_of};
 ghost use Rattle.mesa_exit.specs.mesa_exit_spec.Counting.{HasBenchCounts};
 ghost use Rattle.mesa_exit.specs.mesa_exit_spec.Ports.{ports};
-ghost use Rattle.mesa_engine_state.specs.mesa_invariant.Walk.{AllFound};
+ghost use Rattle.mesa_engine_state.specs.mesa_invariant.Invariant.{AllFound};
 ghost use Rattle.mesa_engine_state.specs.Vault.{IsRead};
 ghost use Rattle.mesa_exit.specs.mesa_exit_spec.Run.{RanAnyhow, RanSoundly, outset_from};
 ghost use Rattle.mesa_exit.specs.mesa_exit_spec.Scripts.{IsSmall};

@@ -112,7 +112,7 @@ fn take_step(
     expect_moments(rt, alloc, &store.disk, since, before, step.state)
 }
 
-fn walk(rt: &impl Abort, alloc: Global, store: &mut Store) -> Result<(), Fail> {
+fn invariant(rt: &impl Abort, alloc: Global, store: &mut Store) -> Result<(), Fail> {
     expect_moments(rt, alloc, &store.disk, 0, BEGUN, BEGUN)?;
     let mut before = BEGUN;
     for step in &STEPS {
@@ -139,5 +139,5 @@ fn each_moment_has_the_store_before_a_record_or_after_it(rt: HostRuntime) -> Res
     let Ok(mut store) = open(alloc, empty(alloc)) else {
         return Err("not opened".into());
     };
-    walk(&rt, alloc, &mut store)
+    invariant(&rt, alloc, &mut store)
 }

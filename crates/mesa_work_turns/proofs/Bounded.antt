@@ -40,7 +40,7 @@ use Rattle.mesa_tasks.specs.Opening.{HaveOpened}
 use Rattle.mesa_tasks.specs.declared.merging.Task.{Task}
 use Rattle.mesa_tasks.specs.declared.merging.TaskView.{TaskView}
 use Rattle.mesa_tasks.specs.declared.opening.Wanted.{Wanted}
-use Rattle.mesa_engine.specs.mesa_engine_state.mesa_invariant.Walk.{Outset}
+use Rattle.mesa_engine.specs.mesa_engine_state.mesa_invariant.Invariant.{Outset}
 use Rattle.mesa_work_turns.proofs.Grants.{shaped_at}
 
 -- a view that has no files of its own has none that could be wrong

@@ -24,7 +24,7 @@ use Rattle.mesa_model.specs.Warehouse.{Table, Warehouse, table_at}
 use Rattle.mesa_model.specs.declared.replies.Refusal.TheVariants as no
 use Rattle.mesa_model.specs.declared.replies.Reply.{Reply}
 use Rattle.mesa_model.specs.declared.replies.Reply.TheVariants as reply
-use Rattle.mesa_engine.specs.mesa_engine_state.EngineState.{EngineState, books_of, skeleton_of}
+use Rattle.mesa_engine.specs.mesa_engine_state.EngineState.{EngineState, books_of, projection_of}
 use Rattle.mesa_rules.specs.Seen.{number_of}
 use Rattle.mesa_engine.specs.mesa_projection.Rows.{no_rows}
 
@@ -49,7 +49,7 @@ module _ (l : EngineState) (at : ℕ) (name : List ℕ) where
   steps closed number = refused_as reply.Refused (refuse_closed closed) >> (ok_or number (reply.Refused no_such_table) >>= (λ table. at_table table (holder l.leases table at) (work_of table)))
 
   number_is : table_number bare.store name ≡ number_of l.catalogue name
-  number_is = ap (place_of name) (map-map (λ (t : Table). t.name) skeleton_of l.catalogue.tables)
+  number_is = ap (place_of name) (map-map (λ (t : Table). t.name) projection_of l.catalogue.tables)
 
   claim_is : claim_of bare machine at name ≡ steps l.closed (number_of l.catalogue name)
   claim_is = ap (steps l.closed) number_is
@@ -71,7 +71,7 @@ module _ (l : EngineState) (at : ℕ) (name : List ℕ) where
       work_is : (o : Option Work) → next_work (ranges_of (stock_at l.catalogue table)) (stock_at l.catalogue table).oldest (base_before l.catalogue.next) ≡ o → work_of table ≡ o
       work_is o is =
           let ranges = get_or-map ranges_of l.catalogue.tables table no_stock in
-          let oldest = ap (λ (t : Table). t.oldest) (get_or-map skeleton_of l.catalogue.tables table no_stock) in
+          let oldest = ap (λ (t : Table). t.oldest) (get_or-map projection_of l.catalogue.tables table no_stock) in
           (λ i. next_work (ranges i) (oldest i) (base_before l.catalogue.next)) ∙ is
 
       pub idle : holder l.leases table at ≡ None → next_work (ranges_of (stock_at l.catalogue table)) (stock_at l.catalogue table).oldest (base_before l.catalogue.next) ≡ None → claim_of bare machine at name ≡ Err reply.Idle

@@ -18,7 +18,7 @@ use Rattle.mesa_tasks.specs.Opening.{Counted}
 use Rattle.mesa_tasks.specs.declared.opening.Unopened.{Unopened}
 use Rattle.mesa_engine.specs.mesa_engine_state.mesa_invariant.Causes.{Cause, Unwritten, is_read_fault, outcome_of, reply_of, told_at}
 use Rattle.mesa_engine.specs.mesa_engine_state.mesa_invariant.Turns.{AnswersDisk, Shown, SomeRose, Takes, entry, faults_of}
-use Rattle.mesa_engine.specs.mesa_engine_state.mesa_invariant.Walk.{Counts, run_at}
+use Rattle.mesa_engine.specs.mesa_engine_state.mesa_invariant.Invariant.{Counts, run_at}
 use Rattle.mesa_engine.specs.mesa_engine_state.mesa_invariant.Works.{HasNoClaim}
 use Rattle.mesa_engine.proofs.mesa_engine_state.mesa_invariant.Faulting.{disk_caused, disk_counted}
 use Rattle.mesa_engine.specs.mesa_engine_state.EngineState.{books_of}

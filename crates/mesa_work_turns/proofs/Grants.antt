@@ -33,11 +33,11 @@ use Rattle.mesa_engine.specs.mesa_engine_state.mesa_invariant.Printing.{IsPut}
 use Rattle.mesa_engine.specs.mesa_engine_state.mesa_invariant.Turns.{Shown, IsSeen, Takes, entry}
 use Rattle.mesa_engine.specs.mesa_engine_state.mesa_invariant.Books.{Books}
 use Rattle.mesa_engine.specs.mesa_engine_state.mesa_invariant.Undamaged.{is_damaged}
-use Rattle.mesa_engine.specs.mesa_engine_state.mesa_invariant.Walk.{Outset, Counts, run_at, run_of}
+use Rattle.mesa_engine.specs.mesa_engine_state.mesa_invariant.Invariant.{Outset, Counts, run_at, run_of}
 use Rattle.mesa_engine.specs.mesa_engine_state.mesa_invariant.Works.{HasNoClaim}
 use Rattle.mesa_engine.proofs.mesa_engine_state.mesa_invariant.Going.{takes_as}
 use Rattle.mesa_engine.proofs.mesa_engine_state.mesa_invariant.Working.{claim_is, granted_turn, ungranted_ends, ungranted_turn}
-use Rattle.mesa_engine.specs.mesa_engine_state.EngineState.{EngineState, books_of, skeleton_of}
+use Rattle.mesa_engine.specs.mesa_engine_state.EngineState.{EngineState, books_of, projection_of}
 use Rattle.mesa_engine.specs.mesa_engine_state.Turned.{leased_state}
 use Rattle.mesa_engine.specs.mesa_engine_state.Vault.{Origin, Starts, IsVault, outset_of}
 use Rattle.mesa_engine.proofs.mesa_engine_state.Staying.{leased_vault, still_vault}
@@ -101,13 +101,13 @@ module _ (o : Outset) (g : Origin) (sound : Bool) (l : EngineState) (story : Sto
       → IsVault o g sound (leased_state l (granted claim.table at l.leases)) new held (h ++ entry s number kind.Grant outcome.Stands m ∷ []) running refused
   granted_vault claim is counts =
       leased_vault o g sound l story held h running refused v (entry s number kind.Grant outcome.Stands m) new held running refused unmoved (granted claim.table at l.leases) (omega arith)
-      (granted_turn o sound (books_of v.rows l) story held h running refused v.walk s number low few c one m ran at place moment new unmoved due claim is counts)
+      (granted_turn o sound (books_of v.rows l) story held h running refused v.invariant s number low few c one m ran at place moment new unmoved due claim is counts)
 
   pub ungranted_vault : (cause : Cause) → HasNoClaim (books_of no_rows l) (claim_asked (books_of no_rows l).bare (books_of no_rows l).machine at c) cause → Counts story new (is_read_fault cause) → (now : Bool) (new_held : Option (List ℕ)) → IsPut (block (entry s number kind.Grant (outcome_of cause) m) (Some (told_at at (reply_of cause)))) now held new_held
       → IsVault o g sound l new new_held (h ++ entry s number kind.Grant (outcome_of cause) m ∷ []) now (refused || is_refusal (reply_of cause))
   ungranted_vault cause has counts now new_held put =
       still_vault o g sound l story held h running refused v (entry s number kind.Grant (outcome_of cause) m) new new_held now (refused || is_refusal (reply_of cause)) unmoved
-      (ungranted_turn o sound (books_of v.rows l) story held h running refused v.walk s number low few c one m ran at place moment new unmoved due cause (any_rows v.rows l (claim_asked (books_of no_rows l).bare (books_of no_rows l).machine at c) cause has) counts now new_held put)
+      (ungranted_turn o sound (books_of v.rows l) story held h running refused v.invariant s number low few c one m ran at place moment new unmoved due cause (any_rows v.rows l (claim_asked (books_of no_rows l).bare (books_of no_rows l).machine at c) cause has) counts now new_held put)
 
 -- ---- the engine behind it
 
@@ -152,13 +152,13 @@ module _ (o : Outset) (g : Origin) (sound : Bool) (l : EngineState) (story : Sto
   pub granted_takes : (claim : Claim) → claim_asked (books_of no_rows l).bare (books_of no_rows l).machine at c ≡ Ok claim → new.history ≡ h ++ entry s number kind.Grant outcome.Stands new.clock ∷ [] → Takes o.script o.start old new s number kind.Grant (Granted claim)
   granted_takes claim is grew =
       takes_as o.script o.start old new s number c First kind.Grant (Granted claim) due outcome.Stands
-      (ap (λ q. (grants (run_of o h).position (run_of o h).state q).stage) (claim_is o sound (books_of v.rows l) story held h running refused v.walk s number low few c one new.clock ran at place ∙ is))
+      (ap (λ q. (grants (run_of o h).position (run_of o h).state q).stage) (claim_is o sound (books_of v.rows l) story held h running refused v.invariant s number low few c one new.clock ran at place ∙ is))
       grew (ap not (sym ran)) (λ on. ran) seen
 
   pub ungranted_takes : (cause : Cause) → HasNoClaim (books_of no_rows l) (claim_asked (books_of no_rows l).bare (books_of no_rows l).machine at c) cause → is_skip (outcome_of cause) ≡ false → new.history ≡ h ++ entry s number kind.Grant (outcome_of cause) new.clock ∷ [] → Takes o.script o.start old new s number kind.Grant Finished
   ungranted_takes cause has stands grew =
       takes_as o.script o.start old new s number c First kind.Grant Finished due (outcome_of cause)
-      (ungranted_ends o sound (books_of v.rows l) story held h running refused v.walk s number low few c one new.clock ran at place (moment ∙ unmoved.moment) new_story unmoved due cause (any_rows v.rows l (claim_asked (books_of no_rows l).bare (books_of no_rows l).machine at c) cause has))
+      (ungranted_ends o sound (books_of v.rows l) story held h running refused v.invariant s number low few c one new.clock ran at place (moment ∙ unmoved.moment) new_story unmoved due cause (any_rows v.rows l (claim_asked (books_of no_rows l).bare (books_of no_rows l).machine at c) cause has))
       grew (stands ∙ ap not (sym ran)) (λ on. ran) seen
 
 -- a turn that answers isn't skipped
@@ -178,8 +178,8 @@ shaped_at c is table there = all_at (IsShaped c.floor c.next) c.tables table no_
 pub tables_there : (o : Outset) (g : Origin) (sound : Bool) (l : EngineState) (story : Story) (held : Option (List ℕ)) (h : List Entry) (running refused : Bool) → IsVault o g sound l story held h running refused
     → length (run_of o h).state.warehouse.store.tables ≡ length l.catalogue.tables
 tables_there o g sound l story held h running refused v =
-    sym (length-map (run_of o h).state.warehouse.store.tables bare_table) ∙ ap (λ (w : Warehouse). length w.store.tables) v.walk.state.skeleton ∙ length-map l.catalogue.tables skeleton_of
+    sym (length-map (run_of o h).state.warehouse.store.tables bare_table) ∙ ap (λ (w : Warehouse). length w.store.tables) v.invariant.state.projection ∙ length-map l.catalogue.tables projection_of
 
 pub next_there : (o : Outset) (g : Origin) (sound : Bool) (l : EngineState) (story : Story) (held : Option (List ℕ)) (h : List Entry) (running refused : Bool) → IsVault o g sound l story held h running refused
     → (run_of o h).state.warehouse.next ≡ l.catalogue.next
-next_there o g sound l story held h running refused v = ap (λ (w : Warehouse). w.next) v.walk.state.skeleton
+next_there o g sound l story held h running refused v = ap (λ (w : Warehouse). w.next) v.invariant.state.projection

@@ -24,7 +24,7 @@ use Rattle.mesa_publishing.specs.Finished.{GroupOnly, HasRange, sources_in}
 use Rattle.mesa_tasks.specs.Inputs.{present_parts}
 use Rattle.mesa_tasks.specs.Tasks.{IsTask}
 use Rattle.mesa_tasks.specs.declared.merging.Task.{Task}
-use Rattle.mesa_engine.specs.mesa_engine_state.mesa_invariant.Walk.{Outset}
+use Rattle.mesa_engine.specs.mesa_engine_state.mesa_invariant.Invariant.{Outset}
 use Rattle.mesa_work_turns.proofs.Sound.{IsSoundDelta, none_met, none_own, present_lifted, same_folded, sound_deltas, sound_merged, told_inputs}
 use Rattle.mesa_work_turns.proofs.Bounded.{range_told}
 

@@ -16,7 +16,7 @@ use Rattle.mesa_binding.specs.declared.failure.Failure.{Failure}
 use Rattle.mesa_binding.specs.declared.failure.Failure.TheVariants as asked
 use Rattle.mesa_engine.specs.mesa_history.Machine.{Claim, Machine, Recasts, max_deltas, recast_claim_of, refuse_busy}
 use Rattle.mesa_lease.specs.Book.{holder}
-use Rattle.mesa_engine.specs.mesa_engine_state.EngineState.{EngineState, books_of, skeleton_of}
+use Rattle.mesa_engine.specs.mesa_engine_state.EngineState.{EngineState, books_of, projection_of}
 use Rattle.mesa_engine.specs.mesa_engine_state.mesa_invariant.Works.{HasNoClaim}
 use Rattle.mesa_engine.specs.mesa_metadata.mesa_image.Catalog.{no_stock, ranges_of, start_in, stock_at}
 use Rattle.mesa_model.specs.Refusals.{no_such_table, recast_refusal, refuse_closed}
@@ -82,13 +82,13 @@ module _ (l : EngineState) (at : ℕ) (words : RecastWords) where
       (nat_lt max_deltas (l.catalogue.next - start_in (stock_at l.catalogue table)))))
 
   number_is : table_number bare.store words.table ≡ number_of l.catalogue words.table
-  number_is = ap (place_of words.table) (map-map (λ (t : Table). t.name) skeleton_of l.catalogue.tables)
+  number_is = ap (place_of words.table) (map-map (λ (t : Table). t.name) projection_of l.catalogue.tables)
 
-  -- the skeleton of a table has its columns, and the machine its ranges
+  -- the projection of a table has its columns, and the machine its ranges
   claim_is : asked_of ≡ steps l.closed (number_of l.catalogue words.table)
   claim_is = (λ i. refused_as reply.Refused (refuse_closed l.closed) >> (ok_or (number_is i) (reply.Refused no_such_table)
       >>= (λ table.
-      let lineage = ap (λ (t : Table). t.lineage) (get_or-map skeleton_of l.catalogue.tables table no_stock) in
+      let lineage = ap (λ (t : Table). t.lineage) (get_or-map projection_of l.catalogue.tables table no_stock) in
       let ranges = get_or-map ranges_of l.catalogue.tables table no_stock in
       allowed table (epoch_of (lineage i)) (recast_checked (lineage i) (recast_asked words)) (holder l.leases table at) (nat_lt max_deltas (l.catalogue.next - start_of (ranges i))))))
 

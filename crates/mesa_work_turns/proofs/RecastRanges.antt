@@ -29,7 +29,7 @@ use Rattle.mesa_engine.specs.mesa_metadata.mesa_image.Sound.{IsStocked, bytes_of
 use Rattle.mesa_engine.specs.mesa_engine_state.EngineState.{EngineState}
 use Rattle.mesa_engine.specs.mesa_engine_state.Vault.{Origin, IsVault, written_by}
 use Rattle.mesa_engine.specs.mesa_engine_state.mesa_image.Sourced.{AreMadeOf, IsMadeOf, IsSourced}
-use Rattle.mesa_engine.specs.mesa_engine_state.mesa_invariant.Walk.{Outset}
+use Rattle.mesa_engine.specs.mesa_engine_state.mesa_invariant.Invariant.{Outset}
 use Rattle.mesa_engine.proofs.mesa_engine_state.Standing.{held_there}
 use Rattle.mesa_engine.proofs.mesa_engine_state.mesa_image.AllSourced.{epochs_written, own as own_sources}
 use Rattle.mesa_engine.proofs.mesa_engine_state.mesa_image.Lists.{all_back, all_front, all_unflat, stock_found}

@@ -24,7 +24,7 @@ use Rattle.mesa_engine.specs.mesa_projection.Rows.{Rows, no_rows}
 use Rattle.mesa_engine.specs.mesa_engine_state.mesa_invariant.Causes.{told_at}
 use Rattle.mesa_engine.specs.mesa_engine_state.mesa_invariant.Printing.{IsPut}
 use Rattle.mesa_engine.specs.mesa_engine_state.mesa_invariant.Turns.{Shown, IsSeen, Takes, entry}
-use Rattle.mesa_engine.specs.mesa_engine_state.mesa_invariant.Walk.{Outset, run_at, run_of}
+use Rattle.mesa_engine.specs.mesa_engine_state.mesa_invariant.Invariant.{Outset, run_at, run_of}
 use Rattle.mesa_engine.proofs.mesa_engine_state.mesa_invariant.Turning.{stays, counts_same}
 use Rattle.mesa_engine.proofs.mesa_engine_state.mesa_invariant.Going.{takes_as}
 use Rattle.mesa_engine.proofs.mesa_engine_state.mesa_invariant.Working.{checked_is, renewed_turn, unrenewed_ends, unrenewed_turn}
@@ -62,13 +62,13 @@ module _ (o : Outset) (g : Origin) (sound : Bool) (l : EngineState) (story : Sto
       → IsVault o g sound (leased_state l (renewed claim.table claim.lease at l.leases)) story held (h ++ entry s number kind.Renew outcome.Stands m ∷ []) running refused
   renewed_vault a holds =
       leased_vault o g sound l story held h running refused v (entry s number kind.Renew outcome.Stands m) story held running refused (stays story) (renewed claim.table claim.lease at l.leases) (omega arith)
-      (renewed_turn o sound (books_of v.rows l) story held h running refused v.walk s number low few c one m ran at place moment story (stays story) claim due holds (counts_same story))
+      (renewed_turn o sound (books_of v.rows l) story held h running refused v.invariant s number low few c one m ran at place moment story (stays story) claim due holds (counts_same story))
 
   pub lost_vault : (a : Rows) (x : Refusal) → claim_checked (books_of a l).bare (books_of a l).machine at claim ≡ Err x → (now : Bool) (new_held : Option (List ℕ)) → IsPut (block (entry s number kind.Renew outcome.Stands m) (Some (told_at at (reply.Refused x)))) now held new_held
       → IsVault o g sound l story new_held (h ++ entry s number kind.Renew outcome.Stands m ∷ []) now (refused || true)
   lost_vault a x lost now new_held put =
       still_vault o g sound l story held h running refused v (entry s number kind.Renew outcome.Stands m) story new_held now (refused || true) (stays story)
-      (unrenewed_turn o sound (books_of v.rows l) story held h running refused v.walk s number low few c one m ran at place moment story (stays story) claim due x lost (counts_same story) now new_held put)
+      (unrenewed_turn o sound (books_of v.rows l) story held h running refused v.invariant s number low few c one m ran at place moment story (stays story) claim due x lost (counts_same story) now new_held put)
 
 -- ---- the engine behind it
 
@@ -101,11 +101,11 @@ module _ (o : Outset) (g : Origin) (sound : Bool) (l : EngineState) (story : Sto
   pub renewed_takes : claim_checked (books_of no_rows l).bare (books_of no_rows l).machine at claim ≡ Ok tt → Takes o.script o.start old new s number kind.Renew (Renewed claim)
   renewed_takes holds =
       takes_as o.script o.start old new s number c (Granted claim) kind.Renew (Renewed claim) due outcome.Stands
-      (ap (λ q. (renews (run_of o h).position (run_of o h).state claim q).stage) (checked_is o sound (books_of v.rows l) story held h running refused v.walk s number low few c one new.clock ran at place claim ∙ holds))
+      (ap (λ q. (renews (run_of o h).position (run_of o h).state claim q).stage) (checked_is o sound (books_of v.rows l) story held h running refused v.invariant s number low few c one new.clock ran at place claim ∙ holds))
       grew (ap not (sym ran)) (λ on. ran) seen
 
   pub lost_takes : (x : Refusal) → claim_checked (books_of no_rows l).bare (books_of no_rows l).machine at claim ≡ Err x → Takes o.script o.start old new s number kind.Renew Finished
   lost_takes x lost =
       takes_as o.script o.start old new s number c (Granted claim) kind.Renew Finished due outcome.Stands
-      (unrenewed_ends o sound (books_of v.rows l) story held h running refused v.walk s number low few c one new.clock ran at place moment story (stays story) claim due x lost)
+      (unrenewed_ends o sound (books_of v.rows l) story held h running refused v.invariant s number low few c one new.clock ran at place moment story (stays story) claim due x lost)
       grew (ap not (sym ran)) (λ on. ran) seen

@@ -21,7 +21,7 @@ ghost use Rattle.mesa_publishing.specs.Finished.{HasRange};
 ghost use Rattle.mesa_tasks.specs.Spares.{HasSpares};
 ghost use Rattle.mesa_tasks.specs.Tasks.{IsTask, claim_in};
 ghost use Rattle.mesa_engine.specs.mesa_engine_state.mesa_invariant.Turns.{AnswersDisk, SomeRose, Takes};
-ghost use Rattle.mesa_engine.specs.mesa_engine_state.mesa_invariant.Walk.{run_at};
+ghost use Rattle.mesa_engine.specs.mesa_engine_state.mesa_invariant.Invariant.{run_at};
 ghost use Rattle.mesa_engine.specs.mesa_engine_state.mesa_invariant.Works.{stage_if};
 ghost use Rattle.mesa_work_turns.specs.Claims.{cause_met, claim_as};
 ghost use Rattle.mesa_engine.specs.mesa_engine_state.Written.{written_at};

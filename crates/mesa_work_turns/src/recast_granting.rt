@@ -17,7 +17,7 @@ ghost use Rattle.mesa_engine.specs.mesa_projection.Rows.{Rows, no_rows};
 ghost use Rattle.mesa_publishing.specs.Recasts.{HasItsRanges};
 ghost use Rattle.mesa_tasks.specs.Recasts.{IsRecastTask, claim_of_recast, recast_in, recast_table};
 ghost use Rattle.mesa_engine.specs.mesa_engine_state.mesa_invariant.Turns.{AnswersDisk, SomeRose, Takes};
-ghost use Rattle.mesa_engine.specs.mesa_engine_state.mesa_invariant.Walk.{run_at};
+ghost use Rattle.mesa_engine.specs.mesa_engine_state.mesa_invariant.Invariant.{run_at};
 ghost use Rattle.mesa_engine.specs.mesa_engine_state.mesa_invariant.Works.{stage_if};
 ghost use Rattle.mesa_publishing.specs.mesa_copy.Copying.{IsRecastBounded};
 ghost use Rattle.mesa_work_turns.specs.Claims.{recast_claim_as};

@@ -47,9 +47,9 @@ use Rattle.mesa_engine.specs.mesa_projection.Rows.{Rows}
 use Rattle.mesa_engine.specs.mesa_engine_state.mesa_invariant.Causes.{told_at}
 use Rattle.mesa_engine.specs.mesa_engine_state.mesa_invariant.Changes.{Doing, IsChange, IsDecided}
 use Rattle.mesa_engine.specs.mesa_engine_state.mesa_invariant.Sight.{is_of_schemas}
-use Rattle.mesa_engine.specs.mesa_engine_state.mesa_invariant.Walk.{Outset, run_of}
+use Rattle.mesa_engine.specs.mesa_engine_state.mesa_invariant.Invariant.{Outset, run_of}
 use Rattle.mesa_engine.proofs.mesa_engine_state.mesa_invariant.Changing.{alter_decided, expire_decided, load_decided, table_decided, view_decided}
-use Rattle.mesa_engine.specs.mesa_engine_state.EngineState.{EngineState, books_of, next_id, skeleton_of}
+use Rattle.mesa_engine.specs.mesa_engine_state.EngineState.{EngineState, books_of, next_id, projection_of}
 use Rattle.mesa_engine.specs.mesa_engine_state.Recorded.{recorded_state}
 use Rattle.mesa_engine.specs.mesa_engine_state.Vault.{Origin, IsVault, written_by}
 use Rattle.mesa_engine.proofs.mesa_engine_state.Agreeing.{named_agree}
@@ -91,7 +91,7 @@ module _ (o : Outset) (g : Origin) (sound : Bool) (l : EngineState) (story : Sto
 
   -- a table's number in the books is that in the catalogue
   number_seen : (name : List ℕ) → table_number (books_of v.rows l).bare.store name ≡ number_of c name
-  number_seen name = ap (place_of name) (map-map (λ (t : Table). t.name) skeleton_of c.tables)
+  number_seen name = ap (place_of name) (map-map (λ (t : Table). t.name) projection_of c.tables)
 
   -- a version that may be let go up to is there
   version_there : (oldest version : ℕ) → expire_fits c oldest version ≡ true → version < c.next

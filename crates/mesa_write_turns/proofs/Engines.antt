@@ -20,7 +20,7 @@ use Rattle.mesa_engine.specs.mesa_projection.Bare.{bare_state}
 use Rattle.mesa_engine.specs.mesa_projection.Rows.{Rows, no_rows}
 use Rattle.mesa_engine.specs.mesa_engine_state.mesa_invariant.Causes.{Unwritten, reply_of, told_at}
 use Rattle.mesa_engine.specs.mesa_engine_state.mesa_invariant.Turns.{entry}
-use Rattle.mesa_engine.specs.mesa_engine_state.mesa_invariant.Walk.{Counts, run_at, run_of}
+use Rattle.mesa_engine.specs.mesa_engine_state.mesa_invariant.Invariant.{Counts, run_at, run_of}
 use Rattle.mesa_engine.proofs.mesa_engine_state.mesa_invariant.Alike.{due_alike}
 use Rattle.mesa_engine.specs.mesa_engine_state.EngineState.{first_id, next_id, past_id}
 use Rattle.mesa_engine.specs.mesa_engine_state.Recorded.{failed_state, recorded_state}

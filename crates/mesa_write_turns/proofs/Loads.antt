@@ -35,7 +35,7 @@ use Rattle.mesa_engine.specs.mesa_engine_state.mesa_invariant.Causes.{Unwritten,
 use Rattle.mesa_engine.specs.mesa_engine_state.mesa_invariant.Changes.{HasFailed}
 use Rattle.mesa_engine.specs.mesa_engine_state.mesa_invariant.Printing.{IsPut}
 use Rattle.mesa_engine.specs.mesa_engine_state.mesa_invariant.Turns.{entry}
-use Rattle.mesa_engine.specs.mesa_engine_state.mesa_invariant.Walk.{Outset, run_at, run_of}
+use Rattle.mesa_engine.specs.mesa_engine_state.mesa_invariant.Invariant.{Outset, run_at, run_of}
 use Rattle.mesa_engine.proofs.mesa_engine_state.mesa_invariant.Alike.{due_alike}
 use Rattle.mesa_engine.proofs.mesa_engine_state.mesa_invariant.Changing.{fails_turn, load_decided}
 use Rattle.mesa_engine.proofs.mesa_engine_state.mesa_invariant.Clock.{begun_moment, closing, not_closing}
@@ -143,15 +143,15 @@ module _ (o : Outset) (g : Origin) (sound : Bool) (l : EngineState) (story : Sto
   pub undrafted_open : m < last → IsVault o g sound l story new_held (h ++ entry s number kind.Decide outcome.WriteFault m ∷ []) now (refused || true)
   undrafted_open low' =
       still_vault o g sound l story held h running refused v e story new_held now (refused || true) (stays story)
-      (fails_turn o sound (books_of v.rows l) story held h running refused v.walk s number low few (command.Load words) Looked (λ w. load_batch w words) (load_decided s words) due m ran at place
-      Unwritten false (not_closing r.moment story.moment e v.walk.at there moment (omega (arith, moment, low'))) failed moment now new_held put)
+      (fails_turn o sound (books_of v.rows l) story held h running refused v.invariant s number low few (command.Load words) Looked (λ w. load_batch w words) (load_decided s words) due m ran at place
+      Unwritten false (not_closing r.moment story.moment e v.invariant.at there moment (omega (arith, moment, low'))) failed moment now new_held put)
 
   -- At it the vault closes.
   pub undrafted_closed : m ≡ last → IsVault o g sound (shut_state l at) story new_held (h ++ entry s number kind.Decide outcome.WriteFault m ∷ []) now (refused || true)
   undrafted_closed at_last =
       closed_vault o g sound l story held h running refused v e story new_held now (refused || true) (stays story) l.leases at (omega arith)
-      (fails_turn o sound (books_of v.rows l) story held h running refused v.walk s number low few (command.Load words) Looked (λ w. load_batch w words) (load_decided s words) due m ran at place
-      Unwritten true (closing r.moment story.moment e v.walk.at rose refl) failed moment now new_held put)
+      (fails_turn o sound (books_of v.rows l) story held h running refused v.invariant s number low few (command.Load words) Looked (λ w. load_batch w words) (load_decided s words) due m ran at place
+      Unwritten true (closing r.moment story.moment e v.invariant.at rose refl) failed moment now new_held put)
     where
       rose : Rose story.moment m
       rose = omega (arith, at_last)

@@ -34,9 +34,9 @@ use Rattle.mesa_engine.specs.mesa_projection.Rows.{Rows, no_rows}
 use Rattle.mesa_engine.specs.mesa_engine_state.mesa_invariant.Causes.{NoMemory}
 use Rattle.mesa_engine.specs.mesa_engine_state.mesa_invariant.Changes.{Doing, HasFailed}
 use Rattle.mesa_engine.specs.mesa_engine_state.mesa_invariant.Turns.{Shown, IsSeen, Takes, entry}
-use Rattle.mesa_engine.specs.mesa_engine_state.mesa_invariant.Walk.{run_at}
+use Rattle.mesa_engine.specs.mesa_engine_state.mesa_invariant.Invariant.{run_at}
 use Rattle.mesa_engine.proofs.mesa_engine_state.mesa_invariant.Going.{publish_takes, simple_takes}
-use Rattle.mesa_engine.specs.mesa_engine_state.EngineState.{EngineState, books_of, skeleton_of}
+use Rattle.mesa_engine.specs.mesa_engine_state.EngineState.{EngineState, books_of, projection_of}
 use Rattle.mesa_engine.specs.Failure.{cause_in}
 use Rattle.mesa_engine.specs.Failing.{HasNotDone, deciding_kind, deciding_stage}
 use Rattle.mesa_write_turns.specs.Ruling.{IsAllowed, IsRefused, told_as}
@@ -47,7 +47,7 @@ use Rattle.mesa_write_turns.specs.Writing.{Brings, CanWrite, Does, HasRecord}
 module _ (l : EngineState) (opened : l.closed ≡ None) where
   -- the warehouse without rows has the catalogue
   has_catalog : HasCatalog l.catalogue (books_of no_rows l).bare
-  has_catalog = record { opened = opened; tables = map-map known_of skeleton_of l.catalogue.tables; oldests = map-map (λ (t : Table). t.oldest) skeleton_of l.catalogue.tables; floor = refl; next = refl }
+  has_catalog = record { opened = opened; tables = map-map known_of projection_of l.catalogue.tables; oldests = map-map (λ (t : Table). t.oldest) projection_of l.catalogue.tables; floor = refl; next = refl }
 
   pub rules_do : (f : Doing) (r : Ruled) → IsRuled l.catalogue f r → Does l f r.tells
   rules_do f r is = let does = is.does (books_of no_rows l).bare has_catalog in record { after = does.0; is = does.1 }

@@ -36,7 +36,7 @@ use Rattle.mesa_publishing.specs.mesa_trash.Filed.{AreGiven, Renames}
 use Rattle.mesa_engine.specs.mesa_engine_state.mesa_invariant.Causes.{Unwritten, reply_of, told_at}
 use Rattle.mesa_engine.specs.mesa_engine_state.mesa_invariant.Printing.{IsPut}
 use Rattle.mesa_engine.specs.mesa_engine_state.mesa_invariant.Turns.{entry}
-use Rattle.mesa_engine.specs.mesa_engine_state.mesa_invariant.Walk.{Counts, Passes, StandsForEither, Writes, run_of}
+use Rattle.mesa_engine.specs.mesa_engine_state.mesa_invariant.Invariant.{Counts, Passes, StandsForEither, Writes, run_of}
 use Rattle.mesa_engine.specs.mesa_engine_state.EngineState.{EngineState}
 use Rattle.mesa_engine.specs.mesa_engine_state.Recorded.{IsRecorded, failed_state, recorded_state}
 use Rattle.mesa_engine.specs.mesa_engine_state.Vault.{IsVault, Starts, outset_of}

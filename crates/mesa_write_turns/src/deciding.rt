@@ -6,7 +6,7 @@ ghost use Rattle.mesa_engine.specs.mesa_history.Run.{Finished};
 ghost use Rattle.mesa_model.specs.declared.entries.Kind.TheVariants as kind;
 ghost use Rattle.mesa_engine.specs.mesa_projection.Rows.{no_rows};
 ghost use Rattle.mesa_engine.specs.mesa_engine_state.mesa_invariant.Turns.{AnswersDisk, SomeRose, Takes};
-ghost use Rattle.mesa_engine.specs.mesa_engine_state.mesa_invariant.Walk.{run_at};
+ghost use Rattle.mesa_engine.specs.mesa_engine_state.mesa_invariant.Invariant.{run_at};
 ghost use Rattle.mesa_write_turns.specs.Ruling.{IsRuledBy};
 ghost use Rattle.mesa_write_turns.specs.Writing.{KeepsFiles};
 

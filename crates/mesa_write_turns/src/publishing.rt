@@ -17,7 +17,7 @@ ghost use Rattle.mesa_publishing.specs.mesa_trash.Holding.{Among};
 ghost use Rattle.mesa_engine.specs.mesa_engine_state.mesa_invariant.Causes.{Unwritten};
 ghost use Rattle.mesa_engine.specs.mesa_engine_state.mesa_invariant.Changes.{HasFailed};
 ghost use Rattle.mesa_engine.specs.mesa_engine_state.mesa_invariant.Turns.{AnswersDisk, AnswersDraft, SomeRose, Takes};
-ghost use Rattle.mesa_engine.specs.mesa_engine_state.mesa_invariant.Walk.{run_at};
+ghost use Rattle.mesa_engine.specs.mesa_engine_state.mesa_invariant.Invariant.{run_at};
 ghost use Rattle.mesa_write_turns.specs.Loading.{cause_of, unready_as};
 ghost use Rattle.mesa_tasks.specs.Batches.{HasPrepared};
 ghost use Rattle.mesa_tasks.specs.declared.prepared.LoadError.TheVariants as load;

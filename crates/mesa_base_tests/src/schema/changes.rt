@@ -75,7 +75,7 @@ fn changed(rt: &impl Abort, alloc: Global, table: &mut Evolving, step: &Step) ->
 }
 
 // Makes one change after the other, and stops the test where one is answered otherwise.
-fn walk(rt: &impl Abort, alloc: Global, table: &mut Evolving, steps: &[Step]) {
+fn invariant(rt: &impl Abort, alloc: Global, table: &mut Evolving, steps: &[Step]) {
     for step in steps {
         let found = changed(rt, alloc, table, step);
         expect_same(rt, &found, &step.2, &step.0);
@@ -94,10 +94,10 @@ static FULL: [Step; 3] = [
 // Makes 1,000 changes of a table, and tries more.
 fn change_too_often(rt: &impl Abort, alloc: Global, table: &mut Evolving) {
     for _ in 0..MAX_CHANGES / 2 {
-        walk(rt, alloc, table, &COMES_AND_GOES);
+        invariant(rt, alloc, table, &COMES_AND_GOES);
     }
     expect_same(rt, &table.epoch(), &1000, &"the epoch");
-    walk(rt, alloc, table, &FULL);
+    invariant(rt, alloc, table, &FULL);
     expect_same(rt, &table.epoch(), &1000, &"the epoch of a full table");
 }
 
@@ -119,7 +119,7 @@ static BROKEN: [Step; 5] = [
 #[test]
 fn changes_that_break_a_rule(rt: HostRuntime) {
     let mut table = table(&rt, rt.alloc());
-    walk(&rt, rt.alloc(), &mut table, &BROKEN);
+    invariant(&rt, rt.alloc(), &mut table, &BROKEN);
     expect_same(&rt, &table.epoch(), &1, &"the epoch");
 }
 
@@ -159,7 +159,7 @@ fn lift_once(rt: &impl Abort, alloc: Global, lift: &Lift) {
 #[test]
 fn a_row_of_the_first_epoch_at_present(rt: HostRuntime) {
     let mut table = table(&rt, rt.alloc());
-    walk(&rt, rt.alloc(), &mut table, &LINKED);
+    invariant(&rt, rt.alloc(), &mut table, &LINKED);
     let lift = table.lift_from(0).expect(&rt, "a lift");
     lift_once(&rt, rt.alloc(), &lift);
     lift_once(&rt, rt.alloc(), &lift);

@@ -21,7 +21,7 @@ use Rattle.mesa_publishing.specs.Finished.{HasRange, IsFinished}
 use Rattle.mesa_publishing.specs.Swapped.{IsSwapped}
 use Rattle.mesa_engine.specs.mesa_engine_state.mesa_invariant.Causes.{Replies, Unwritten, told_at}
 use Rattle.mesa_engine.specs.mesa_engine_state.mesa_invariant.Turns.{AnswersDisk, AnswersDraft, Shown, SomeRose, Takes, entry, faults_of}
-use Rattle.mesa_engine.specs.mesa_engine_state.mesa_invariant.Walk.{Counts, run_at}
+use Rattle.mesa_engine.specs.mesa_engine_state.mesa_invariant.Invariant.{Counts, run_at}
 use Rattle.mesa_engine.proofs.mesa_engine_state.mesa_invariant.Alike.{due_alike}
 use Rattle.mesa_engine.proofs.mesa_engine_state.mesa_invariant.Clock.{closing}
 use Rattle.mesa_engine.proofs.mesa_engine_state.mesa_invariant.Faulting.{disk_counted, disk_where}
@@ -511,7 +511,7 @@ returns g c =
           let rose : Rose story.moment c.clock-moment.result = subst (λ x. Rose story.moment x) (sym c.clock-moment.ensures) does.risen in
           subst (λ (x : Standing). AnswersDraft N.script (N.start no_rows) x.shown seen session ⊥) c.engine.view_is
           (answers_none N.script (N.start no_rows) (record { history = h; running = not i.log.printer.broken; clock = story.moment }) seen session e told.items
-          (ap not (closing (run_at N.script (N.start no_rows) h).moment story.moment e (c.engine.invariant.vault no_rows false (λ z. absurd cc)).walk.at rose refl)));
+          (ap not (closing (run_at N.script (N.start no_rows) h).moment story.moment e (c.engine.invariant.vault no_rows false (λ z. absurd cc)).invariant.at rose refl)));
       disk = subst (λ (x : Standing). AnswersDisk N.script (N.start no_rows) x.shown seen (SomeRose x.faults (faults_of new))) c.engine.view_is
           (disk_where N.script (N.start no_rows) (record { history = h; running = not i.log.printer.broken; clock = story.moment }) seen (entry session number kind.Close outcome.WriteFault c.clock-moment.result) told.items
           (SomeRose (faults_of story) (faults_of new)) (λ below is. inl c.in-Err-write_record.ensures.cause.failed));

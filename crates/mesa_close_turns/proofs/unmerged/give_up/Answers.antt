@@ -19,7 +19,7 @@ use Rattle.mesa_tasks.specs.GivingBack.{task_inputs}
 use Rattle.mesa_engine.specs.mesa_engine_state.mesa_invariant.Causes.{Cause, is_read_fault, outcome_of, reply_of, told_at}
 use Rattle.mesa_engine.specs.mesa_engine_state.mesa_invariant.Printing.{IsPut}
 use Rattle.mesa_engine.specs.mesa_engine_state.mesa_invariant.Turns.{AnswersDisk, AnswersDraft, Shown, SomeRose, Takes, entry, faults_of}
-use Rattle.mesa_engine.specs.mesa_engine_state.mesa_invariant.Walk.{run_at}
+use Rattle.mesa_engine.specs.mesa_engine_state.mesa_invariant.Invariant.{run_at}
 use Rattle.mesa_engine.proofs.mesa_engine_state.mesa_invariant.Alike.{due_alike}
 use Rattle.mesa_engine.proofs.mesa_engine_state.mesa_invariant.Clock.{begun_moment, not_closing}
 use Rattle.mesa_engine.proofs.mesa_engine_state.mesa_invariant.Faulting.{disk_caused}
@@ -159,7 +159,7 @@ returns-clause-disk g c =
     let new : Shown = record { history = later.history.items; running = not later.printer.broken; clock = new_story.moment } in
     subst (λ (x : Standing). AnswersDisk N.script (N.start no_rows) x.shown new (SomeRose x.faults (faults_of new_story))) c.engine.view_is
     (disk_caused N.script (N.start no_rows) (record { history = h; running = not i.log.printer.broken; clock = story.moment }) new e c.fail.ensures.items story new_story refl cause refl counts
-    (λ below unwritten. not_closing (run_at N.script (N.start no_rows) h).moment story.moment e (c.engine.invariant.vault no_rows false (λ z. absurd cc)).walk.at there (c.clock-moment.ensures ∙ same) (omega (arith, below, same))))
+    (λ below unwritten. not_closing (run_at N.script (N.start no_rows) h).moment story.moment e (c.engine.invariant.vault no_rows false (λ z. absurd cc)).invariant.at there (c.clock-moment.ensures ∙ same) (omega (arith, below, same))))
 
 pub returns-then-not-running-clause-outcome : goal.returns-then-not-running-clause-outcome
 returns-then-not-running-clause-outcome g c on = absurd (let no : true ≡ false = sym on ∙ sym c.running.ensures ∙ c.if-not-running.true in cc)

@@ -6,14 +6,14 @@ use Rattle.mesa_history.specs.Run.{place_of}
 use Rattle.mesa_engine.proofs.mesa_engine_state.Beginning.{vault_claims}
 use Rattle.mesa_engine.specs.mesa_engine_state.Vault.{Starts, outset_of}
 use Rattle.mesa_engine.specs.mesa_projection.Rows.{no_rows}
-use Rattle.mesa_engine.specs.mesa_invariant.Walk.{run_at}
+use Rattle.mesa_engine.specs.mesa_invariant.Invariant.{run_at}
 use Rattle.mesa_core.proofs.standing.claims.Goals as goal
 
 pub returns-clause-leases : goal.returns-clause-leases
 returns-clause-leases g c =
     let N = g.N.Naming in
     subst (λ (s : Standing). s.state.leases ≡ (run_at N.script (N.start no_rows) s.shown.history).state.machine.leases) c.engine.view_is
-    (sym (ap (λ (m : Machine). m.leases) (c.engine.invariant.vault no_rows false (λ is. absurd cc)).walk.state.machine))
+    (sym (ap (λ (m : Machine). m.leases) (c.engine.invariant.vault no_rows false (λ is. absurd cc)).invariant.state.machine))
 
 pub returns-clause-claims : goal.returns-clause-claims
 returns-clause-claims g c = λ session.

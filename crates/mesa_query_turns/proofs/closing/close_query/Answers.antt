@@ -11,7 +11,7 @@ use Rattle.mesa_tasks.specs.GivingBack.{pinned_inputs}
 use Rattle.mesa_engine.specs.mesa_engine_state.mesa_invariant.Printing.{IsPut}
 use Rattle.mesa_engine.specs.mesa_engine_state.mesa_invariant.Queries.{closing_fault}
 use Rattle.mesa_engine.specs.mesa_engine_state.mesa_invariant.Turns.{AnswersDisk, Shown, SomeRose, Takes, faults_of}
-use Rattle.mesa_engine.specs.mesa_engine_state.mesa_invariant.Walk.{Counts, run_at}
+use Rattle.mesa_engine.specs.mesa_engine_state.mesa_invariant.Invariant.{Counts, run_at}
 use Rattle.mesa_engine.proofs.mesa_engine_state.mesa_invariant.Faulting.{disk_counted}
 use Rattle.mesa_engine.specs.Engine.{Standing, IsEngine, starts_of}
 use Rattle.mesa_query_turns.specs.Closing.{IsPageOf, IsSomePageOf, IsToClose, cause_if, closing_entry, closing_text}

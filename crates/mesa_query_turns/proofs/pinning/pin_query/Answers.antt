@@ -23,7 +23,7 @@ use Rattle.mesa_engine.proofs.mesa_engine_state.mesa_invariant.Faulting.{disk_ca
 use Rattle.mesa_engine.specs.mesa_engine_state.mesa_invariant.Causes.{Unwritten, outcome_of}
 use Rattle.mesa_engine.specs.mesa_engine_state.mesa_invariant.Queries.{HasNoAnswer, IsOpen}
 use Rattle.mesa_engine.specs.mesa_engine_state.mesa_invariant.Turns.{AnswersDisk, Shown, SomeRose, Takes, entry, faults_of}
-use Rattle.mesa_engine.specs.mesa_engine_state.mesa_invariant.Walk.{run_at}
+use Rattle.mesa_engine.specs.mesa_engine_state.mesa_invariant.Invariant.{run_at}
 
 pub skip-requires-clause-due : goal.skip-requires-clause-due
 skip-requires-clause-due g c κs within w =

@@ -16,7 +16,7 @@ use Rattle.mesa_engine.specs.mesa_metadata.Memory.{Memory, with_state}
 use Rattle.mesa_engine.specs.mesa_projection.Rows.{no_rows}
 use Rattle.mesa_engine.specs.mesa_engine_state.mesa_invariant.Causes.{told_at}
 use Rattle.mesa_engine.specs.mesa_engine_state.mesa_invariant.Turns.{AnswersDisk, Shown, Takes, entry}
-use Rattle.mesa_engine.specs.mesa_engine_state.mesa_invariant.Walk.{run_at}
+use Rattle.mesa_engine.specs.mesa_engine_state.mesa_invariant.Invariant.{run_at}
 use Rattle.mesa_engine.proofs.mesa_engine_state.mesa_invariant.Alike.{due_alike}
 use Rattle.mesa_engine.proofs.mesa_engine_state.mesa_invariant.Faulting.{disk_never}
 use Rattle.mesa_engine.proofs.mesa_engine_state.mesa_invariant.Going.{simple_takes}

@@ -7,7 +7,7 @@ use Rattle.mesa_model.specs.declared.commands.Command.TheVariants as command
 use Rattle.mesa_engine.specs.mesa_engine_state.EngineState.{books_of}
 use Rattle.mesa_engine.specs.mesa_engine_state.Vault.{Starts, outset_of}
 use Rattle.mesa_engine.specs.mesa_engine_state.mesa_invariant.Causes.{outcome_of}
-use Rattle.mesa_engine.specs.mesa_engine_state.mesa_invariant.Walk.{run_at}
+use Rattle.mesa_engine.specs.mesa_engine_state.mesa_invariant.Invariant.{run_at}
 use Rattle.mesa_engine.specs.Engine.{Standing, starts_of}
 use Rattle.mesa_engine.specs.mesa_projection.Rows.{no_rows}
 use Rattle.mesa_tasks.specs.Recasts.{claim_of_recast, recast_in}

@@ -11,7 +11,7 @@ use Rattle.mesa_engine.specs.Engine.{Standing, starts_of}
 use Rattle.mesa_engine.specs.mesa_engine_state.Vault.{Starts, outset_of}
 use Rattle.mesa_engine.specs.mesa_engine_state.Written.{written_at}
 use Rattle.mesa_engine.specs.mesa_engine_state.mesa_invariant.Turns.{NoneFell, SomeRose, faults_of}
-use Rattle.mesa_engine.specs.mesa_engine_state.mesa_invariant.Walk.{faults_in}
+use Rattle.mesa_engine.specs.mesa_engine_state.mesa_invariant.Invariant.{faults_in}
 use Rattle.mesa_engine.proofs.Turning.{unmoved_engine}
 use Rattle.mesa_engine.proofs.Seeing.{ok_also}
 use Rattle.mesa_engine.proofs.mesa_engine_state.Lists.{all_so}
@@ -67,7 +67,7 @@ returns-clause-unpaid g c is =
     let i = c.engine.inside in
     let v = c.engine.invariant.vault in
     λ w below calls reads.
-    still_unpaid N.counted (faults_in (outset_of n w) i.log.history.items) (g.D.Disk.story i.disk) (g.D.Disk.story c.gather_more.new.disk) c.gather_more.ensures.unmoved (v w false (λ is. absurd cc)).walk.counts
+    still_unpaid N.counted (faults_in (outset_of n w) i.log.history.items) (g.D.Disk.story i.disk) (g.D.Disk.story c.gather_more.new.disk) c.gather_more.ensures.unmoved (v w false (λ is. absurd cc)).invariant.counts
     (rw is at c.gather_more.ensures.counted) below calls reads
 
 pub returns-clause-more : goal.returns-clause-more

@@ -19,7 +19,7 @@ use Rattle.mesa_engine.specs.mesa_projection.Rows.{no_rows}
 use Rattle.mesa_engine.specs.mesa_engine_state.mesa_invariant.Causes.{Cause, is_read_fault, outcome_of, reply_of, told_at}
 use Rattle.mesa_engine.specs.mesa_engine_state.mesa_invariant.Printing.{IsPut}
 use Rattle.mesa_engine.specs.mesa_engine_state.mesa_invariant.Turns.{AnswersDisk, AnswersDraft, Shown, SomeRose, Takes, entry, faults_of}
-use Rattle.mesa_engine.specs.mesa_engine_state.mesa_invariant.Walk.{run_at}
+use Rattle.mesa_engine.specs.mesa_engine_state.mesa_invariant.Invariant.{run_at}
 use Rattle.mesa_engine.specs.mesa_engine_state.mesa_invariant.Works.{closing_stage}
 use Rattle.mesa_engine.proofs.mesa_engine_state.mesa_invariant.Alike.{due_alike}
 use Rattle.mesa_engine.proofs.mesa_engine_state.mesa_invariant.Clock.{begun_moment, not_closing}
@@ -148,7 +148,7 @@ returns-clause-disk g c =
     (disk_where N.script (N.start no_rows) (record { history = h; running = not i.log.printer.broken; clock = story.moment }) new e c.fail.ensures.items
     (SomeRose (faults_of story) (faults_of new_story) ⊎ (error ≡ compact.File file_error.Read))
     (λ low is.
-    let quiet : closing ≡ false = not_closing (run_at N.script (N.start no_rows) h).moment story.moment e (c.engine.invariant.vault no_rows false (λ z. absurd cc)).walk.at there (c.clock-moment.ensures ∙ same) (omega (arith, low, same)) in
+    let quiet : closing ≡ false = not_closing (run_at N.script (N.start no_rows) h).moment story.moment e (c.engine.invariant.vault no_rows false (λ z. absurd cc)).invariant.at there (c.clock-moment.ensures ∙ same) (omega (arith, low, same)) in
     inr (only_read i.metadata.state.closed error
     (subst (λ b. IsTrue (answers_disk b (outcome_of (closing_cause i.metadata.state.closed error)))) quiet
     (subst (λ k. IsTrue (answers_disk closing (outcome_of k))) c.fall-failure.ensures.cause is)))))

@@ -8,7 +8,7 @@ use Rattle.mesa_session.specs.mesa_core.Vault.{Stand}
 use Rattle.mesa_check.specs.mesa_history.Refused.{some_refused}
 use Rattle.mesa_check.specs.mesa_history.Run.{begins}
 use Rattle.mesa_engine_state.specs.mesa_invariant.Printing.{IsPrinted, IsPrintedButRows}
-use Rattle.mesa_engine_state.specs.mesa_invariant.Walk.{AllFound}
+use Rattle.mesa_engine_state.specs.mesa_invariant.Invariant.{AllFound}
 use Rattle.mesa_check.specs.mesa_catalog.declared.begun.Begun.{Begun}
 use Rattle.mesa_engine_state.specs.Vault.{IsRead}
 use Rattle.mesa_exit.specs.mesa_exit_spec.Run.{RanAnyhow, RanSoundly, outset_from}
@@ -96,7 +96,7 @@ returns-in-Err-serve-clause-read g c w sound =
     let N = g.N.Naming in
     let s = c.stop-disk-in-Err-serve.ensures in
     let none = s.history ∙ ap (λ (s : Stand). s.shown.history) (c.in-Err-serve.ensures.none ∙ c.in-Ok.ensures.started) in
-    let unclosed = ap (λ (x : Warehouse). x.closed) (c.requires.begun w true (λ is. sound)).state.skeleton in
+    let unclosed = ap (λ (x : Warehouse). x.closed) (c.requires.begun w true (λ is. sound)).state.projection in
     read_first N.script (N.start w) c.stop-disk-in-Err-serve.result.2.items (g.D.Disk.story c.stop-disk-in-Err-serve.result.0) none unclosed (s.reads w sound)
 
 -- ---- the run

@@ -17,7 +17,7 @@ use Rattle.mesa_engine.specs.mesa_metadata.Memory.{with_leases}
 use Rattle.mesa_plans.specs.mesa_table.Meaning.{stock_of}
 use Rattle.mesa_engine.specs.mesa_projection.Rows.{Rows, no_rows}
 use Rattle.mesa_engine.specs.mesa_engine_state.mesa_invariant.Turns.{AnswersDisk, Shown, SomeRose, Takes, entry, faults_of}
-use Rattle.mesa_engine.specs.mesa_engine_state.mesa_invariant.Walk.{run_at}
+use Rattle.mesa_engine.specs.mesa_engine_state.mesa_invariant.Invariant.{run_at}
 use Rattle.mesa_engine.proofs.mesa_engine_state.mesa_invariant.Alike.{due_alike}
 use Rattle.mesa_engine.specs.Engine.{Standing, starts_of}
 use Rattle.mesa_work_turns.specs.Claims.{recast_claim_as}

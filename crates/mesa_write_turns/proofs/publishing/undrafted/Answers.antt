@@ -11,7 +11,7 @@ use Rattle.mesa_engine.specs.mesa_projection.Rows.{no_rows}
 use Rattle.mesa_engine.specs.mesa_engine_state.mesa_invariant.Causes.{Unwritten, reply_of, told_at}
 use Rattle.mesa_engine.specs.mesa_engine_state.mesa_invariant.Changes.{HasFailed}
 use Rattle.mesa_engine.specs.mesa_engine_state.mesa_invariant.Turns.{AnswersDisk, Shown, SomeRose, Takes, entry, faults_of}
-use Rattle.mesa_engine.specs.mesa_engine_state.mesa_invariant.Walk.{run_at}
+use Rattle.mesa_engine.specs.mesa_engine_state.mesa_invariant.Invariant.{run_at}
 use Rattle.mesa_engine.proofs.mesa_engine_state.mesa_invariant.Clock.{begun_moment, not_closing}
 use Rattle.mesa_engine.proofs.mesa_engine_state.mesa_invariant.Faulting.{disk_caused}
 use Rattle.mesa_engine.proofs.mesa_engine_state.mesa_invariant.Going.{publish_takes}
@@ -85,7 +85,7 @@ returns-then-moment-lt18446744073709551615 g c =
           let there = begun_moment N.script (N.start no_rows) h s number (command.Load rows) Looked due (λ first. absurd cc) in
           subst (λ (x : Standing). AnswersDisk N.script (N.start no_rows) x.shown new (SomeRose x.faults (faults_of story))) c.engine.view_is
           (disk_caused N.script (N.start no_rows) (record { history = h; running = not i.log.printer.broken; clock = story.moment }) new e told.items story story refl Unwritten refl (counts_same story)
-          (λ below is. not_closing (run_at N.script (N.start no_rows) h).moment story.moment e (c.engine.invariant.vault no_rows false (λ z. absurd cc)).walk.at there moment below));
+          (λ below is. not_closing (run_at N.script (N.start no_rows) h).moment story.moment e (c.engine.invariant.vault no_rows false (λ z. absurd cc)).invariant.at there moment below));
       keeps = subst (λ (x : Standing). Steps KeepsFiles x.told story.told) c.engine.view_is (same_keep story.told story.told refl);
     }
 
@@ -154,6 +154,6 @@ returns g c =
           let there = begun_moment N.script (N.start no_rows) h s number (command.Load rows) Looked due (λ first. absurd cc) in
           subst (λ (x : Standing). AnswersDisk N.script (N.start no_rows) x.shown new (SomeRose x.faults (faults_of story))) c.engine.view_is
           (disk_caused N.script (N.start no_rows) (record { history = h; running = not i.log.printer.broken; clock = story.moment }) new e told.items story story refl Unwritten refl (counts_same story)
-          (λ below is. not_closing (run_at N.script (N.start no_rows) h).moment story.moment e (c.engine.invariant.vault no_rows false (λ z. absurd cc)).walk.at there moment below));
+          (λ below is. not_closing (run_at N.script (N.start no_rows) h).moment story.moment e (c.engine.invariant.vault no_rows false (λ z. absurd cc)).invariant.at there moment below));
       keeps = subst (λ (x : Standing). Steps KeepsFiles x.told story.told) c.engine.view_is (same_keep story.told story.told refl);
     }

@@ -8,7 +8,7 @@ use Rattle.mesa_engine.specs.mesa_projection.Rows.{no_rows}
 use Rattle.mesa_tasks.specs.Tasks.{claim_in}
 use Rattle.mesa_tasks.specs.declared.merging.CompactError.TheVariants as compact
 use Rattle.mesa_engine.specs.mesa_invariant.Turns.{AnswersDisk, AnswersDraft, Asks, SomeRose, is_merge}
-use Rattle.mesa_engine.specs.mesa_invariant.Walk.{run_at}
+use Rattle.mesa_engine.specs.mesa_invariant.Invariant.{run_at}
 use Rattle.mesa_engine.specs.mesa_invariant.Works.{closing_stage}
 use Rattle.mesa_core.specs.Handing.{IsGranted}
 use Rattle.mesa_core.specs.Vault.{Stand}

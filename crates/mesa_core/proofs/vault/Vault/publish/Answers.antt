@@ -7,7 +7,7 @@ use Rattle.mesa_session_laws.specs.Sight.{sight_after}
 use Rattle.mesa_engine.specs.mesa_projection.Rows.{no_rows}
 use Rattle.mesa_tasks.specs.Batches.{HasPrepared}
 use Rattle.mesa_engine.specs.mesa_invariant.Turns.{Asks, is_load}
-use Rattle.mesa_engine.specs.mesa_invariant.Walk.{run_at}
+use Rattle.mesa_engine.specs.mesa_invariant.Invariant.{run_at}
 use Rattle.mesa_core.specs.Vault.{Stand}
 use Rattle.mesa_core.proofs.Due.{due_of, sort_of}
 use Rattle.mesa_core.proofs.vault.Vault.publish.Goals as goal

@@ -20,7 +20,7 @@ use Rattle.mesa_engine.specs.mesa_invariant.mesa_output.Output.{block}
 use Rattle.mesa_engine.specs.mesa_invariant.Causes.{outcome_of, reply_of, told_at}
 use Rattle.mesa_engine.specs.mesa_invariant.Printing.{IsPut}
 use Rattle.mesa_engine.specs.mesa_invariant.Turns.{AnswersDisk, AnswersDraft, Asks, SomeRose, entry, is_recast}
-use Rattle.mesa_engine.specs.mesa_invariant.Walk.{run_at}
+use Rattle.mesa_engine.specs.mesa_invariant.Invariant.{run_at}
 use Rattle.mesa_engine.specs.mesa_invariant.Works.{closing_stage}
 use Rattle.mesa_core.specs.Handing.{AllAreRested, IsRecastGranted, IsRecastHeld}
 use Rattle.mesa_core.specs.Vault.{Stand}

@@ -11,7 +11,7 @@ use Rattle.mesa_metadata.specs.mesa_engine_state.mesa_projection.Rows.{no_rows}
 use Rattle.mesa_metadata.specs.mesa_engine_state.mesa_invariant.Causes.{outcome_of, reply_of, told_at}
 use Rattle.mesa_metadata.specs.mesa_engine_state.mesa_invariant.Printing.{IsPut}
 use Rattle.mesa_metadata.specs.mesa_engine_state.mesa_invariant.Turns.{AnswersDisk, AnswersDraft, Shown, Takes, entry}
-use Rattle.mesa_metadata.specs.mesa_engine_state.mesa_invariant.Walk.{run_at}
+use Rattle.mesa_metadata.specs.mesa_engine_state.mesa_invariant.Invariant.{run_at}
 use Rattle.mesa_metadata.proofs.mesa_engine_state.mesa_invariant.Alike.{due_alike}
 use Rattle.mesa_metadata.proofs.mesa_engine_state.mesa_invariant.Faulting.{disk_never}
 use Rattle.mesa_engine.specs.Engine.{Standing, IsEngine, starts_of}

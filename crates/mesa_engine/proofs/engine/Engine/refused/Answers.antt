@@ -7,4 +7,4 @@ use Rattle.mesa_engine.proofs.engine.Engine.refused.Goals as goal
 pub returns : goal.returns
 returns g c w =
     subst (λ (s : Standing). c.self.inside.log.refused ≡ some_refused g.N.Naming.script (begins (g.N.Naming.start w)) s.shown.history) c.self.view_is
-    (c.self.invariant.vault w false (λ is. absurd cc)).walk.told
+    (c.self.invariant.vault w false (λ is. absurd cc)).invariant.told

@@ -5,7 +5,7 @@ use Rattle.mesa_metadata.specs.mesa_engine_state.Vault.{Starts, outset_of}
 use Rattle.mesa_metadata.proofs.mesa_engine_state.Beginning.{vault_at_seen}
 use Rattle.mesa_metadata.specs.mesa_engine_state.mesa_projection.Rows.{Rows, no_rows}
 use Rattle.mesa_metadata.specs.mesa_engine_state.mesa_invariant.Turns.{AnswersDisk, AnswersDraft, Shown, Takes, entry}
-use Rattle.mesa_metadata.specs.mesa_engine_state.mesa_invariant.Walk.{run_at}
+use Rattle.mesa_metadata.specs.mesa_engine_state.mesa_invariant.Invariant.{run_at}
 use Rattle.mesa_metadata.proofs.mesa_engine_state.mesa_invariant.Faulting.{disk_never}
 use Rattle.mesa_engine.specs.Engine.{Standing, IsEngine, starts_of}
 use Rattle.mesa_engine.specs.Failing.{Comes}

@@ -3,7 +3,7 @@ use Rattle.mesa_disk.specs.mesa_fault.Causes.{Rose}
 use Rattle.mesa_metadata.specs.mesa_catalog.mesa_history.Legal.{fits_sink}
 use Rattle.mesa_metadata.specs.mesa_catalog.mesa_history.Run.{begins}
 use Rattle.mesa_metadata.specs.mesa_engine_state.mesa_invariant.Printing.{IsPrinted, IsPrintedButRows}
-use Rattle.mesa_metadata.specs.mesa_engine_state.mesa_invariant.Walk.{run_at}
+use Rattle.mesa_metadata.specs.mesa_engine_state.mesa_invariant.Invariant.{run_at}
 use Rattle.mesa_metadata.specs.mesa_engine_state.mesa_projection.Rows.{no_rows}
 use Rattle.mesa_metadata.specs.mesa_engine_state.Vault.{Starts}
 use Rattle.mesa_engine.specs.Engine.{Standing, starts_of}
@@ -11,23 +11,23 @@ use Rattle.mesa_engine.proofs.Ending.{reads_state}
 use Rattle.mesa_engine.proofs.engine.Engine.stop.Goals as goal
 
 pub returns-clause-legal : goal.returns-clause-legal
-returns-clause-legal g c w = (c.self.invariant.vault w false (λ is. absurd cc)).walk.legal
+returns-clause-legal g c w = (c.self.invariant.vault w false (λ is. absurd cc)).invariant.legal
 
 pub returns-clause-sink : goal.returns-clause-sink
 returns-clause-sink g c w =
-    subst (λ (s : Standing). IsTrue (fits_sink (run_at g.N.Naming.script (g.N.Naming.start w) c.self.inside.log.history.items).last (not s.shown.running))) c.self.view_is (c.self.invariant.vault w false (λ is. absurd cc)).walk.sink
+    subst (λ (s : Standing). IsTrue (fits_sink (run_at g.N.Naming.script (g.N.Naming.start w) c.self.inside.log.history.items).last (not s.shown.running))) c.self.view_is (c.self.invariant.vault w false (λ is. absurd cc)).invariant.sink
 
 pub returns-clause-since : goal.returns-clause-since
 returns-clause-since g c = c.self.invariant.begun
 
 pub returns-clause-until : goal.returns-clause-until
-returns-clause-until g c = (c.self.invariant.vault no_rows false (λ is. absurd cc)).walk.by
+returns-clause-until g c = (c.self.invariant.vault no_rows false (λ is. absurd cc)).invariant.by
 
 pub returns-clause-later : goal.returns-clause-later
-returns-clause-later g c = (c.self.invariant.vault no_rows false (λ is. absurd cc)).walk.begun
+returns-clause-later g c = (c.self.invariant.vault no_rows false (λ is. absurd cc)).invariant.begun
 
 pub returns-clause-counts : goal.returns-clause-counts
-returns-clause-counts g c w = (c.self.invariant.vault w false (λ is. absurd cc)).walk.counts
+returns-clause-counts g c w = (c.self.invariant.vault w false (λ is. absurd cc)).invariant.counts
 
 pub returns-clause-failed : goal.returns-clause-failed
 returns-clause-failed g c =
@@ -53,14 +53,14 @@ returns-clause-undamaged g c = c.self.invariant.undamaged
 
 pub returns-clause-blocks : goal.returns-clause-blocks
 returns-clause-blocks g c w =
-    subst (λ (s : Standing). IsPrintedButRows g.N.Naming.script (begins (g.N.Naming.start w)) c.self.inside.log.history.items s.shown.running g.N.Naming.at_start (g.K.Sink.held c.self.inside.log.printer.sink)) c.self.view_is (c.self.invariant.vault w false (λ is. absurd cc)).walk.shown
+    subst (λ (s : Standing). IsPrintedButRows g.N.Naming.script (begins (g.N.Naming.start w)) c.self.inside.log.history.items s.shown.running g.N.Naming.at_start (g.K.Sink.held c.self.inside.log.printer.sink)) c.self.view_is (c.self.invariant.vault w false (λ is. absurd cc)).invariant.shown
 
 pub returns-clause-printed : goal.returns-clause-printed
 returns-clause-printed g c w is low =
-    subst (λ (s : Standing). IsPrinted g.N.Naming.script (begins (g.N.Naming.start w)) c.self.inside.log.history.items s.shown.running g.N.Naming.at_start (g.K.Sink.held c.self.inside.log.printer.sink)) c.self.view_is ((c.self.invariant.vault w true (λ ok. is)).walk.printed refl low)
+    subst (λ (s : Standing). IsPrinted g.N.Naming.script (begins (g.N.Naming.start w)) c.self.inside.log.history.items s.shown.running g.N.Naming.at_start (g.K.Sink.held c.self.inside.log.printer.sink)) c.self.view_is ((c.self.invariant.vault w true (λ ok. is)).invariant.printed refl low)
 
 pub returns-clause-found : goal.returns-clause-found
-returns-clause-found g c w is = (c.self.invariant.vault w true (λ ok. is)).walk.found refl
+returns-clause-found g c w is = (c.self.invariant.vault w true (λ ok. is)).invariant.found refl
 
 pub returns-clause-reads : goal.returns-clause-reads
 returns-clause-reads g c w is =

@@ -67,7 +67,7 @@ named_bare : (s : Store) → tables_named s ≡ tables_named (bare_store s)
 named_bare s = sym (maps_same bare_table (λ (t : Table). record { name = t.name; columns = columns_of t.lineage }) (λ t. refl) s.tables)
 
 pub named_is : (sound : Bool) (books : Books) (s : State) → AreBooksOf sound books s → tables_named s.warehouse.store ≡ tables_named books.bare.store
-named_is sound books s are = named_bare s.warehouse.store ∙ ap (λ (w : Warehouse). tables_named w.store) are.skeleton
+named_is sound books s are = named_bare s.warehouse.store ∙ ap (λ (w : Warehouse). tables_named w.store) are.projection
 
 -- so whether files are built for a command is told without rows
 pub builds_is : (sound : Bool) (books : Books) (s : State) (c : Command) → AreBooksOf sound books s → builds_files s.warehouse.store c ≡ builds_files books.bare.store c

@@ -1,4 +1,4 @@
--- The walk: what a vault's books, disk and sink are to the history of its run.
+-- The invariant: what a vault's books, disk and sink are to the history of its run.
 use Rattle.std.specs.Prelude.{◌≡◌, ◌⊎◌, ℕ, ◌+◌, ◌≤◌, ◌<◌, List, [], ◌∷◌, ◌++◌, Bool, not, false, Option, None, Some, IsTrue, true}
 use Rattle.std.specs.List.{AllByRecursion}
 use Rattle.mesa_fault.specs.Causes.{last, Rose}
@@ -58,8 +58,8 @@ abbrev pub HasCounted : ℕ → Story → ℕ → Type 0
 HasCounted counted story answered =
     story.moment < last → story.faults < last → story.read_faults < last → counted + answered ≤ story.faults + story.read_faults
 
--- The walk: after a history the books are those of the state that Replay gives, and the history is legal so far; the last entry's moment is the disk's clock; what was printed, but for the rows of pages, and how many faults were answered, is what the history says, and on a sound store so is all that was printed and what a crash may have left, while the clock is below its last value; so is whether the sink has failed, and whether some reply was a refusal.
-pub record IsWalk (o : Outset) (sound : Bool) (books : Books) (story : Story) (held : Option (List ℕ)) (h : List Entry) (running refused : Bool) : Type 0 where
+-- The invariant: after a history the books are those of the state that Replay gives, and the history is legal so far; the last entry's moment is the disk's clock; what was printed, but for the rows of pages, and how many faults were answered, is what the history says, and on a sound store so is all that was printed and what a crash may have left, while the clock is below its last value; so is whether the sink has failed, and whether some reply was a refusal.
+pub record HoldsInvariant (o : Outset) (sound : Bool) (books : Books) (story : Story) (held : Option (List ℕ)) (h : List Entry) (running refused : Bool) : Type 0 where
   pub state : AreBooksOf sound books (run_of o h).state
   pub legal : AllFit o.script (begins o.start) h
   pub short : AllByRecursion IsShort h
@@ -107,12 +107,12 @@ Writes stands old new before after = new.moment < last → AllStand stands old b
 
 -- ---- one entry more
 
--- The walk goes on with an entry that wrote nothing.
-pub record WalksOn (o : Outset) (sound : Bool) (books : Books) (story : Story) (held : Option (List ℕ)) (h : List Entry) (e : Entry) (running refused : Bool) : Type 0 where
-  pub walk : IsWalk o sound books story held (h ++ e ∷ []) running refused
+-- The invariant is kept with an entry that wrote nothing.
+pub record KeepsInvariant (o : Outset) (sound : Bool) (books : Books) (story : Story) (held : Option (List ℕ)) (h : List Entry) (e : Entry) (running refused : Bool) : Type 0 where
+  pub invariant : HoldsInvariant o sound books story held (h ++ e ∷ []) running refused
   pub silent : wrote (told_by o.script (run_of o h) e) ≡ false
 
--- The walk goes on with an entry that wrote, and tells this reply.
-pub record WalksWith (o : Outset) (sound : Bool) (books : Books) (story : Story) (held : Option (List ℕ)) (h : List Entry) (e : Entry) (running refused : Bool) (r : Reply) : Type 0 where
-  pub walk : IsWalk o sound books story held (h ++ e ∷ []) running refused
+-- The invariant is kept with an entry that wrote, and tells this reply.
+pub record KeepsInvariantTelling (o : Outset) (sound : Bool) (books : Books) (story : Story) (held : Option (List ℕ)) (h : List Entry) (e : Entry) (running refused : Bool) (r : Reply) : Type 0 where
+  pub invariant : HoldsInvariant o sound books story held (h ++ e ∷ []) running refused
   pub tells : told_by o.script (run_of o h) e ≡ Some (told_at (run_of o h).position r)
