@@ -1,5 +1,5 @@
-pub use Rattle.mesa_image.proofs.mesa_history as mesa_history
-pub use Rattle.mesa_image.proofs as mesa_image
+pub use Rattle.mesa_image_spec.proofs.mesa_history_spec as mesa_history_spec
+pub use Rattle.mesa_image_spec.proofs as mesa_image_spec
 pub use Rattle.mesa_table.proofs as mesa_table
 pub mod Applies
 pub mod Counted

@@ -1,5 +1,5 @@
-pub use Rattle.mesa_image.specs.mesa_history as mesa_history
-pub use Rattle.mesa_image.specs as mesa_image
+pub use Rattle.mesa_image_spec.specs.mesa_history_spec as mesa_history_spec
+pub use Rattle.mesa_image_spec.specs as mesa_image_spec
 pub use Rattle.mesa_table.specs as mesa_table
 pub mod Meaning
 pub mod Lookups

@@ -7,8 +7,8 @@ use Rattle.std.proofs.lemmas.Bool.Decides.{nat_tests}
 use Rattle.std.proofs.lemmas.List.{append_cancel_left, map-append, take-append-drop, take-take}
 use Rattle.std.proofs.lemmas.List.Elements.{filter-append}
 use Rattle.mesa_schema.proofs.Lists.{all_drop}
-use Rattle.mesa_image.specs.Catalog.{Delta, Stock, start_in}
-use Rattle.mesa_image.specs.Fitting.{deltas_of}
+use Rattle.mesa_image_spec.specs.Catalog.{Delta, Stock, start_in}
+use Rattle.mesa_image_spec.specs.Fitting.{deltas_of}
 use Rattle.mesa_table.specs.declared.table.Loaded.{Loaded}
 use Rattle.mesa_table.specs.declared.table.Table.{Table}
 use Rattle.mesa_table.specs.Meaning.{AreLoaded, IsTable, start_of_base, stock_of}

@@ -4,7 +4,7 @@ use Rattle.std.specs.Prelude.{flat_map, IfSome, Option, None, Some}
 use Rattle.std.specs.List.{AllByRecursion}
 use Rattle.mesa_disk.specs.Image.{Image}
 use Rattle.mesa_schema.specs.Changes.{epoch_of}
-use Rattle.mesa_image.specs.Catalog.{Stock}
+use Rattle.mesa_image_spec.specs.Catalog.{Stock}
 use Rattle.mesa_table.specs.declared.table.Table.{Table}
 use Rattle.mesa_check.specs.Found.{Found}
 use Rattle.mesa_check.specs.Faults.{fails, fault_of, keys_shown, merged_key, merged_keys, range_faults, view_keys}

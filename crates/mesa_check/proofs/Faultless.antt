@@ -14,14 +14,14 @@ use Rattle.mesa_schema.proofs.Lists.{all_append, all_both, all_map, all_so}
 use Rattle.mesa_batch.specs.Totals.{abs_totals}
 use Rattle.mesa_record.specs.declared.record.Files.{Files}
 use Rattle.mesa_record.specs.declared.record.ViewRef.{ViewRef}
-use Rattle.mesa_compare.specs.Difference.{first_difference}
-use Rattle.mesa_compare.proofs.Differences.{nowhere}
-use Rattle.mesa_compare.proofs.Same.{equal_itself}
-use Rattle.mesa_image.specs.Catalog.{Delta, Ending, Stock, start_in}
-use Rattle.mesa_image.specs.Fitting.{base_deltas, delta_in}
-use Rattle.mesa_image.specs.Contents.{Rows, present, rows_in}
-use Rattle.mesa_image.specs.Sound.{AreGrouped, IsGrouped, IsGroupedAs, IsMerged, IsStocked, IsTotalled, all_parts}
-use Rattle.mesa_image.proofs.Lists.{all_front, all_back, all_unmap}
+use Rattle.mesa_check_derived.specs.Difference.{first_difference}
+use Rattle.mesa_check_derived.proofs.Differences.{nowhere}
+use Rattle.mesa_check_derived.proofs.Same.{equal_itself}
+use Rattle.mesa_image_spec.specs.Catalog.{Delta, Ending, Stock, start_in}
+use Rattle.mesa_image_spec.specs.Fitting.{base_deltas, delta_in}
+use Rattle.mesa_image_spec.specs.Contents.{Rows, present, rows_in}
+use Rattle.mesa_image_spec.specs.Sound.{AreGrouped, IsGrouped, IsGroupedAs, IsMerged, IsStocked, IsTotalled, all_parts}
+use Rattle.mesa_image_spec.proofs.Lists.{all_front, all_back, all_unmap}
 use Rattle.mesa_check.specs.Found.{Found, all_found}
 use Rattle.mesa_check.specs.Ranges.{Base, Range, Single, base_range, checked_ranges, cumulative_range, is_range, single_ranges, totals_range}
 use Rattle.mesa_check.specs.Faults.{agrees_if_any, are_at_most, are_files_found, exceeds_totals, fails, fault_of, has_false_totals, is_found, is_totalled, is_true, is_view_found, keep_bound, key_if, merged_keys, merged_singles, range_faults, table_faults, view_key, view_keys, view_keys_in}

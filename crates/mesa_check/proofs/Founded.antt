@@ -7,10 +7,10 @@ use Rattle.std.proofs.lemmas.List.Sums.{sum_by-cons}
 use Rattle.mesa_disk.specs.Image.{Image}
 use Rattle.mesa_disk.specs.Story.{Story}
 use Rattle.mesa_schema.specs.declared.rows.Row.{Row}
-use Rattle.mesa_image.specs.Catalog.{Catalog}
-use Rattle.mesa_image.specs.Fitting.{Shelved, shelved, shelved_id}
-use Rattle.mesa_image.specs.Shape.{IsCatalog}
-use Rattle.mesa_image.specs.Ids.{HasOwnIds, times}
+use Rattle.mesa_image_spec.specs.Catalog.{Catalog}
+use Rattle.mesa_image_spec.specs.Fitting.{Shelved, shelved, shelved_id}
+use Rattle.mesa_image_spec.specs.Shape.{IsCatalog}
+use Rattle.mesa_image_spec.specs.Ids.{HasOwnIds, times}
 use Rattle.mesa_check.specs.Found.{AreFound, Found, IsFoundAs, all_found}
 use Rattle.mesa_check.specs.Faults.{Fault, first_fault}
 use Rattle.mesa_check.specs.Laws.{NoFaultIsSound, SoundHasNoFault, SoundIsFound}

@@ -9,10 +9,10 @@ use Rattle.mesa_schema.specs.Changes.{Lineage}
 use Rattle.mesa_schema.specs.declared.rows.Row.{Row}
 use Rattle.mesa_schema.specs.Folded.{rows_of}
 use Rattle.mesa_schema.proofs.Lists.{all_append, all_drop, all_map}
-use Rattle.mesa_image.specs.Catalog.{Delta, Ending, empty_delta, start_in}
-use Rattle.mesa_image.specs.Contents.{present}
-use Rattle.mesa_image.specs.Fitting.{Shelved, base_deltas, delta_in, delta_shelved, deltas_of, stock_shelved}
-use Rattle.mesa_image.proofs.Lists.{all_back, all_flat, all_front, all_take, all_unflat, all_unmap}
+use Rattle.mesa_image_spec.specs.Catalog.{Delta, Ending, empty_delta, start_in}
+use Rattle.mesa_image_spec.specs.Contents.{present}
+use Rattle.mesa_image_spec.specs.Fitting.{Shelved, base_deltas, delta_in, delta_shelved, deltas_of, stock_shelved}
+use Rattle.mesa_image_spec.proofs.Lists.{all_back, all_flat, all_front, all_take, all_unflat, all_unmap}
 use Rattle.mesa_table.specs.declared.table.Loaded.{Loaded}
 use Rattle.mesa_table.specs.declared.table.Table.{Table}
 use Rattle.mesa_table.specs.Meaning.{IsTable, ending_of, singles_from, start_of_base, stock_of, tens_from}

@@ -8,13 +8,13 @@ use Rattle.mesa_schema.specs.Changes.{Lineage, columns_of}
 use Rattle.mesa_schema.specs.Columns.{aggs_of}
 use Rattle.mesa_schema.specs.Folded.{folded, rows_of}
 use Rattle.mesa_schema.specs.declared.rows.Row.{Row}
-use Rattle.mesa_image.specs.Catalog.{Delta, Stock}
-use Rattle.mesa_image.specs.Contents.{present}
+use Rattle.mesa_image_spec.specs.Catalog.{Delta, Stock}
+use Rattle.mesa_image_spec.specs.Contents.{present}
 use Rattle.mesa_tasks.specs.declared.opening.Wanted.{Wanted}
 use Rattle.mesa_plans.specs.Files.{table_wanted, want_of}
 use Rattle.mesa_plans.specs.Lent.{with_rows}
-use Rattle.mesa_compare.specs.Difference.{first_difference}
-use Rattle.mesa_compare.specs.Compared.{HaveFiles, IsLiftedTo, present_parts}
+use Rattle.mesa_check_derived.specs.Difference.{first_difference}
+use Rattle.mesa_check_derived.specs.Compared.{HaveFiles, IsLiftedTo, present_parts}
 use Rattle.mesa_check.specs.Found.{Found, rows_found}
 use Rattle.mesa_check.specs.Faults.{is_asked, merged_key, merged_singles}
 use Rattle.mesa_check.specs.Shown.{key_list}

@@ -6,22 +6,22 @@ use Rattle.mesa_disk.specs.Image.{Image}
 use Rattle.mesa_schema.specs.declared.rows.Row.{Row}
 use Rattle.mesa_schema.specs.Changes.{Lineage, columns_at, columns_of, epoch_of, lifted}
 use Rattle.mesa_schema.specs.Schema.{is_schema}
-use Rattle.mesa_image.specs.mesa_history.mesa_batch.Totals.{abs_totals}
+use Rattle.mesa_image_spec.specs.mesa_history_spec.mesa_batch.Totals.{abs_totals}
 use Rattle.mesa_delta.specs.mesa_block.Layout.{Layout}
 use Rattle.mesa_delta.specs.File.{IsFile, file_bytes}
 use Rattle.mesa_delta.specs.Spread.{blocks_of}
 use Rattle.mesa_record.specs.declared.record.Files.{Files}
 use Rattle.mesa_record.specs.declared.record.ViewRef.{ViewRef}
 use Rattle.mesa_schema.specs.declared.views.View.{View}
-use Rattle.mesa_image.proofs.Contents.{present_now}
+use Rattle.mesa_image_spec.proofs.Contents.{present_now}
 use Rattle.mesa_plans.specs.Files.{own_lineage}
-use Rattle.mesa_image.specs.Catalog.{Delta}
-use Rattle.mesa_image.specs.Fitting.{Shelved, columns_seen, view_shelved}
+use Rattle.mesa_image_spec.specs.Catalog.{Delta}
+use Rattle.mesa_image_spec.specs.Fitting.{Shelved, columns_seen, view_shelved}
 use Rattle.mesa_tasks.specs.Opening.{wanted_columns, wanted_layout}
 use Rattle.mesa_tasks.specs.declared.opening.Wanted.{Wanted}
-use Rattle.mesa_examine.specs.Examined.{AreSumsIn, IsExaminedAs}
-use Rattle.mesa_examine.specs.Sums.{counted}
-use Rattle.mesa_examine.specs.declared.totals.Sums.{Sums}
+use Rattle.mesa_check_file.specs.Examined.{AreSumsIn, IsExaminedAs}
+use Rattle.mesa_check_file.specs.Sums.{counted}
+use Rattle.mesa_check_file.specs.declared.totals.Sums.{Sums}
 use Rattle.mesa_check.specs.Found.{AreFound, Found, IsFoundAs}
 use Rattle.mesa_check.specs.Faults.{agrees_if_any, is_view_found}
 use Rattle.mesa_check.specs.Tested.{AreSumsAt, AreSumsFound, HasRows, IsTestIn, IsTested, shelf_of}

@@ -12,19 +12,19 @@ use Rattle.mesa_schema.specs.Columns.{Columns, aggs_of}
 use Rattle.mesa_schema.specs.Folded.{folded, rows_of}
 use Rattle.mesa_schema.specs.Views.{view_rows}
 use Rattle.mesa_plans.specs.mesa_fold.Bound.{KeepsBound}
-use Rattle.mesa_image.specs.mesa_history.mesa_batch.Totals.{abs_total, sum_bound, sum_places}
+use Rattle.mesa_image_spec.specs.mesa_history_spec.mesa_batch.Totals.{abs_total, sum_bound, sum_places}
 use Rattle.mesa_disk.specs.Image.{Image}
 use Rattle.mesa_record.specs.declared.record.Files.{Files}
 use Rattle.mesa_record.specs.declared.record.ViewRef.{ViewRef}
-use Rattle.mesa_image.specs.Catalog.{Delta}
-use Rattle.mesa_image.specs.Contents.{present, rows_if_any}
-use Rattle.mesa_image.specs.Fitting.{Shelved, delta_shelved, files_shelved, view_shelved}
-use Rattle.mesa_image.proofs.Lists.{all_unmap, both_true}
+use Rattle.mesa_image_spec.specs.Catalog.{Delta}
+use Rattle.mesa_image_spec.specs.Contents.{present, rows_if_any}
+use Rattle.mesa_image_spec.specs.Fitting.{Shelved, delta_shelved, files_shelved, view_shelved}
+use Rattle.mesa_image_spec.proofs.Lists.{all_unmap, both_true}
 use Rattle.mesa_tasks.specs.declared.opening.Wanted.{Wanted}
 use Rattle.mesa_plans.specs.Files.{Want, files_wanted, table_wanted, want_of}
 use Rattle.mesa_plans.specs.Lent.{with_rows}
-use Rattle.mesa_compare.specs.Difference.{first_difference}
-use Rattle.mesa_compare.specs.Compared.{HaveFiles, IsLiftedTo, present_parts, present_rows}
+use Rattle.mesa_check_derived.specs.Difference.{first_difference}
+use Rattle.mesa_check_derived.specs.Compared.{HaveFiles, IsLiftedTo, present_parts, present_rows}
 use Rattle.mesa_check.specs.Found.{AreFound, Found, IsFoundAs, rows_found}
 use Rattle.mesa_check.specs.Faults.{are_files_found, is_found, is_view_found, keep_bound, key_if, view_key, view_keys, view_keys_in}
 use Rattle.mesa_check.specs.Shown.{key_list}

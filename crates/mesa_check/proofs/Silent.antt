@@ -4,9 +4,9 @@ use Rattle.std.proofs.lemmas.Bool.Decides.{nat_tests}
 use Rattle.std.specs.Prelude.{◌||◌, cond, filter, is_some}
 use Rattle.std.specs.List.{AllByRecursion}
 use Rattle.mesa_schema.proofs.Lists.{all_append, all_so}
-use Rattle.mesa_image.proofs.Lists.{all_front, all_back, all_unmap}
-use Rattle.mesa_image.specs.Catalog.{Delta, Ending, Stock, start_in}
-use Rattle.mesa_image.specs.Fitting.{base_deltas}
+use Rattle.mesa_image_spec.proofs.Lists.{all_front, all_back, all_unmap}
+use Rattle.mesa_image_spec.specs.Catalog.{Delta, Ending, Stock, start_in}
+use Rattle.mesa_image_spec.specs.Fitting.{base_deltas}
 use Rattle.mesa_check.specs.Found.{Found}
 use Rattle.mesa_check.specs.Ranges.{Range, base_range, checked_ranges, cumulative_range, is_range, single_ranges, totals_range}
 use Rattle.mesa_check.specs.Faults.{exceeds_totals, fails, fault_of, has_false_totals, is_found, is_totalled, keys_shown, merged_keys, range_faults, view_keys}

@@ -21,16 +21,16 @@ use Rattle.mesa_delta.specs.mesa_block.Rows.{IsRow}
 use Rattle.mesa_delta.specs.Summary.{file_layout}
 use Rattle.mesa_record.specs.declared.record.Files.{Files}
 use Rattle.mesa_record.specs.declared.record.ViewRef.{ViewRef}
-use Rattle.mesa_compare.specs.Difference.{first_difference}
-use Rattle.mesa_compare.proofs.Differences.{same_where_none}
-use Rattle.mesa_image.specs.Catalog.{Delta, Ending, Stock, start_in}
-use Rattle.mesa_image.specs.Fitting.{Shelved, base_deltas, delta_in, delta_shelved, deltas_of, files_shelved, stock_shelved, view_shelved}
-use Rattle.mesa_image.specs.Contents.{Rows, present, rows_in, rows_if_any}
-use Rattle.mesa_image.specs.Shape.{IsShaped}
-use Rattle.mesa_image.specs.Sound.{AreGrouped, IsGrouped, IsGroupedAs, IsMerged, IsStocked, IsTold, IsTotalled, all_parts}
-use Rattle.mesa_image.proofs.Lists.{all_front, all_back, all_flat, all_take, all_unflat, all_unmap}
-use Rattle.mesa_image.proofs.Formed.{AreFormed, all_formed, rows_formed}
-use Rattle.mesa_image.proofs.Rising.{rising}
+use Rattle.mesa_check_derived.specs.Difference.{first_difference}
+use Rattle.mesa_check_derived.proofs.Differences.{same_where_none}
+use Rattle.mesa_image_spec.specs.Catalog.{Delta, Ending, Stock, start_in}
+use Rattle.mesa_image_spec.specs.Fitting.{Shelved, base_deltas, delta_in, delta_shelved, deltas_of, files_shelved, stock_shelved, view_shelved}
+use Rattle.mesa_image_spec.specs.Contents.{Rows, present, rows_in, rows_if_any}
+use Rattle.mesa_image_spec.specs.Shape.{IsShaped}
+use Rattle.mesa_image_spec.specs.Sound.{AreGrouped, IsGrouped, IsGroupedAs, IsMerged, IsStocked, IsTold, IsTotalled, all_parts}
+use Rattle.mesa_image_spec.proofs.Lists.{all_front, all_back, all_flat, all_take, all_unflat, all_unmap}
+use Rattle.mesa_image_spec.proofs.Formed.{AreFormed, all_formed, rows_formed}
+use Rattle.mesa_image_spec.proofs.Rising.{rising}
 use Rattle.mesa_check.specs.Found.{Found, IsFoundAs, rows_found}
 use Rattle.mesa_check.specs.Ranges.{Range, base_range, checked_ranges, cumulative_range, single_ranges, totals_range}
 use Rattle.mesa_check.specs.Faults.{are_at_most, are_files_found, exceeds_totals, is_found, is_totalled, is_true, is_view_found, keep_bound, key_if, merged_key, merged_singles, view_key, view_keys, view_keys_in}

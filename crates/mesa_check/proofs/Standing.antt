@@ -23,17 +23,17 @@ use Rattle.mesa_plans.proofs.mesa_fold.Merged.{folds_totals}
 use Rattle.mesa_disk.specs.Image.{Image}
 use Rattle.mesa_delta.specs.Summary.{file_layout}
 use Rattle.mesa_record.specs.declared.record.Files.{Files}
-use Rattle.mesa_compare.specs.Difference.{first_difference}
-use Rattle.mesa_compare.proofs.Differences.{same_where_none}
-use Rattle.mesa_image.specs.mesa_history.mesa_batch.Totals.{abs_total, sum_bound, sum_places}
-use Rattle.mesa_image.specs.Catalog.{Delta, Stock, start_in}
-use Rattle.mesa_image.specs.Contents.{Rows, present, rows_if_any}
-use Rattle.mesa_image.specs.Fitting.{delta_shelved, files_shelved}
-use Rattle.mesa_image.specs.Sound.{IsTold}
-use Rattle.mesa_image.specs.mesa_block.Rows.{IsRow}
-use Rattle.mesa_image.proofs.Formed.{all_formed, rows_formed}
-use Rattle.mesa_image.proofs.Lists.{all_front, both_true}
-use Rattle.mesa_image.proofs.Rising.{rising}
+use Rattle.mesa_check_derived.specs.Difference.{first_difference}
+use Rattle.mesa_check_derived.proofs.Differences.{same_where_none}
+use Rattle.mesa_image_spec.specs.mesa_history_spec.mesa_batch.Totals.{abs_total, sum_bound, sum_places}
+use Rattle.mesa_image_spec.specs.Catalog.{Delta, Stock, start_in}
+use Rattle.mesa_image_spec.specs.Contents.{Rows, present, rows_if_any}
+use Rattle.mesa_image_spec.specs.Fitting.{delta_shelved, files_shelved}
+use Rattle.mesa_image_spec.specs.Sound.{IsTold}
+use Rattle.mesa_image_spec.specs.mesa_block.Rows.{IsRow}
+use Rattle.mesa_image_spec.proofs.Formed.{all_formed, rows_formed}
+use Rattle.mesa_image_spec.proofs.Lists.{all_front, both_true}
+use Rattle.mesa_image_spec.proofs.Rising.{rising}
 use Rattle.mesa_check.specs.Found.{AreFound, Found, rows_found}
 use Rattle.mesa_check.specs.Faults.{is_asked, is_found, keep_bound, key_if, merged_key, merged_singles}
 use Rattle.mesa_check.specs.Held.{delta_of}

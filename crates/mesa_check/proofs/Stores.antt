@@ -4,11 +4,11 @@ use Rattle.std.specs.Prelude.{slice_get}
 use Rattle.std.specs.List.{AllByRecursion}
 use Rattle.mesa_schema.proofs.Lists.{all_both, all_map, all_so}
 use Rattle.mesa_disk.specs.Image.{Image, file_of}
-use Rattle.mesa_image.specs.Catalog.{Catalog, Stock}
-use Rattle.mesa_image.specs.Fitting.{Shelved, shelved, stock_shelved}
-use Rattle.mesa_image.specs.Shape.{IsCatalog, IsShaped}
-use Rattle.mesa_image.specs.Sound.{AreStocked, IsStocked, IsTold, wanted, wants}
-use Rattle.mesa_image.proofs.Lists.{all_flat, all_unflat, all_unmap}
+use Rattle.mesa_image_spec.specs.Catalog.{Catalog, Stock}
+use Rattle.mesa_image_spec.specs.Fitting.{Shelved, shelved, stock_shelved}
+use Rattle.mesa_image_spec.specs.Shape.{IsCatalog, IsShaped}
+use Rattle.mesa_image_spec.specs.Sound.{AreStocked, IsStocked, IsTold, wanted, wants}
+use Rattle.mesa_image_spec.proofs.Lists.{all_flat, all_unflat, all_unmap}
 use Rattle.mesa_check.specs.Found.{AreFound, Found, HasSoundFiles, IsFoundAs, all_found, rows_found}
 use Rattle.mesa_check.specs.Faults.{faults, first_fault, range_faults, table_faults}
 use Rattle.mesa_check.specs.Ranges.{checked_ranges}
@@ -25,7 +25,7 @@ sound_has_none c rows is all = ap (λ xs. slice_get xs 0) (nil_flat (table_fault
 -- And the files are found with these rows.
 pub sound_found : SoundIsFound
 sound_found i c rows has all =
-    all_both (λ (x : Shelved). file_of i x.file.id ≡ Some (Rattle.mesa_image.specs.Sound.bytes_of rows x)) (IsTold rows) (λ (x : Shelved). IsFoundAs i x (Some (rows x.file.id))) (shelved c) (λ x there told. (there, told.file, told.true))
+    all_both (λ (x : Shelved). file_of i x.file.id ≡ Some (Rattle.mesa_image_spec.specs.Sound.bytes_of rows x)) (IsTold rows) (λ (x : Shelved). IsFoundAs i x (Some (rows x.file.id))) (shelved c) (λ x there told. (there, told.file, told.true))
     (all_unmap (λ (w : ℕ × List ℕ). file_of i w.0 ≡ Some w.1) (wanted rows) (shelved c) has)
     (all_flat (IsTold rows) stock_shelved c.tables (all_so (IsStocked rows) (λ t. AllByRecursion (IsTold rows) (stock_shelved t)) c.tables (λ t its. its.files) all))
 
@@ -49,7 +49,7 @@ module _ (i : Image) (found : Found) (c : Catalog) (is : IsCatalog c) (are : Are
   all_there = all_flat (IsThere i found) stock_shelved c.tables (all_both IsRead (λ t. AllByRecursion (IsSilent found t) (checked_ranges t)) (λ t. AllByRecursion (IsThere i found) (stock_shelved t)) c.tables (λ t a b. files_are found i c.floor c.next t a.0 a.1 b) read silent_all)
 
   pub has_sound : HasSoundFiles i c
-  has_sound = (rows_found found, all_map (λ (w : ℕ × List ℕ). file_of i w.0 ≡ Some w.1) (wanted (rows_found found)) (shelved c) (all_so (IsThere i found) (λ (x : Shelved). file_of i x.file.id ≡ Some (Rattle.mesa_image.specs.Sound.bytes_of (rows_found found) x)) (shelved c) (λ x its. its.0) all_there), all_stocked)
+  has_sound = (rows_found found, all_map (λ (w : ℕ × List ℕ). file_of i w.0 ≡ Some w.1) (wanted (rows_found found)) (shelved c) (all_so (IsThere i found) (λ (x : Shelved). file_of i x.file.id ≡ Some (Rattle.mesa_image_spec.specs.Sound.bytes_of (rows_found found) x)) (shelved c) (λ x its. its.0) all_there), all_stocked)
 
 -- Where there is no first fault, the files are sound.
 pub none_is_sound : NoFaultIsSound

@@ -8,19 +8,19 @@ use Rattle.mesa_schema.specs.Changes.{Lineage, columns_of, epoch_of}
 use Rattle.mesa_schema.specs.declared.rows.Row.{Row}
 use Rattle.mesa_schema.specs.Folded.{rows_of}
 use Rattle.mesa_schema.proofs.Lists.{all_both, all_map, all_so}
-use Rattle.mesa_image.specs.mesa_history.mesa_batch.Totals.{abs_totals}
-use Rattle.mesa_image.specs.Catalog.{Delta, Stock, empty_delta, start_in}
-use Rattle.mesa_image.specs.Contents.{present}
-use Rattle.mesa_image.specs.Shape.{IsWithinBound}
-use Rattle.mesa_image.specs.Sound.{all_parts}
-use Rattle.mesa_image.specs.Fitting.{Shelved, base_deltas, delta_in, delta_shelved, deltas_of, stock_shelved}
-use Rattle.mesa_image.proofs.Lists.{all_back, all_take, all_unflat, all_unmap}
+use Rattle.mesa_image_spec.specs.mesa_history_spec.mesa_batch.Totals.{abs_totals}
+use Rattle.mesa_image_spec.specs.Catalog.{Delta, Stock, empty_delta, start_in}
+use Rattle.mesa_image_spec.specs.Contents.{present}
+use Rattle.mesa_image_spec.specs.Shape.{IsWithinBound}
+use Rattle.mesa_image_spec.specs.Sound.{all_parts}
+use Rattle.mesa_image_spec.specs.Fitting.{Shelved, base_deltas, delta_in, delta_shelved, deltas_of, stock_shelved}
+use Rattle.mesa_image_spec.proofs.Lists.{all_back, all_take, all_unflat, all_unmap}
 use Rattle.mesa_table.specs.declared.table.Base.{Base as HeldBase}
 use Rattle.mesa_table.specs.declared.table.Loaded.{Loaded}
 use Rattle.mesa_table.specs.declared.table.Table.{Table}
 use Rattle.mesa_table.specs.Meaning.{IsTable, ending_of, start_of_base, stock_of}
 use Rattle.mesa_table.proofs.Named.{flat_map-map}
-use Rattle.mesa_examine.specs.Sums.{counted}
+use Rattle.mesa_check_file.specs.Sums.{counted}
 use Rattle.mesa_check.specs.Found.{AreFound, Found, IsFoundAs, rows_found}
 use Rattle.mesa_check.specs.Faults.{exceeds_totals, fails, fault_of, has_false_totals, is_found, is_totalled, is_true, keys_shown, merged_key, merged_keys, merged_singles, range_faults, table_faults}
 use Rattle.mesa_check.specs.Ranges.{Kind, Range, base_range, is_range, totals_range}

@@ -4,7 +4,7 @@ use Rattle.std.specs.List.{AllByRecursion}
 use Rattle.std.specs.Prelude.{flat_map, option_map, replicate, ◌==◌}
 use Rattle.std.proofs.lemmas.Bool.Decides.{nat_tests}
 use Rattle.std.proofs.lemmas.List.{append-nil, take-append-drop}
-use Rattle.mesa_image.specs.Catalog.{Delta, Ending, empty_delta, start_in}
+use Rattle.mesa_image_spec.specs.Catalog.{Delta, Ending, empty_delta, start_in}
 use Rattle.mesa_table.specs.declared.table.Loaded.{Loaded}
 use Rattle.mesa_table.specs.declared.table.Table.{Table}
 use Rattle.mesa_table.specs.Meaning.{AreLoaded, IsTable, ending_of, singles_from, start_of_base, stock_of, tens_from}

@@ -11,11 +11,11 @@ use Rattle.mesa_schema.specs.Folded.{folded, rows_of}
 use Rattle.mesa_batch.specs.Totals.{abs_totals, sum_bound}
 use Rattle.mesa_record.specs.declared.record.Files.{Files}
 use Rattle.mesa_record.specs.declared.record.ViewRef.{ViewRef}
-use Rattle.mesa_compare.specs.Difference.{first_difference}
-use Rattle.mesa_image.specs.Catalog.{Catalog, Delta, Stock, start_in}
-use Rattle.mesa_image.specs.Fitting.{base_deltas}
-use Rattle.mesa_image.specs.Contents.{present, rows_in}
-use Rattle.mesa_image.specs.Sound.{all_parts}
+use Rattle.mesa_check_derived.specs.Difference.{first_difference}
+use Rattle.mesa_image_spec.specs.Catalog.{Catalog, Delta, Stock, start_in}
+use Rattle.mesa_image_spec.specs.Fitting.{base_deltas}
+use Rattle.mesa_image_spec.specs.Contents.{present, rows_in}
+use Rattle.mesa_image_spec.specs.Sound.{all_parts}
 use Rattle.mesa_check.specs.Found.{Found, rows_found}
 use Rattle.mesa_check.specs.Ranges.{Range, checked_ranges, is_range, totals_range}
 use Rattle.mesa_check.specs.Ranges.{Base, Single, Cumulative}

@@ -5,11 +5,11 @@ use Rattle.mesa_schema.specs.declared.rows.Row.{Row}
 use Rattle.mesa_disk.specs.Image.{Image, file_of}
 use Rattle.mesa_delta.specs.File.{IsFile, file_bytes}
 use Rattle.mesa_delta.specs.Summary.{IsReferenceOf}
-use Rattle.mesa_image.specs.mesa_commit.Images.{Has}
-use Rattle.mesa_image.specs.Catalog.{Catalog}
-use Rattle.mesa_image.specs.Fitting.{Shelved, shelved}
-use Rattle.mesa_image.specs.Contents.{Rows}
-use Rattle.mesa_image.specs.Sound.{AreStocked, layout_of, wants}
+use Rattle.mesa_image_spec.specs.mesa_commit.Images.{Has}
+use Rattle.mesa_image_spec.specs.Catalog.{Catalog}
+use Rattle.mesa_image_spec.specs.Fitting.{Shelved, shelved}
+use Rattle.mesa_image_spec.specs.Contents.{Rows}
+use Rattle.mesa_image_spec.specs.Sound.{AreStocked, layout_of, wants}
 
 -- what was found of files: by a file's id its rows, where it is the recorded file, and none where it isn't
 abbrev pub Found : Type 0

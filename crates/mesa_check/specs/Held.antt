@@ -1,10 +1,10 @@
 -- The ranges of a table as it is held: a version that brought it nothing has none.
 use denote.Bor.{Bor}
 use Rattle.std.specs.Prelude.{ℕ, ◌^◌, ◌<◌, List, [], ◌∷◌, ◌++◌, map, take, drop, ◌==◌, if◌then◌else◌, Option, Some, None, option_map}
-use Rattle.mesa_image.specs.Catalog.{Delta, empty_delta}
+use Rattle.mesa_image_spec.specs.Catalog.{Delta, empty_delta}
 use Rattle.mesa_table.specs.declared.table.Loaded.{Loaded}
 use Rattle.mesa_table.specs.declared.table.Table.{Table}
-use Rattle.mesa_image.specs.Shape.{IsShaped}
+use Rattle.mesa_image_spec.specs.Shape.{IsShaped}
 use Rattle.mesa_table.specs.Meaning.{IsTable, ending_of, start_of_base, stock_of, tens_from}
 use Rattle.mesa_check.specs.Ranges.{Kind, Range, base_range, cumulative_range}
 use Rattle.mesa_check.specs.Ranges.{Base, Single, Cumulative}

@@ -2,12 +2,12 @@
 use Rattle.std.specs.Prelude.{◌≡◌, IsTrue, None}
 use Rattle.std.specs.List.{AllByRecursion}
 use Rattle.mesa_disk.specs.Image.{Image}
-use Rattle.mesa_image.specs.mesa_commit.Images.{Has}
-use Rattle.mesa_image.specs.Catalog.{Catalog, Stock}
-use Rattle.mesa_image.specs.Fitting.{shelved}
-use Rattle.mesa_image.specs.Contents.{Rows}
-use Rattle.mesa_image.specs.Shape.{IsCatalog}
-use Rattle.mesa_image.specs.Sound.{AreStocked, wants}
+use Rattle.mesa_image_spec.specs.mesa_commit.Images.{Has}
+use Rattle.mesa_image_spec.specs.Catalog.{Catalog, Stock}
+use Rattle.mesa_image_spec.specs.Fitting.{shelved}
+use Rattle.mesa_image_spec.specs.Contents.{Rows}
+use Rattle.mesa_image_spec.specs.Shape.{IsCatalog}
+use Rattle.mesa_image_spec.specs.Sound.{AreStocked, wants}
 use Rattle.mesa_check.specs.Found.{AreFound, Found, HasSoundFiles, all_found}
 use Rattle.mesa_check.specs.Faults.{first_fault}
 use Rattle.mesa_check.specs.Ranges.{are_ordered, checked_ranges}

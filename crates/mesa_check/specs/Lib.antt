@@ -1,10 +1,10 @@
 pub use Rattle.mesa_delta.specs.mesa_block as mesa_block
 pub use Rattle.mesa_catalog.specs as mesa_catalog
-pub use Rattle.mesa_image.specs.mesa_commit as mesa_commit
+pub use Rattle.mesa_image_spec.specs.mesa_commit as mesa_commit
 pub use Rattle.mesa_delta.specs as mesa_delta
-pub use Rattle.mesa_examine.specs as mesa_examine
-pub use Rattle.mesa_tasks.specs.mesa_history as mesa_history
-pub use Rattle.mesa_image.specs as mesa_image
+pub use Rattle.mesa_check_file.specs as mesa_check_file
+pub use Rattle.mesa_tasks.specs.mesa_history_spec as mesa_history_spec
+pub use Rattle.mesa_image_spec.specs as mesa_image_spec
 pub use Rattle.mesa_list.specs as mesa_list
 pub use Rattle.mesa_record.specs as mesa_record
 pub use Rattle.mesa_recover.specs as mesa_recover

@@ -1,7 +1,7 @@
 -- What a cumulative is compared with.
 use Rattle.std.specs.Prelude.{◌≡◌, ℕ, ◌+◌, ◌-◌, List, ◌∷◌, [], drop, Bool, true, nat_lt, Option, Some, None}
 use Rattle.mesa_disk.specs.Image.{Image}
-use Rattle.mesa_image.specs.Catalog.{Delta, Stock, start_in}
+use Rattle.mesa_image_spec.specs.Catalog.{Delta, Stock, start_in}
 use Rattle.mesa_check.specs.Found.{Found}
 use Rattle.mesa_check.specs.Faults.{is_asked, merged_key, merged_singles}
 use Rattle.mesa_check.specs.Held.{delta_of}

@@ -1,6 +1,6 @@
 -- The ranges of versions that a table's deltas cover, in the order in which they are checked.
 use Rattle.std.specs.Prelude.{ℕ, ◌+◌, List, [], ◌∷◌, ◌++◌, map, filter, take, drop, Bool, true, false, is_some, nat_lt, slice_get, ◌==◌, ◌||◌, ◌&&◌, Option, Some, None}
-use Rattle.mesa_image.specs.Catalog.{Delta, Ending, Stock, start_in}
+use Rattle.mesa_image_spec.specs.Catalog.{Delta, Ending, Stock, start_in}
 
 -- what a range is: the base, a singleton, or a cumulative
 pub data Kind : Type 0 where

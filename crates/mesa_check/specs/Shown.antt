@@ -1,6 +1,6 @@
 -- Which faults of a range are told, by the tests of a table's ranges.
 use Rattle.std.specs.Prelude.{ℕ, List, [], ◌∷◌, Bool, true, false, not, ◌&&◌, ◌||◌, Option, Some, None}
-use Rattle.mesa_image.specs.Catalog.{Stock}
+use Rattle.mesa_image_spec.specs.Catalog.{Stock}
 use Rattle.mesa_check.specs.Found.{Found}
 use Rattle.mesa_check.specs.Faults.{Fault, exceeds_totals}
 use Rattle.mesa_check.specs.Ranges.{Range, is_range, totals_range}

@@ -4,14 +4,14 @@ use Rattle.std.specs.List.{AllByRecursion}
 use Rattle.mesa_disk.specs.Image.{Image}
 use Rattle.mesa_schema.specs.Changes.{Lineage, columns_of}
 use Rattle.mesa_schema.specs.declared.rows.Row.{Row}
-use Rattle.mesa_image.specs.mesa_history.mesa_batch.Totals.{abs_totals}
-use Rattle.mesa_image.specs.Catalog.{Delta}
-use Rattle.mesa_image.specs.Contents.{present}
-use Rattle.mesa_image.specs.Fitting.{Shelved, delta_shelved}
+use Rattle.mesa_image_spec.specs.mesa_history_spec.mesa_batch.Totals.{abs_totals}
+use Rattle.mesa_image_spec.specs.Catalog.{Delta}
+use Rattle.mesa_image_spec.specs.Contents.{present}
+use Rattle.mesa_image_spec.specs.Fitting.{Shelved, delta_shelved}
 use Rattle.mesa_tasks.specs.Opening.{wanted_columns}
 use Rattle.mesa_tasks.specs.declared.opening.Wanted.{Wanted}
-use Rattle.mesa_examine.specs.Sums.{AreSumsOf, counted}
-use Rattle.mesa_examine.specs.declared.totals.Sums.{Sums}
+use Rattle.mesa_check_file.specs.Sums.{AreSumsOf, counted}
+use Rattle.mesa_check_file.specs.declared.totals.Sums.{Sums}
 use Rattle.mesa_check.specs.Found.{AreFound, Found, IsFoundAs, rows_found}
 use Rattle.mesa_check.specs.Faults.{is_found, is_totalled}
 use Rattle.mesa_check.specs.Held.{delta_of}

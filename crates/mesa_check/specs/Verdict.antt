@@ -2,8 +2,8 @@
 use Rattle.std.specs.Prelude.{◌≡◌, Option, Some, None}
 use Rattle.mesa_disk.specs.Image.{Image}
 use Rattle.mesa_disk.specs.Story.{Story}
-use Rattle.mesa_image.specs.Catalog.{Catalog}
-use Rattle.mesa_image.specs.Fitting.{shelved}
+use Rattle.mesa_image_spec.specs.Catalog.{Catalog}
+use Rattle.mesa_image_spec.specs.Fitting.{shelved}
 use Rattle.mesa_check.specs.Found.{AreFound, Found, HasSoundFiles}
 use Rattle.mesa_check.specs.Faults.{Fault, first_fault}
 use Rattle.mesa_check.specs.declared.verdict.Verdict.{Verdict}

@@ -2,12 +2,12 @@
 ghost use Rattle.std.specs.Prelude.{◌≡◌, ◌++◌, ◌&&◌, ◌||◌, not, ℕ, List, map, is_some, IfOk, IfSome};
 ghost use Rattle.std.specs.List.{AllByRecursion};
 ghost use Rattle.mesa_disk.specs.Image.{Image};
-ghost use Rattle.mesa_image.specs.mesa_history.mesa_batch.Totals.{abs_totals};
-ghost use Rattle.mesa_image.specs.Contents.{present as present_of};
+ghost use Rattle.mesa_image_spec.specs.mesa_history_spec.mesa_batch.Totals.{abs_totals};
+ghost use Rattle.mesa_image_spec.specs.Contents.{present as present_of};
 ghost use Rattle.mesa_schema.specs.Changes.{Lineage, columns_of};
 ghost use Rattle.mesa_schema.specs.declared.rows.Row.{Row as AnyRow};
 ghost use Rattle.mesa_table.specs.Meaning.{stock_of};
-ghost use Rattle.mesa_examine.specs.Sums.{counted as counted_of};
+ghost use Rattle.mesa_check_file.specs.Sums.{counted as counted_of};
 ghost use Rattle.mesa_check.specs.Found.{Found, rows_found};
 ghost use Rattle.mesa_check.specs.Faults.{is_found, keep_bound as keeps_bound};
 ghost use Rattle.mesa_check.specs.Counted.{is_single as is_single_of, rows_where};

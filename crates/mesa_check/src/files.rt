@@ -3,17 +3,17 @@ ghost use Rattle.std.specs.Prelude.{◌≡◌, ◌<◌, ◌^◌, ℕ, List, map,
 ghost use Rattle.std.specs.List.{AllByRecursion, list_all};
 ghost use Rattle.mesa_disk.specs.Image.{Image};
 ghost use Rattle.mesa_disk.specs.Story.{Unmoved};
-ghost use Rattle.mesa_image.specs.Fitting.{view_shelved};
+ghost use Rattle.mesa_image_spec.specs.Fitting.{view_shelved};
 ghost use Rattle.mesa_schema.specs.declared.rows.Row.{Row as AnyRow};
 ghost use Rattle.mesa_tasks.specs.Opening.{Counted, HasEpoch};
-ghost use Rattle.mesa_examine.specs.Examined.{is_read_failure};
+ghost use Rattle.mesa_check_file.specs.Examined.{is_read_failure};
 ghost use Rattle.mesa_check.specs.Found.{AreFound, Found, IsFoundAs};
 ghost use Rattle.mesa_check.specs.Faults.{is_view_found as is_found_view};
 ghost use Rattle.mesa_check.specs.Tested.{AreSumsFound, HasRows, shelf_of};
 
+use mesa_check_file::{CheckError, Sums, examine};
 use mesa_delta::one_file;
 use mesa_disk::{Disk, FileRef, Made};
-use mesa_examine::{CheckError, Sums, examine};
 use mesa_plans::own_columns;
 use mesa_record::ViewRef;
 use mesa_schema::Evolving;

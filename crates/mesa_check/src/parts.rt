@@ -1,7 +1,7 @@
 // What a cumulative is compared with.
 ghost use Rattle.std.specs.Prelude.{◌≡◌, ◌++◌, ◌≤◌, ℕ, IfSome};
 ghost use Rattle.std.specs.List.{AllByRecursion};
-ghost use Rattle.mesa_image.specs.Fitting.{deltas_of};
+ghost use Rattle.mesa_image_spec.specs.Fitting.{deltas_of};
 ghost use Rattle.mesa_table.specs.Meaning.{AreLoaded, IsTable, stock_of};
 ghost use Rattle.mesa_table.specs.Named.{through};
 ghost use Rattle.mesa_plans.specs.Lent.{AreOfEpochs, lent_in, now_if_any, with_rows};

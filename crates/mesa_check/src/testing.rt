@@ -3,18 +3,18 @@ ghost use Rattle.std.specs.Prelude.{◌≡◌, ◌≤◌, map, false, IfOk, None
 ghost use Rattle.std.specs.List.{AllByRecursion};
 ghost use Rattle.mesa_disk.specs.Image.{Image};
 ghost use Rattle.mesa_disk.specs.Story.{Unmoved};
-ghost use Rattle.mesa_image.specs.Shape.{IsWithinBound};
+ghost use Rattle.mesa_image_spec.specs.Shape.{IsWithinBound};
 ghost use Rattle.mesa_schema.specs.Changes.{epoch_of};
 ghost use Rattle.mesa_tasks.specs.Opening.{Counted};
-ghost use Rattle.mesa_examine.specs.Examined.{is_read_failure};
+ghost use Rattle.mesa_check_file.specs.Examined.{is_read_failure};
 ghost use Rattle.mesa_check.specs.Held.{delta_of};
 ghost use Rattle.mesa_check.specs.Tested.{IsTestOf, range_of};
 
 use crate::files::{are_views_found, test_file};
 use crate::range::Held;
 use crate::totals::{agree, no_sums};
+use mesa_check_file::CheckError;
 use mesa_disk::{Disk, Made};
-use mesa_examine::CheckError;
 use mesa_list::Items;
 use mesa_record::Files;
 use mesa_schema::Evolving;

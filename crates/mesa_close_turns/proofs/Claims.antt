@@ -16,19 +16,19 @@ use Rattle.mesa_model.specs.declared.commands.WorkWords.{WorkWords}
 use Rattle.mesa_model.specs.declared.entries.Entry.{Entry}
 use Rattle.mesa_model.specs.declared.replies.Refusal.{Refusal}
 use Rattle.mesa_model.specs.declared.replies.Refusal.TheVariants as no
-use Rattle.mesa_publishing.specs.mesa_history.Claims.{HasClaim, HasClaimAt, HasErrand, is_live}
-use Rattle.mesa_publishing.specs.mesa_history.Machine.{Claim, Errand, Machine, Merges, claim_checked, ranges_at}
-use Rattle.mesa_publishing.specs.mesa_history.Run.{Place, Renewed}
-use Rattle.mesa_publishing.specs.mesa_history.Turns.{IsDue}
-use Rattle.mesa_publishing.proofs.mesa_history.Claiming.{held_is_live}
-use Rattle.mesa_engine.specs.mesa_image.Catalog.{no_stock, ranges_of, stock_at}
-use Rattle.mesa_engine.specs.mesa_projection.Bare.{bare_table}
-use Rattle.mesa_engine.specs.mesa_projection.Rows.{no_rows}
-use Rattle.mesa_engine.specs.mesa_engine_state.mesa_invariant.Invariant.{Outset, run_of}
-use Rattle.mesa_engine.proofs.mesa_engine_state.mesa_invariant.Working.{checked_open}
-use Rattle.mesa_engine.specs.mesa_engine_state.EngineState.{EngineState, books_of, projection_of}
-use Rattle.mesa_engine.specs.mesa_engine_state.Vault.{Origin, IsVault}
-use Rattle.mesa_engine.proofs.mesa_engine_state.Beginning.{vault_claims}
+use Rattle.mesa_publishing.specs.mesa_history_spec.Claims.{HasClaim, HasClaimAt, HasErrand, is_live}
+use Rattle.mesa_publishing.specs.mesa_history_spec.Machine.{Claim, Errand, Machine, Merges, claim_checked, ranges_at}
+use Rattle.mesa_publishing.specs.mesa_history_spec.Run.{Place, Renewed}
+use Rattle.mesa_publishing.specs.mesa_history_spec.Turns.{IsDue}
+use Rattle.mesa_publishing.proofs.mesa_history_spec.Claiming.{held_is_live}
+use Rattle.mesa_engine.specs.mesa_image_spec.Catalog.{no_stock, ranges_of, stock_at}
+use Rattle.mesa_engine.specs.mesa_projection_laws.Bare.{bare_table}
+use Rattle.mesa_engine.specs.mesa_projection_laws.Rows.{no_rows}
+use Rattle.mesa_engine.specs.mesa_engine_spec.mesa_invariant_spec.Invariant.{Outset, run_of}
+use Rattle.mesa_engine.proofs.mesa_engine_spec.mesa_invariant_spec.Working.{checked_open}
+use Rattle.mesa_engine.specs.mesa_engine_spec.EngineState.{EngineState, books_of, projection_of}
+use Rattle.mesa_engine.specs.mesa_engine_spec.Vault.{Origin, IsVault}
+use Rattle.mesa_engine.proofs.mesa_engine_spec.Beginning.{vault_claims}
 use Rattle.mesa_work_turns.specs.Claims.{claim_with, lease_checked}
 
 unless_true : (b : Bool) (e : Refusal) → refuse_unless b e ≡ Ok tt → b ≡ true

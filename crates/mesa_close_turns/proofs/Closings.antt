@@ -6,33 +6,33 @@ use Rattle.mesa_disk.specs.mesa_fault.Causes.{last}
 use Rattle.mesa_delta.specs.declared.error.FileError.TheVariants as file_error
 use Rattle.mesa_delta.specs.declared.input.Input.{Input}
 use Rattle.mesa_disk.specs.Story.{Story, Unmoved}
-use Rattle.mesa_publishing.specs.mesa_history.Counting.{answers_bench}
-use Rattle.mesa_publishing.specs.mesa_history.Legal.{is_work}
-use Rattle.mesa_publishing.specs.mesa_history.Machine.{Claim}
-use Rattle.mesa_publishing.specs.mesa_history.Refused.{is_refusal}
-use Rattle.mesa_publishing.specs.mesa_history.Replay.{closes}
-use Rattle.mesa_publishing.specs.mesa_history.Run.{Finished}
-use Rattle.mesa_publishing.specs.mesa_history.Turns.{IsDue}
+use Rattle.mesa_publishing.specs.mesa_history_spec.Counting.{answers_bench}
+use Rattle.mesa_publishing.specs.mesa_history_spec.Legal.{is_work}
+use Rattle.mesa_publishing.specs.mesa_history_spec.Machine.{Claim}
+use Rattle.mesa_publishing.specs.mesa_history_spec.Refused.{is_refusal}
+use Rattle.mesa_publishing.specs.mesa_history_spec.Replay.{closes}
+use Rattle.mesa_publishing.specs.mesa_history_spec.Run.{Finished}
+use Rattle.mesa_publishing.specs.mesa_history_spec.Turns.{IsDue}
 use Rattle.mesa_lease.specs.Book.{ended}
 use Rattle.mesa_model.specs.declared.commands.Command.{Command}
 use Rattle.mesa_model.specs.declared.entries.Entry.{Entry}
 use Rattle.mesa_model.specs.declared.entries.Kind.TheVariants as kind
 use Rattle.mesa_model.specs.declared.entries.Outcome.TheVariants as outcome
-use Rattle.mesa_engine.specs.mesa_output.Output.{block}
-use Rattle.mesa_engine.specs.mesa_projection.Rows.{Rows}
-use Rattle.mesa_engine.specs.mesa_engine_state.mesa_invariant.Causes.{Cause, Unwritten, is_read_fault, outcome_of, reply_of, told_at}
-use Rattle.mesa_engine.specs.mesa_engine_state.mesa_invariant.Printing.{IsPut}
-use Rattle.mesa_engine.specs.mesa_engine_state.mesa_invariant.Turns.{Shown, IsSeen, Takes, entry}
-use Rattle.mesa_engine.specs.mesa_engine_state.mesa_invariant.Undamaged.{is_damaged}
-use Rattle.mesa_engine.specs.mesa_engine_state.mesa_invariant.Invariant.{Outset, Counts, IsAtClock, HoldsInvariant, run_at, run_of}
-use Rattle.mesa_engine.specs.mesa_engine_state.mesa_invariant.Works.{closing_stage}
-use Rattle.mesa_engine.proofs.mesa_engine_state.mesa_invariant.Clock.{begun_moment}
-use Rattle.mesa_engine.proofs.mesa_engine_state.mesa_invariant.Going.{unmerged_takes}
-use Rattle.mesa_engine.proofs.mesa_engine_state.mesa_invariant.Working.{close_later, shut_turn, unmerged_turn}
-use Rattle.mesa_engine.specs.mesa_engine_state.EngineState.{EngineState, books_of}
-use Rattle.mesa_engine.specs.mesa_engine_state.Vault.{Origin, Starts, IsVault, outset_of}
-use Rattle.mesa_engine.proofs.mesa_engine_state.Staying.{closed_vault, leased_vault, still_vault}
-use Rattle.mesa_engine.proofs.mesa_engine_state.Swapping.{ended_granted}
+use Rattle.mesa_engine.specs.mesa_output_spec.Output.{block}
+use Rattle.mesa_engine.specs.mesa_projection_laws.Rows.{Rows}
+use Rattle.mesa_engine.specs.mesa_engine_spec.mesa_invariant_spec.Causes.{Cause, Unwritten, is_read_fault, outcome_of, reply_of, told_at}
+use Rattle.mesa_engine.specs.mesa_engine_spec.mesa_invariant_spec.Printing.{IsPut}
+use Rattle.mesa_engine.specs.mesa_engine_spec.mesa_invariant_spec.Turns.{Shown, IsSeen, Takes, entry}
+use Rattle.mesa_engine.specs.mesa_engine_spec.mesa_invariant_spec.Undamaged.{is_damaged}
+use Rattle.mesa_engine.specs.mesa_engine_spec.mesa_invariant_spec.Invariant.{Outset, Counts, IsAtClock, HoldsInvariant, run_at, run_of}
+use Rattle.mesa_engine.specs.mesa_engine_spec.mesa_invariant_spec.Works.{closing_stage}
+use Rattle.mesa_engine.proofs.mesa_engine_spec.mesa_invariant_spec.Clock.{begun_moment}
+use Rattle.mesa_engine.proofs.mesa_engine_spec.mesa_invariant_spec.Going.{unmerged_takes}
+use Rattle.mesa_engine.proofs.mesa_engine_spec.mesa_invariant_spec.Working.{close_later, shut_turn, unmerged_turn}
+use Rattle.mesa_engine.specs.mesa_engine_spec.EngineState.{EngineState, books_of}
+use Rattle.mesa_engine.specs.mesa_engine_spec.Vault.{Origin, Starts, IsVault, outset_of}
+use Rattle.mesa_engine.proofs.mesa_engine_spec.Staying.{closed_vault, leased_vault, still_vault}
+use Rattle.mesa_engine.proofs.mesa_engine_spec.Swapping.{ended_granted}
 use Rattle.mesa_engine.specs.declared.log.Log.{Log}
 use Rattle.mesa_engine.specs.Printing.{PrintsBlock}
 use Rattle.mesa_engine.specs.mesa_metadata.Memory.{Memory, with_state}

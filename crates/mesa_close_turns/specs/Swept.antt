@@ -1,16 +1,16 @@
 -- When a close of a work or a recast is done, and what it leaves of files.
 use Rattle.std.specs.Prelude.{◌≡◌, ◌⊎◌, ◌++◌, ◌∷◌, [], ℕ, List, map, Option, None, Some, Ok}
 use Rattle.mesa_disk.specs.Image.{Image, file_of}
-use Rattle.mesa_publishing.specs.mesa_history.Machine.{Claim, claim_checked}
-use Rattle.mesa_engine.specs.mesa_image.Catalog.{Catalog}
-use Rattle.mesa_engine.specs.mesa_engine_state.mesa_image.Ids.{named}
-use Rattle.mesa_engine.specs.mesa_engine_state.EngineState.{EngineState, books_of, holders, ids_held}
-use Rattle.mesa_engine.specs.mesa_engine_state.Vault.{IsFiled}
-use Rattle.mesa_engine.specs.mesa_engine_state.mesa_invariant.Turns.{Shown, entry}
+use Rattle.mesa_publishing.specs.mesa_history_spec.Machine.{Claim, claim_checked}
+use Rattle.mesa_engine.specs.mesa_image_spec.Catalog.{Catalog}
+use Rattle.mesa_engine.specs.mesa_engine_spec.mesa_image_spec.Ids.{named}
+use Rattle.mesa_engine.specs.mesa_engine_spec.EngineState.{EngineState, books_of, holders, ids_held}
+use Rattle.mesa_engine.specs.mesa_engine_spec.Vault.{IsFiled}
+use Rattle.mesa_engine.specs.mesa_engine_spec.mesa_invariant_spec.Turns.{Shown, entry}
 use Rattle.mesa_model.specs.declared.entries.Entry.{Entry}
 use Rattle.mesa_model.specs.declared.entries.Kind.TheVariants as kind
 use Rattle.mesa_model.specs.declared.entries.Outcome.TheVariants as outcome
-use Rattle.mesa_engine.specs.mesa_projection.Rows.{no_rows}
+use Rattle.mesa_engine.specs.mesa_projection_laws.Rows.{no_rows}
 use Rattle.mesa_publishing.specs.mesa_trash.Holding.{Among, IsHad}
 
 -- The turn that closes a session's command stands: the entry that it added says so.

@@ -1,12 +1,12 @@
 // What a swap takes of memory.
 ghost use Rattle.std.specs.Prelude.{◌≡◌, ◌+◌, ◌<◌, ◌≤◌, ◌^◌, ℕ, Some, Ok, IfOk, IsTrue, OnErr, length};
-ghost use Rattle.mesa_engine.specs.mesa_image.Catalog.{ranges_of};
-ghost use Rattle.mesa_engine.specs.mesa_image.Fitting.{fits};
-ghost use Rattle.mesa_engine.specs.mesa_image.Shape.{IsCatalog};
-ghost use Rattle.mesa_engine.specs.mesa_engine_state.mesa_image.Ids.{dropped_ids, named};
+ghost use Rattle.mesa_engine.specs.mesa_image_spec.Catalog.{ranges_of};
+ghost use Rattle.mesa_engine.specs.mesa_image_spec.Fitting.{fits};
+ghost use Rattle.mesa_engine.specs.mesa_image_spec.Shape.{IsCatalog};
+ghost use Rattle.mesa_engine.specs.mesa_engine_spec.mesa_image_spec.Ids.{dropped_ids, named};
 ghost use Rattle.mesa_disk.specs.mesa_key.Spelling.{AreBytes};
-ghost use Rattle.mesa_engine.specs.mesa_engine_state.EngineState.{most_files, next_id};
-ghost use Rattle.mesa_engine.specs.mesa_engine_state.Recorded.{removed_by};
+ghost use Rattle.mesa_engine.specs.mesa_engine_spec.EngineState.{most_files, next_id};
+ghost use Rattle.mesa_engine.specs.mesa_engine_spec.Recorded.{removed_by};
 ghost use Rattle.mesa_record.specs.Reading.{record_at};
 ghost use Rattle.mesa_record.specs.Rules.{keeps_rules};
 ghost use Rattle.mesa_model.specs.mesa_schema.Changes.{Lineage};

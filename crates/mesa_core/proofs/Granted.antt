@@ -5,12 +5,12 @@ use Rattle.mesa_session_laws.specs.mesa_compact.Bounded.{AreBounded, IsBounded}
 use Rattle.mesa_session_laws.specs.mesa_plans.Gathered.{unread_views}
 use Rattle.mesa_session_laws.proofs.Merged.{grant_known}
 use Rattle.mesa_session_laws.proofs.Same.{range_known}
-use Rattle.mesa_history.specs.Claims.{HasClaim, HasClaimAt}
-use Rattle.mesa_history.specs.Run.{Granted, Place, State}
-use Rattle.mesa_history.specs.Turns.{place_then}
-use Rattle.mesa_engine.specs.mesa_image.Catalog.{Catalog, stock_at}
-use Rattle.mesa_engine.specs.mesa_image.Moves.{last_of}
-use Rattle.mesa_engine.specs.mesa_engine_state.Vault.{Origin}
+use Rattle.mesa_history_spec.specs.Claims.{HasClaim, HasClaimAt}
+use Rattle.mesa_history_spec.specs.Run.{Granted, Place, State}
+use Rattle.mesa_history_spec.specs.Turns.{place_then}
+use Rattle.mesa_engine.specs.mesa_image_spec.Catalog.{Catalog, stock_at}
+use Rattle.mesa_engine.specs.mesa_image_spec.Moves.{last_of}
+use Rattle.mesa_engine.specs.mesa_engine_spec.Vault.{Origin}
 use Rattle.mesa_session_laws.specs.mesa_merge.Inputs.{knowns_of}
 use Rattle.mesa_model.specs.declared.commands.Script.{Script}
 use Rattle.mesa_model.specs.declared.entries.Entry.{Entry}
@@ -18,15 +18,15 @@ use Rattle.mesa_model.specs.Warehouse.{max_tables}
 use Rattle.mesa_model.specs.mesa_schema.Changes.{Lineage, columns_of}
 use Rattle.mesa_model.specs.mesa_schema.Lineages.{IsLineage}
 use Rattle.mesa_session_laws.specs.Works.{CanBeMerged, known_task}
-use Rattle.mesa_engine.specs.mesa_projection.Rows.{Rows, no_rows}
+use Rattle.mesa_engine.specs.mesa_projection_laws.Rows.{Rows, no_rows}
 use Rattle.mesa_session_laws.specs.mesa_publishing.Finished.{HasRange}
 use Rattle.mesa_tasks.specs.Errors.{Differs}
 use Rattle.mesa_tasks.specs.Spares.{HasSpares}
 use Rattle.mesa_tasks.specs.Tasks.{IsTask, claim_in}
 use Rattle.mesa_tasks.specs.declared.merging.Task.{Task}
-use Rattle.mesa_engine.specs.mesa_invariant.Invariant.{run_at}
-use Rattle.mesa_engine.specs.mesa_invariant.Works.{stage_if}
-use Rattle.mesa_engine.specs.mesa_engine_state.Written.{written_at}
+use Rattle.mesa_engine.specs.mesa_invariant_spec.Invariant.{run_at}
+use Rattle.mesa_engine.specs.mesa_invariant_spec.Works.{stage_if}
+use Rattle.mesa_engine.specs.mesa_engine_spec.Written.{written_at}
 use Rattle.mesa_core.specs.Handing.{IsGranted, store_after}
 use Rattle.mesa_core.specs.Standing.{IsCatalogAfter}
 use Rattle.mesa_core.proofs.Sights.{counted_is, lineage_is}

@@ -8,7 +8,7 @@ use Rattle.mesa_recast_turns.specs.mesa_close_turns.mesa_query_turns.Opening.{Is
 use Rattle.mesa_filter.specs.declared.words.QueryWords.{QueryWords}
 use Rattle.mesa_delta.specs.declared.error.FileError.{FileError}
 use Rattle.mesa_delta.specs.declared.error.FileError.TheVariants as file_error
-use Rattle.mesa_history.specs.Run.{State, Finished}
+use Rattle.mesa_history_spec.specs.Run.{State, Finished}
 use Rattle.mesa_session_laws.specs.mesa_merge.Inputs.{Known, knowns_of}
 use Rattle.mesa_model.specs.declared.commands.Script.{Script}
 use Rattle.mesa_model.specs.declared.entries.Entry.{Entry}
@@ -24,16 +24,16 @@ use Rattle.mesa_model.specs.mesa_schema.Folded.{rows_of}
 use Rattle.mesa_script.specs.Rows.{rendered}
 use Rattle.mesa_script.specs.declared.rendered.Rendered.{Rendered}
 use Rattle.mesa_session_laws.specs.Pins.{HasAnswered, IsOpenQuery, TakesQuery, heading_in, known_pin}
-use Rattle.mesa_engine.specs.mesa_projection.Rows.{Rows, no_rows}
+use Rattle.mesa_engine.specs.mesa_projection_laws.Rows.{Rows, no_rows}
 use Rattle.mesa_tasks.specs.Errors.{HasDiffered}
 use Rattle.mesa_tasks.specs.GivingBack.{SomeFailed, pinned_inputs}
 use Rattle.mesa_tasks.specs.Pins.{IsPinned, IsPinnedInput, rows_pinned}
 use Rattle.mesa_tasks.specs.declared.querying.Pinned.{Pinned}
 use Rattle.mesa_tasks.specs.declared.querying.PinnedInput.{PinnedInput}
-use Rattle.mesa_engine.specs.mesa_invariant.Queries.{IsOpen, closing_fault, closing_outcome}
-use Rattle.mesa_engine.specs.mesa_invariant.Turns.{IsSeen, IsTurn, Shown, Takes}
-use Rattle.mesa_engine.specs.mesa_invariant.Undamaged.{is_damaged}
-use Rattle.mesa_engine.specs.mesa_invariant.Invariant.{run_at}
+use Rattle.mesa_engine.specs.mesa_invariant_spec.Queries.{IsOpen, closing_fault, closing_outcome}
+use Rattle.mesa_engine.specs.mesa_invariant_spec.Turns.{IsSeen, IsTurn, Shown, Takes}
+use Rattle.mesa_engine.specs.mesa_invariant_spec.Undamaged.{is_damaged}
+use Rattle.mesa_engine.specs.mesa_invariant_spec.Invariant.{run_at}
 use Rattle.mesa_core.specs.Handing.{Tells}
 
 -- ---- the close

@@ -4,35 +4,35 @@ use Rattle.mesa_session_laws.specs.mesa_compact.Bounded.{IsBounded}
 use Rattle.mesa_recast_turns.specs.mesa_close_turns.Unmerged.{MergeDiffered, cause_of}
 use Rattle.mesa_delta.specs.declared.error.FileError.TheVariants as file_error
 use Rattle.mesa_session_laws.specs.Known.{IsKnownOf, lineage_in}
-use Rattle.mesa_history.proofs.More.{runs-append}
-use Rattle.mesa_history.specs.Claims.{HasClaim, HasRanges, is_live}
-use Rattle.mesa_history.specs.Law.{begun_at}
-use Rattle.mesa_history.specs.Machine.{Claim}
-use Rattle.mesa_history.specs.Replay.{runs}
-use Rattle.mesa_history.specs.Run.{Run, State, begins}
-use Rattle.mesa_engine.specs.mesa_image.Catalog.{Catalog, stock_at}
-use Rattle.mesa_engine.specs.mesa_image.Moves.{last_of}
-use Rattle.mesa_engine.specs.mesa_engine_state.Vault.{Origin}
+use Rattle.mesa_history_spec.proofs.More.{runs-append}
+use Rattle.mesa_history_spec.specs.Claims.{HasClaim, HasRanges, is_live}
+use Rattle.mesa_history_spec.specs.Law.{begun_at}
+use Rattle.mesa_history_spec.specs.Machine.{Claim}
+use Rattle.mesa_history_spec.specs.Replay.{runs}
+use Rattle.mesa_history_spec.specs.Run.{Run, State, begins}
+use Rattle.mesa_engine.specs.mesa_image_spec.Catalog.{Catalog, stock_at}
+use Rattle.mesa_engine.specs.mesa_image_spec.Moves.{last_of}
+use Rattle.mesa_engine.specs.mesa_engine_spec.Vault.{Origin}
 use Rattle.mesa_model.specs.declared.commands.Script.{Script}
 use Rattle.mesa_model.specs.declared.entries.Entry.{Entry}
 use Rattle.mesa_model.specs.mesa_schema.Changes.{Lineage}
 use Rattle.mesa_model.specs.mesa_schema.Lineages.{IsLineage}
 use Rattle.mesa_session_laws.specs.Works.{HasMerged, IsUnmerged, WasGranted, known_task}
-use Rattle.mesa_engine.specs.mesa_projection.Rows.{Rows, no_rows}
+use Rattle.mesa_engine.specs.mesa_projection_laws.Rows.{Rows, no_rows}
 use Rattle.mesa_session_laws.specs.mesa_publishing.Finished.{HasRange, IsFinished}
 use Rattle.mesa_session_laws.specs.mesa_publishing.Grown.{GrowsWhereItBegins, HasBecome}
 use Rattle.mesa_tasks.specs.GivingBack.{SomeFailed, task_inputs}
-use Rattle.mesa_history.specs.mesa_span.declared.works.Work.{Work}
+use Rattle.mesa_history_spec.specs.mesa_span.declared.works.Work.{Work}
 use Rattle.mesa_tasks.specs.Tasks.{IsMerged, IsTask, claim_in}
 use Rattle.mesa_tasks.specs.declared.merging.CompactError.{CompactError}
 use Rattle.mesa_tasks.specs.declared.merging.CompactError.TheVariants as compact
 use Rattle.mesa_tasks.specs.declared.merging.NewDelta.{NewDelta}
 use Rattle.mesa_tasks.specs.declared.merging.Task.{Task}
-use Rattle.mesa_engine.specs.mesa_invariant.Causes.{is_read_fault, outcome_of}
-use Rattle.mesa_engine.specs.mesa_invariant.Turns.{AnswersDraft, Shown}
-use Rattle.mesa_engine.specs.mesa_invariant.Undamaged.{is_damaged}
-use Rattle.mesa_engine.specs.mesa_invariant.Invariant.{run_at}
-use Rattle.mesa_engine.specs.mesa_engine_state.Written.{written_at}
+use Rattle.mesa_engine.specs.mesa_invariant_spec.Causes.{is_read_fault, outcome_of}
+use Rattle.mesa_engine.specs.mesa_invariant_spec.Turns.{AnswersDraft, Shown}
+use Rattle.mesa_engine.specs.mesa_invariant_spec.Undamaged.{is_damaged}
+use Rattle.mesa_engine.specs.mesa_invariant_spec.Invariant.{run_at}
+use Rattle.mesa_engine.specs.mesa_engine_spec.Written.{written_at}
 use Rattle.mesa_core.specs.Handing.{IsGranted, store_after}
 use Rattle.mesa_core.specs.Standing.{IsCatalogAfter}
 use Rattle.mesa_core.proofs.Sights.{lineage_is}

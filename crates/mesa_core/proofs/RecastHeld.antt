@@ -8,26 +8,26 @@ use Rattle.mesa_session_laws.specs.Works.{WasGranted}
 use Rattle.mesa_session_laws.specs.mesa_copy.Copying.{IsRecastBounded}
 use Rattle.mesa_session_laws.specs.mesa_publishing.Grown.{HasBecome, HasSameColumns, StaysWithItsEpoch}
 use Rattle.mesa_session_laws.specs.mesa_publishing.Recasts.{HasItsRanges, stock_of_recast}
-use Rattle.mesa_history.proofs.More.{runs-append}
-use Rattle.mesa_history.specs.Law.{begun_at}
-use Rattle.mesa_history.specs.Replay.{runs}
-use Rattle.mesa_history.specs.Run.{Run, State, begins}
-use Rattle.mesa_history.specs.Sources.{Written}
-use Rattle.mesa_engine.specs.mesa_image.Catalog.{Stock, stock_at}
-use Rattle.mesa_engine.specs.mesa_engine_state.EngineState.{EngineState}
-use Rattle.mesa_engine.specs.mesa_engine_state.Vault.{Origin}
-use Rattle.mesa_engine.specs.mesa_engine_state.Written.{written_at}
+use Rattle.mesa_history_spec.proofs.More.{runs-append}
+use Rattle.mesa_history_spec.specs.Law.{begun_at}
+use Rattle.mesa_history_spec.specs.Replay.{runs}
+use Rattle.mesa_history_spec.specs.Run.{Run, State, begins}
+use Rattle.mesa_history_spec.specs.Sources.{Written}
+use Rattle.mesa_engine.specs.mesa_image_spec.Catalog.{Stock, stock_at}
+use Rattle.mesa_engine.specs.mesa_engine_spec.EngineState.{EngineState}
+use Rattle.mesa_engine.specs.mesa_engine_spec.Vault.{Origin}
+use Rattle.mesa_engine.specs.mesa_engine_spec.Written.{written_at}
 use Rattle.mesa_model.specs.Warehouse.{max_tables}
 use Rattle.mesa_model.specs.declared.commands.Script.{Script}
 use Rattle.mesa_model.specs.declared.entries.Entry.{Entry}
 use Rattle.mesa_recast_turns.specs.Rested.{IsLonger}
 use Rattle.mesa_model.specs.mesa_schema.Changes.{Lineage, epoch_of}
 use Rattle.mesa_model.specs.mesa_schema.Lineages.{IsLineage}
-use Rattle.mesa_engine.specs.mesa_projection.Rows.{Rows, no_rows}
+use Rattle.mesa_engine.specs.mesa_projection_laws.Rows.{Rows, no_rows}
 use Rattle.mesa_tasks.specs.Recasts.{IsRecastTask, recast_table}
 use Rattle.mesa_tasks.specs.declared.recasting.Recast.{Recast}
 use Rattle.mesa_tasks.specs.declared.recasting.RecastRange.{RecastRange}
-use Rattle.mesa_engine.specs.mesa_invariant.Invariant.{run_at}
+use Rattle.mesa_engine.specs.mesa_invariant_spec.Invariant.{run_at}
 use Rattle.mesa_core.proofs.RecastGranted.{ends_known}
 use Rattle.mesa_core.specs.Handing.{AllAreRested, IsRecastGranted, IsRecastHeld, store_after}
 

@@ -9,20 +9,20 @@ use Rattle.mesa_core.specs.Handing.{store_after}
 use Rattle.mesa_core.specs.Standing.{IsCatalogAfter}
 use Rattle.mesa_disk.specs.Story.{Story}
 use Rattle.mesa_session_laws.specs.Known.{lineage_in}
-use Rattle.mesa_history.specs.Run.{State}
-use Rattle.mesa_engine.specs.mesa_image.Catalog.{Catalog, no_stock, stock_at}
+use Rattle.mesa_history_spec.specs.Run.{State}
+use Rattle.mesa_engine.specs.mesa_image_spec.Catalog.{Catalog, no_stock, stock_at}
 use Rattle.mesa_engine.proofs.mesa_catalog.Stocks.{all_at}
-use Rattle.mesa_engine.specs.mesa_image.Shape.{IsShaped}
-use Rattle.mesa_engine.specs.mesa_engine_state.EngineState.{EngineState, projections}
-use Rattle.mesa_engine.specs.mesa_engine_state.Vault.{Starts, IsVault, IsVaultAt, outset_of}
+use Rattle.mesa_engine.specs.mesa_image_spec.Shape.{IsShaped}
+use Rattle.mesa_engine.specs.mesa_engine_spec.EngineState.{EngineState, projections}
+use Rattle.mesa_engine.specs.mesa_engine_spec.Vault.{Starts, IsVault, IsVaultAt, outset_of}
 use Rattle.mesa_model.specs.declared.commands.Script.{Script}
 use Rattle.mesa_model.specs.declared.entries.Entry.{Entry}
 use Rattle.mesa_model.specs.Warehouse.{Store, Table, Warehouse, no_table}
 use Rattle.mesa_session_laws.specs.Sight.{tables_known}
-use Rattle.mesa_engine.proofs.mesa_projection.Lists.{at_same}
-use Rattle.mesa_engine.specs.mesa_projection.Bare.{bare_store}
-use Rattle.mesa_engine.specs.mesa_projection.Rows.{Rows, no_rows}
-use Rattle.mesa_engine.specs.mesa_invariant.Invariant.{run_of}
+use Rattle.mesa_engine.proofs.mesa_projection_laws.Lists.{at_same}
+use Rattle.mesa_engine.specs.mesa_projection_laws.Bare.{bare_store}
+use Rattle.mesa_engine.specs.mesa_projection_laws.Rows.{Rows, no_rows}
+use Rattle.mesa_engine.specs.mesa_invariant_spec.Invariant.{run_of}
 
 -- names and columns hang on no rows
 bare_known : (s : Store) → tables_known (bare_store s) ≡ tables_known s

@@ -11,8 +11,8 @@ use Rattle.mesa_tasks.specs.declared.merging.CompactError.{CompactError}
 use Rattle.mesa_tasks.specs.declared.merging.CompactError.TheVariants as compact
 use Rattle.mesa_tasks.specs.declared.recasting.Recast.{Recast}
 use Rattle.mesa_tasks.specs.declared.recasting.Recasted.{Recasted}
-use Rattle.mesa_engine.specs.mesa_invariant.Causes.{is_read_fault, outcome_of}
-use Rattle.mesa_engine.specs.mesa_invariant.Undamaged.{is_damaged}
+use Rattle.mesa_engine.specs.mesa_invariant_spec.Causes.{is_read_fault, outcome_of}
+use Rattle.mesa_engine.specs.mesa_invariant_spec.Undamaged.{is_damaged}
 
 -- ---- why ranges weren't rewritten
 

@@ -2,24 +2,24 @@
 use Rattle.std.specs.Prelude.{◌≡◌, ℕ, ◌<◌, List, Option, None, length, Result, Ok, Err}
 use Rattle.std.specs.List.{AllByRecursion}
 use Rattle.mesa_session_laws.specs.mesa_compact.Bounded.{AreBounded}
-use Rattle.mesa_history.specs.Claims.{HasClaim}
-use Rattle.mesa_history.specs.Machine.{Claim, Merges}
-use Rattle.mesa_history.specs.Run.{State}
-use Rattle.mesa_engine.specs.mesa_image.Moves.{last_of}
-use Rattle.mesa_engine.specs.mesa_engine_state.EngineState.{EngineState}
-use Rattle.mesa_engine.specs.mesa_engine_state.Vault.{Origin}
+use Rattle.mesa_history_spec.specs.Claims.{HasClaim}
+use Rattle.mesa_history_spec.specs.Machine.{Claim, Merges}
+use Rattle.mesa_history_spec.specs.Run.{State}
+use Rattle.mesa_engine.specs.mesa_image_spec.Moves.{last_of}
+use Rattle.mesa_engine.specs.mesa_engine_spec.EngineState.{EngineState}
+use Rattle.mesa_engine.specs.mesa_engine_spec.Vault.{Origin}
 use Rattle.mesa_model.specs.declared.commands.Script.{Script}
 use Rattle.mesa_model.specs.declared.entries.Entry.{Entry}
 use Rattle.mesa_model.specs.Query.{Answer}
 use Rattle.mesa_model.specs.Warehouse.{Store, max_tables}
-use Rattle.mesa_engine.specs.mesa_invariant.Invariant.{run_at}
-use Rattle.mesa_engine.specs.mesa_engine_state.Written.{written_at}
+use Rattle.mesa_engine.specs.mesa_invariant_spec.Invariant.{run_at}
+use Rattle.mesa_engine.specs.mesa_engine_spec.Written.{written_at}
 use Rattle.mesa_session_laws.specs.Known.{AllAreBounded, AllHaveRange, AllHaveRanges, IsKnownOf, lineage_in}
 use Rattle.mesa_session_laws.specs.mesa_publishing.Grown.{HasBecome}
 use Rattle.mesa_recast_turns.specs.Rested.{HasRested}
 use Rattle.mesa_model.specs.mesa_schema.Changes.{columns_of, epoch_of}
 use Rattle.mesa_model.specs.mesa_schema.Lineages.{IsLineage}
-use Rattle.mesa_engine.specs.mesa_projection.Rows.{Rows, no_rows}
+use Rattle.mesa_engine.specs.mesa_projection_laws.Rows.{Rows, no_rows}
 use Rattle.mesa_recast_turns.specs.mesa_close_turns.mesa_query_turns.Opening.{IsHeaded}
 use Rattle.mesa_recast_turns.specs.mesa_close_turns.mesa_plans.Told.{TellAnswer}
 use Rattle.mesa_session_laws.specs.Pins.{KnownPin}

@@ -2,11 +2,11 @@
 ghost use Rattle.std.specs.Prelude.{◌<◌, length};
 ghost use Rattle.mesa_recast_turns.specs.mesa_close_turns.mesa_write_turns.Writing.{KeepsFiles};
 ghost use Rattle.mesa_disk.specs.Story.{Steps};
-ghost use Rattle.mesa_history.specs.Run.{Finished, First};
+ghost use Rattle.mesa_history_spec.specs.Run.{Finished, First};
 ghost use Rattle.mesa_model.specs.declared.entries.Kind.TheVariants as kind;
-ghost use Rattle.mesa_engine.specs.mesa_projection.Rows.{no_rows};
-ghost use Rattle.mesa_engine.specs.mesa_invariant.Turns.{AnswersDisk, Asks, SomeRose, Takes, is_simple};
-ghost use Rattle.mesa_engine.specs.mesa_invariant.Invariant.{run_at};
+ghost use Rattle.mesa_engine.specs.mesa_projection_laws.Rows.{no_rows};
+ghost use Rattle.mesa_engine.specs.mesa_invariant_spec.Turns.{AnswersDisk, Asks, SomeRose, Takes, is_simple};
+ghost use Rattle.mesa_engine.specs.mesa_invariant_spec.Invariant.{run_at};
 
 use crate::Vault;
 use crate::asked::command_of;

@@ -3,15 +3,15 @@ ghost use Rattle.std.specs.Prelude.{◌≡◌, ◌<◌, List, true, Err, Some, I
 ghost use Rattle.mesa_batch.specs.declared.words.RowWords.{RowWords as AnyWords};
 ghost use Rattle.mesa_recast_turns.specs.mesa_close_turns.mesa_write_turns.Writing.{KeepsFiles};
 ghost use Rattle.mesa_disk.specs.Story.{Steps};
-ghost use Rattle.mesa_history.specs.Run.{Finished, First, Looked, command_at};
+ghost use Rattle.mesa_history_spec.specs.Run.{Finished, First, Looked, command_at};
 ghost use Rattle.mesa_model.specs.declared.commands.Command.TheVariants as command;
 ghost use Rattle.mesa_model.specs.declared.entries.Kind.TheVariants as kind;
 ghost use Rattle.mesa_session_laws.specs.Sight.{sight_after};
-ghost use Rattle.mesa_engine.specs.mesa_projection.Rows.{no_rows};
+ghost use Rattle.mesa_engine.specs.mesa_projection_laws.Rows.{no_rows};
 ghost use Rattle.mesa_tasks.specs.Batches.{HasPrepared};
 ghost use Rattle.mesa_tasks.specs.declared.prepared.LoadError.TheVariants as load;
-ghost use Rattle.mesa_engine.specs.mesa_invariant.Turns.{AnswersDisk, AnswersDraft, Asks, SomeRose, Takes, is_load};
-ghost use Rattle.mesa_engine.specs.mesa_invariant.Invariant.{run_at};
+ghost use Rattle.mesa_engine.specs.mesa_invariant_spec.Turns.{AnswersDisk, AnswersDraft, Asks, SomeRose, Takes, is_load};
+ghost use Rattle.mesa_engine.specs.mesa_invariant_spec.Invariant.{run_at};
 
 use crate::Vault;
 use crate::asked::rows_of;

@@ -1,11 +1,11 @@
 // What holds of an engine between turns, by its history.
 ghost use Rattle.std.specs.Prelude.{◌≡◌, ℕ};
 ghost use Rattle.mesa_core.specs.Standing.{IsCatalogAfter};
-ghost use Rattle.mesa_history.specs.Claims.{HasClaimAt, HasRanges};
-ghost use Rattle.mesa_history.specs.Run.{place_of};
-ghost use Rattle.mesa_engine.specs.mesa_projection.Rows.{no_rows};
-ghost use Rattle.mesa_engine.specs.mesa_invariant.Turns.{IsSeen};
-ghost use Rattle.mesa_engine.specs.mesa_invariant.Invariant.{run_at};
+ghost use Rattle.mesa_history_spec.specs.Claims.{HasClaimAt, HasRanges};
+ghost use Rattle.mesa_history_spec.specs.Run.{place_of};
+ghost use Rattle.mesa_engine.specs.mesa_projection_laws.Rows.{no_rows};
+ghost use Rattle.mesa_engine.specs.mesa_invariant_spec.Turns.{IsSeen};
+ghost use Rattle.mesa_engine.specs.mesa_invariant_spec.Invariant.{run_at};
 
 use mesa_disk::{Disk, Made};
 use mesa_engine::{Engine, Naming};

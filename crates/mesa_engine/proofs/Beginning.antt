@@ -2,14 +2,14 @@
 use Rattle.std.proofs.Common.{◌≡◌, ℕ, List, [], Bool, true, false, sym, ap, subst, Option}
 use Rattle.mesa_disk.specs.Story.{Story}
 use Rattle.mesa_disk.specs.declared.area.Area.{Area}
-use Rattle.mesa_metadata.specs.mesa_catalog.mesa_image.Catalog.{Catalog}
+use Rattle.mesa_metadata.specs.mesa_catalog.mesa_image_spec.Catalog.{Catalog}
 use Rattle.mesa_lease.specs.Book.{Book}
-use Rattle.mesa_metadata.specs.mesa_engine_state.mesa_projection.Rows.{Rows}
-use Rattle.mesa_metadata.specs.mesa_engine_state.mesa_invariant.Books.{AreBooksOf}
-use Rattle.mesa_metadata.proofs.mesa_engine_state.mesa_invariant.Beginning.{started}
-use Rattle.mesa_metadata.specs.mesa_engine_state.EngineState.{books_of}
-use Rattle.mesa_metadata.specs.mesa_engine_state.Vault.{Starts, IsVault, outset_of}
-use Rattle.mesa_metadata.proofs.mesa_engine_state.Beginning.{first_state, started_vault}
+use Rattle.mesa_metadata.specs.mesa_engine_spec.mesa_projection_laws.Rows.{Rows}
+use Rattle.mesa_metadata.specs.mesa_engine_spec.mesa_invariant_spec.Books.{AreBooksOf}
+use Rattle.mesa_metadata.proofs.mesa_engine_spec.mesa_invariant_spec.Beginning.{started}
+use Rattle.mesa_metadata.specs.mesa_engine_spec.EngineState.{books_of}
+use Rattle.mesa_metadata.specs.mesa_engine_spec.Vault.{Starts, IsVault, outset_of}
+use Rattle.mesa_metadata.proofs.mesa_engine_spec.Beginning.{first_state, started_vault}
 use Rattle.mesa_metadata.specs.Memory.{opened_state}
 use Rattle.mesa_engine.specs.Beginning.{IsBegun}
 

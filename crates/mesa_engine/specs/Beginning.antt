@@ -2,23 +2,23 @@
 use Rattle.std.specs.Prelude.{◌≡◌, ℕ, ◌+◌, ◌<◌, ◌≤◌, List, [], Bool, Option, IsTrue}
 use Rattle.mesa_disk.specs.Story.{Story}
 use Rattle.mesa_disk.specs.declared.area.Area.{Area}
-use Rattle.mesa_metadata.specs.mesa_catalog.mesa_history.Claims.{HasRanges}
+use Rattle.mesa_metadata.specs.mesa_catalog.mesa_history_spec.Claims.{HasRanges}
 use Rattle.mesa_lease.specs.Book.{begun}
 use Rattle.mesa_model.specs.Warehouse.{max_tables}
-use Rattle.mesa_metadata.specs.mesa_catalog.mesa_image.Catalog.{Catalog}
-use Rattle.mesa_metadata.specs.mesa_catalog.mesa_image.Held.{IsHeld}
-use Rattle.mesa_metadata.specs.mesa_catalog.mesa_image.Shape.{IsCatalog}
-use Rattle.mesa_metadata.specs.mesa_catalog.mesa_image.Sound.{AreStocked}
-use Rattle.mesa_metadata.specs.mesa_engine_state.mesa_image.Countable.{AreCounted}
-use Rattle.mesa_metadata.specs.mesa_engine_state.mesa_image.Ids.{HasOwnIds, named}
-use Rattle.mesa_metadata.specs.mesa_engine_state.mesa_image.Recordable.{AreRecordable}
-use Rattle.mesa_metadata.specs.mesa_engine_state.mesa_image.Sourced.{HasSources}
-use Rattle.mesa_metadata.specs.mesa_engine_state.mesa_projection.Rows.{Rows}
-use Rattle.mesa_metadata.specs.mesa_engine_state.mesa_trash.Holding.{Among}
-use Rattle.mesa_metadata.specs.mesa_engine_state.mesa_invariant.Books.{AreBooksOf}
-use Rattle.mesa_metadata.specs.mesa_engine_state.mesa_invariant.Invariant.{AllFound}
-use Rattle.mesa_metadata.specs.mesa_engine_state.EngineState.{books_of, first_id}
-use Rattle.mesa_metadata.specs.mesa_engine_state.Vault.{Starts, IsRead, IsReady, outset_of}
+use Rattle.mesa_metadata.specs.mesa_catalog.mesa_image_spec.Catalog.{Catalog}
+use Rattle.mesa_metadata.specs.mesa_catalog.mesa_image_spec.Held.{IsHeld}
+use Rattle.mesa_metadata.specs.mesa_catalog.mesa_image_spec.Shape.{IsCatalog}
+use Rattle.mesa_metadata.specs.mesa_catalog.mesa_image_spec.Sound.{AreStocked}
+use Rattle.mesa_metadata.specs.mesa_engine_spec.mesa_image_spec.Countable.{AreCounted}
+use Rattle.mesa_metadata.specs.mesa_engine_spec.mesa_image_spec.Ids.{HasOwnIds, named}
+use Rattle.mesa_metadata.specs.mesa_engine_spec.mesa_image_spec.Recordable.{AreRecordable}
+use Rattle.mesa_metadata.specs.mesa_engine_spec.mesa_image_spec.Sourced.{HasSources}
+use Rattle.mesa_metadata.specs.mesa_engine_spec.mesa_projection_laws.Rows.{Rows}
+use Rattle.mesa_metadata.specs.mesa_engine_spec.mesa_trash.Holding.{Among}
+use Rattle.mesa_metadata.specs.mesa_engine_spec.mesa_invariant_spec.Books.{AreBooksOf}
+use Rattle.mesa_metadata.specs.mesa_engine_spec.mesa_invariant_spec.Invariant.{AllFound}
+use Rattle.mesa_metadata.specs.mesa_engine_spec.EngineState.{books_of, first_id}
+use Rattle.mesa_metadata.specs.mesa_engine_spec.Vault.{Starts, IsRead, IsReady, outset_of}
 use Rattle.mesa_metadata.specs.mesa_catalog.Lookups.{generation_of}
 use Rattle.mesa_metadata.specs.Memory.{opened_state}
 

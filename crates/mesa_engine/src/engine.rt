@@ -2,11 +2,11 @@
 ghost use Rattle.std.specs.Prelude.{◌≡◌, ◌+◌, ◌<◌, ◌^◌, IfOk};
 ghost use Rattle.mesa_batch.specs.Glance.{tables_of};
 ghost use Rattle.mesa_metadata.specs.mesa_catalog.Lookups.{sight_of};
-ghost use Rattle.mesa_metadata.specs.mesa_catalog.mesa_history.Refused.{some_refused};
-ghost use Rattle.mesa_metadata.specs.mesa_catalog.mesa_history.Run.{begins};
-ghost use Rattle.mesa_metadata.specs.mesa_engine_state.mesa_projection.Rows.{Rows, no_rows};
-ghost use Rattle.mesa_metadata.specs.mesa_engine_state.mesa_invariant.Sight.{schema_changes, tables_seen};
-ghost use Rattle.mesa_metadata.specs.mesa_engine_state.mesa_invariant.Invariant.{run_at};
+ghost use Rattle.mesa_metadata.specs.mesa_catalog.mesa_history_spec.Refused.{some_refused};
+ghost use Rattle.mesa_metadata.specs.mesa_catalog.mesa_history_spec.Run.{begins};
+ghost use Rattle.mesa_metadata.specs.mesa_engine_spec.mesa_projection_laws.Rows.{Rows, no_rows};
+ghost use Rattle.mesa_metadata.specs.mesa_engine_spec.mesa_invariant_spec.Sight.{schema_changes, tables_seen};
+ghost use Rattle.mesa_metadata.specs.mesa_engine_spec.mesa_invariant_spec.Invariant.{run_at};
 
 use crate::Log;
 use mesa_batch::Glance;
@@ -31,7 +31,7 @@ impl<N: Naming, M: Made, D: Disk<M>, K: Sink> Model for Engine<N, M, D, K> {
     ghost use Rattle.std.specs.FinMap.{code as coded_map};
     ghost use Rattle.std.specs.Ordering.{nat_cmp};
     ghost use Rattle.mesa_engine.specs.Engine.{IsEngine, Standing, starts_of};
-    ghost use Rattle.mesa_metadata.specs.mesa_engine_state.mesa_invariant.Turns.{faults_of};
+    ghost use Rattle.mesa_metadata.specs.mesa_engine_spec.mesa_invariant_spec.Turns.{faults_of};
 
     ghost Value = { Standing };
 

@@ -5,10 +5,10 @@ use Rattle.mesa_schema.specs.declared.rows.Row.{Row}
 use Rattle.mesa_model.specs.declared.commands.Script.{Script}
 use Rattle.mesa_model.specs.declared.entries.Entry.{Entry}
 use Rattle.mesa_model.specs.Warehouse.{Table, Warehouse, content_at}
-use Rattle.mesa_history.specs.Run.{begins, nothing_there}
-use Rattle.mesa_history.specs.Replay.{runs}
-use Rattle.mesa_history.specs.Alone.{history_alone}
-use Rattle.mesa_history.specs.Law.{law_content}
+use Rattle.mesa_history_spec.specs.Run.{begins, nothing_there}
+use Rattle.mesa_history_spec.specs.Replay.{runs}
+use Rattle.mesa_history_spec.specs.Alone.{history_alone}
+use Rattle.mesa_history_spec.specs.Law.{law_content}
 use Rattle.mesa_script.specs.declared.script.ScriptError.{ScriptError}
 use Rattle.mesa_script.specs.Script.{script_of}
 use Rattle.mesa_examples.specs.Rows.{lines}

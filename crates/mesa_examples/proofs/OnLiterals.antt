@@ -6,11 +6,11 @@ use lib.Utf8.{encode}
 use Rattle.csv.proofs.OnLiterals.{csv_on_literals}
 use Rattle.csv.specs.Writing.{fields_text, is_blank, escaped}
 use Rattle.mesa_key.specs.Spelling.{before_zero}
-use Rattle.mesa_history.specs.Run.{place_of}
-use Rattle.mesa_history.specs.Replay.{turned, go, runs}
-use Rattle.mesa_history.specs.Legal.{are_fit}
-use Rattle.mesa_history.specs.Law.{carried_in, written_in}
-use Rattle.mesa_output.specs.Output.{block, output}
+use Rattle.mesa_history_spec.specs.Run.{place_of}
+use Rattle.mesa_history_spec.specs.Replay.{turned, go, runs}
+use Rattle.mesa_history_spec.specs.Legal.{are_fit}
+use Rattle.mesa_history_spec.specs.Law.{carried_in, written_in}
+use Rattle.mesa_output_spec.specs.Output.{block, output}
 
 unfoldable pub on_literals : ⊤
 unfolding csv_on_literals fields_text is_blank escaped digits is_utf8 chars encode before_zero place_of turned go runs are_fit carried_in written_in block output

@@ -5,13 +5,13 @@ use Rattle.mesa_model.specs.declared.entries.Entry.{Entry}
 use Rattle.mesa_model.specs.declared.entries.Kind.{Kind}
 use Rattle.mesa_model.specs.declared.entries.Outcome.{Outcome}
 use Rattle.mesa_model.specs.declared.entries.Outcome.TheVariants as outcome
-use Rattle.mesa_history.specs.Run.{Run, begins, nothing_there}
-use Rattle.mesa_history.specs.Replay.{told_by, is_skipped, go}
-use Rattle.mesa_history.specs.Legal.{fits_prologue, is_due, fits_renewal, fits_sink, fits_moment, fits_outcome, fits_reading, fits_writing, fits_closed, ends_well, is_legal}
-use Rattle.mesa_history.specs.Alone.{history_alone}
+use Rattle.mesa_history_spec.specs.Run.{Run, begins, nothing_there}
+use Rattle.mesa_history_spec.specs.Replay.{told_by, is_skipped, go}
+use Rattle.mesa_history_spec.specs.Legal.{fits_prologue, is_due, fits_renewal, fits_sink, fits_moment, fits_outcome, fits_reading, fits_writing, fits_closed, ends_well, is_legal}
+use Rattle.mesa_history_spec.specs.Alone.{history_alone}
 use Rattle.mesa_script.specs.declared.script.ScriptError.{ScriptError}
 use Rattle.mesa_script.specs.Script.{script_of}
-use Rattle.mesa_output.specs.Output.{output}
+use Rattle.mesa_output_spec.specs.Output.{output}
 
 -- the text of these lines, each with its line feed
 abbrev pub lines : List (List ℕ) → List ℕ

@@ -5,10 +5,10 @@ use Rattle.mesa_disk.specs.Image.{Image}
 use Rattle.mesa_disk.specs.Story.{Story}
 use Rattle.mesa_arguments.specs.declared.forms.Form.TheVariants as form
 use Rattle.mesa_check.specs.mesa_commit.Images.{Has}
-use Rattle.mesa_look.specs.mesa_projection.Rows.{Rows}
-use Rattle.mesa_check.specs.mesa_image.Catalog.{Catalog}
-use Rattle.mesa_check.specs.mesa_image.Fitting.{shelved}
-use Rattle.mesa_check.specs.mesa_image.Sound.{AreStocked, IsSound, wants}
+use Rattle.mesa_store_digest.specs.mesa_projection_laws.Rows.{Rows}
+use Rattle.mesa_check.specs.mesa_image_spec.Catalog.{Catalog}
+use Rattle.mesa_check.specs.mesa_image_spec.Fitting.{shelved}
+use Rattle.mesa_check.specs.mesa_image_spec.Sound.{AreStocked, IsSound, wants}
 use Rattle.mesa_check.specs.mesa_recover.declared.error.OpenError.{OpenError}
 use Rattle.mesa_check.specs.mesa_recover.declared.error.OpenError.TheVariants as open_error
 use Rattle.mesa_check.specs.mesa_recover.Opening.{IsSoundStart, ReadsAs}

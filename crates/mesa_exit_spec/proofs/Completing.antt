@@ -3,16 +3,16 @@ use Rattle.std.proofs.Common.{◌≡◌, ⊎_elim, inl, inr, ◌≤◌, ◌<◌,
 use Rattle.std.specs.Prelude.{IfSome, Result, Ok, Err, if◌then◌else◌}
 use Rattle.mesa_disk.specs.mesa_fault.Causes.{Rose}
 use Rattle.mesa_model.specs.declared.commands.Script.{Script}
-use Rattle.mesa_check.specs.mesa_history.Counting.{count_in, is_disk_fault, is_bench_fault}
-use Rattle.mesa_check.specs.mesa_history.Refused.{some_refused}
-use Rattle.mesa_check.specs.mesa_history.Run.{Run, begins}
+use Rattle.mesa_check.specs.mesa_history_spec.Counting.{count_in, is_disk_fault, is_bench_fault}
+use Rattle.mesa_check.specs.mesa_history_spec.Refused.{some_refused}
+use Rattle.mesa_check.specs.mesa_history_spec.Run.{Run, begins}
 use Rattle.mesa_script.specs.declared.script.ScriptError.{ScriptError}
 use Rattle.mesa_script.specs.Generated.{generated}
 use Rattle.mesa_script.specs.Script.{script_of}
 use Rattle.mesa_arguments.specs.declared.forms.Form.{Form}
 use Rattle.mesa_arguments.specs.declared.forms.Form.TheVariants as form
-use Rattle.mesa_look.specs.mesa_projection.Rows.{Rows}
-use Rattle.mesa_check.specs.mesa_image.Catalog.{Catalog}
+use Rattle.mesa_store_digest.specs.mesa_projection_laws.Rows.{Rows}
+use Rattle.mesa_check.specs.mesa_image_spec.Catalog.{Catalog}
 use Rattle.mesa_check.specs.mesa_recover.declared.error.OpenError.{OpenError}
 use Rattle.mesa_check.specs.mesa_recover.declared.error.OpenError.TheVariants as open_error
 use Rattle.mesa_check.specs.mesa_recover.Opening.{ReadsAs}
@@ -25,7 +25,7 @@ use Rattle.mesa_exit_spec.specs.Ending.{Ended, EndedOpening, Ends, EndsForm, End
 use Rattle.mesa_exit_spec.specs.Completing.{AllQuiet, AsksFor, Completes, HasRoomToRun, NothingFailed}
 use Rattle.mesa_exit_spec.specs.declared.done.Devices.{Devices}
 use Rattle.mesa_exit_spec.specs.declared.done.Done.{Done}
-use Rattle.mesa_single_session.proofs.Settled.{ends_unskipped, none_skipped}
+use Rattle.mesa_single_session_laws.proofs.Settled.{ends_unskipped, none_skipped}
 use Rattle.mesa_exit_spec.proofs.Quiet.{all_quiet, not_risen, sessions_there}
 use Rattle.mesa_exit_spec.proofs.Readable.{reads_same, sound_fits, sound_whole}
 use Rattle.mesa_exit_spec.proofs.Small.{scripts_small}

@@ -4,12 +4,12 @@ use Rattle.mesa_disk.specs.Image.{Image}
 use Rattle.mesa_disk.specs.declared.area.Area.TheVariants.{Zero}
 use Rattle.mesa_journal.specs.Journal.{IsJournal}
 use Rattle.mesa_model.specs.declared.commands.Script.{Script}
-use Rattle.mesa_check.specs.mesa_history.Run.{nothing_there}
-use Rattle.mesa_look.specs.mesa_projection.Rows.{no_rows}
-use Rattle.mesa_check.specs.mesa_image.Catalog.{empty_catalog}
-use Rattle.mesa_check.specs.mesa_image.Contents.{kept_of}
-use Rattle.mesa_check.specs.mesa_image.Fitting.{catalog_from}
-use Rattle.mesa_check.specs.mesa_image.Sound.{IsSoundAs, StandsFor}
+use Rattle.mesa_check.specs.mesa_history_spec.Run.{nothing_there}
+use Rattle.mesa_store_digest.specs.mesa_projection_laws.Rows.{no_rows}
+use Rattle.mesa_check.specs.mesa_image_spec.Catalog.{empty_catalog}
+use Rattle.mesa_check.specs.mesa_image_spec.Contents.{kept_of}
+use Rattle.mesa_check.specs.mesa_image_spec.Fitting.{catalog_from}
+use Rattle.mesa_check.specs.mesa_image_spec.Sound.{IsSoundAs, StandsFor}
 use Rattle.mesa_exit_spec.specs.Life.{kept_at_first}
 use Rattle.mesa_exit_spec.specs.Start.{start_of}
 

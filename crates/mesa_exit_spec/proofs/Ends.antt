@@ -4,10 +4,10 @@ use Rattle.std.specs.Prelude.{if◌then◌else◌}
 use Rattle.std.specs.Io.KnownBytes.{Appends}
 use Rattle.mesa_disk.specs.mesa_fault.Causes.{Rose}
 use Rattle.mesa_model.specs.declared.commands.Script.{Script}
-use Rattle.mesa_check.specs.mesa_history.Refused.{some_refused}
-use Rattle.mesa_check.specs.mesa_history.Run.{begins}
-use Rattle.mesa_look.specs.mesa_projection.Rows.{Rows}
-use Rattle.mesa_check.specs.mesa_image.Catalog.{Catalog}
+use Rattle.mesa_check.specs.mesa_history_spec.Refused.{some_refused}
+use Rattle.mesa_check.specs.mesa_history_spec.Run.{begins}
+use Rattle.mesa_store_digest.specs.mesa_projection_laws.Rows.{Rows}
+use Rattle.mesa_check.specs.mesa_image_spec.Catalog.{Catalog}
 use Rattle.mesa_check.specs.mesa_recover.declared.error.OpenError.{OpenError}
 use Rattle.mesa_exit_spec.specs.Ports.{Ports}
 use Rattle.mesa_exit_spec.specs.Exits.{memory_status, memory_line, open_line, open_status}

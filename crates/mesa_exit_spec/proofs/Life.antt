@@ -8,14 +8,14 @@ use Rattle.mesa_check.specs.mesa_schema.Folded.{folded}
 use Rattle.mesa_check.proofs.mesa_schema.Lists.{all_so}
 use Rattle.mesa_model.specs.Warehouse.{empty_warehouse}
 use Rattle.mesa_model.specs.WellFormed.{IsTable, IsWellFormed}
-use Rattle.mesa_check.specs.mesa_history.Found.{Kept, kept_in}
-use Rattle.mesa_check.specs.mesa_history.Law.{carried_in, written_in}
-use Rattle.mesa_check.specs.mesa_history.Replay.{runs}
-use Rattle.mesa_check.specs.mesa_history.Run.{Run, begins}
-use Rattle.mesa_check.specs.mesa_history.Sources.{Source, Written, rows_now, source_written, sources_to}
-use Rattle.mesa_laws.proofs.FoldLaw.{law_runs, law_starts, start_early}
-use Rattle.mesa_laws.proofs.Kept.{Law, all_written, first_written, law_late}
-use Rattle.mesa_laws.proofs.WellFormed.{empty_well, runs_well}
+use Rattle.mesa_check.specs.mesa_history_spec.Found.{Kept, kept_in}
+use Rattle.mesa_check.specs.mesa_history_spec.Law.{carried_in, written_in}
+use Rattle.mesa_check.specs.mesa_history_spec.Replay.{runs}
+use Rattle.mesa_check.specs.mesa_history_spec.Run.{Run, begins}
+use Rattle.mesa_check.specs.mesa_history_spec.Sources.{Source, Written, rows_now, source_written, sources_to}
+use Rattle.mesa_history_laws.proofs.FoldLaw.{law_runs, law_starts, start_early}
+use Rattle.mesa_history_laws.proofs.Kept.{Law, all_written, first_written, law_late}
+use Rattle.mesa_history_laws.proofs.WellFormed.{empty_well, runs_well}
 use Rattle.mesa_exit_spec.specs.Life.{LifeLaw, Stretch, kept_after, kept_at_first, kept_next, warehouse_of, written_over}
 use Rattle.mesa_exit_spec.specs.Start.{state_of}
 

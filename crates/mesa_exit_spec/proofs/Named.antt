@@ -13,18 +13,18 @@ use Rattle.mesa_check.proofs.mesa_schema.Lists.{all_append, all_at, all_drop, al
 use Rattle.mesa_check.specs.mesa_schema.Recasts.{recast_values}
 use Rattle.mesa_check.proofs.mesa_schema.PresentRows.{columns_more}
 use Rattle.mesa_model.specs.declared.commands.Script.{Script}
-use Rattle.mesa_look.specs.mesa_projection.Rows.{Rows}
+use Rattle.mesa_store_digest.specs.mesa_projection_laws.Rows.{Rows}
 use Rattle.mesa_check.specs.mesa_record.declared.record.Record.{Record}
 use Rattle.mesa_check.specs.mesa_record.declared.record.Record.TheVariants as record_of
 use Rattle.mesa_check.specs.mesa_record.declared.record.Part.{Part}
 use Rattle.mesa_check.specs.mesa_record.declared.checkpoint.StatedTable.{StatedTable}
 use Rattle.mesa_check.specs.mesa_record.declared.checkpoint.Checkpoint.{Checkpoint}
 use Rattle.mesa_check.specs.mesa_record.Rules.{IsNamed, IsTyped, IsTypedChange, IsTypedCheckpoint, IsTypedTable}
-use Rattle.mesa_check.specs.mesa_image.Catalog.{Catalog, Delta, Stock, applied, new_stock, no_stock, part_of, stock_at, stock_changed, stock_from, stock_loaded, stock_recast, stock_swapped, stocks_loaded, merged_delta, recast_in}
-use Rattle.mesa_check.specs.mesa_image.Contents.{kept_of, table_of}
-use Rattle.mesa_check.specs.mesa_image.Checkpoint.{stated, stock_stated}
-use Rattle.mesa_check.specs.mesa_image.Journaled.{catalog}
-use Rattle.mesa_check.proofs.mesa_recover.mesa_image.Wholes.{whole}
+use Rattle.mesa_check.specs.mesa_image_spec.Catalog.{Catalog, Delta, Stock, applied, new_stock, no_stock, part_of, stock_at, stock_changed, stock_from, stock_loaded, stock_recast, stock_swapped, stocks_loaded, merged_delta, recast_in}
+use Rattle.mesa_check.specs.mesa_image_spec.Contents.{kept_of, table_of}
+use Rattle.mesa_check.specs.mesa_image_spec.Checkpoint.{stated, stock_stated}
+use Rattle.mesa_check.specs.mesa_image_spec.Journaled.{catalog}
+use Rattle.mesa_check.proofs.mesa_recover.mesa_image_spec.Wholes.{whole}
 use Rattle.mesa_generate.specs.Excerpt.{ArePlainColumns, HasPlainNames, IsPlainColumn, IsPlainTable}
 use Rattle.mesa_generate.specs.Lines.{IsUnbroken}
 use Rattle.mesa_generate.proofs.Breaks.{name_unbroken}

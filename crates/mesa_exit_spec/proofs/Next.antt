@@ -7,19 +7,19 @@ use Rattle.mesa_disk.specs.Image.{Image}
 use Rattle.mesa_disk.specs.Story.{Story, Unmoved}
 use Rattle.mesa_model.specs.declared.commands.Script.{Script}
 use Rattle.mesa_model.specs.declared.entries.Entry.{Entry}
-use Rattle.mesa_check.specs.mesa_history.Found.{Kept, kept_in}
-use Rattle.mesa_check.specs.mesa_history.Replay.{runs}
-use Rattle.mesa_check.specs.mesa_history.Run.{begins}
+use Rattle.mesa_check.specs.mesa_history_spec.Found.{Kept, kept_in}
+use Rattle.mesa_check.specs.mesa_history_spec.Replay.{runs}
+use Rattle.mesa_check.specs.mesa_history_spec.Run.{begins}
 use Rattle.mesa_script.specs.declared.script.ScriptError.{ScriptError}
 use Rattle.mesa_script.specs.Generated.{generated}
 use Rattle.mesa_script.specs.Script.{script_of}
 use Rattle.mesa_arguments.specs.declared.forms.Form.{Form}
 use Rattle.mesa_arguments.specs.declared.forms.Form.TheVariants as form
-use Rattle.mesa_look.specs.mesa_projection.Rows.{Rows}
-use Rattle.mesa_invariant.specs.Invariant.{run_at}
-use Rattle.mesa_check.specs.mesa_image.Catalog.{Catalog}
-use Rattle.mesa_check.specs.mesa_image.Contents.{kept_of}
-use Rattle.mesa_check.specs.mesa_image.Sound.{StandsFor}
+use Rattle.mesa_store_digest.specs.mesa_projection_laws.Rows.{Rows}
+use Rattle.mesa_invariant_spec.specs.Invariant.{run_at}
+use Rattle.mesa_check.specs.mesa_image_spec.Catalog.{Catalog}
+use Rattle.mesa_check.specs.mesa_image_spec.Contents.{kept_of}
+use Rattle.mesa_check.specs.mesa_image_spec.Sound.{StandsFor}
 use Rattle.mesa_check.specs.mesa_recover.declared.error.OpenError.{OpenError}
 use Rattle.mesa_check.specs.mesa_recover.Opening.{IsSoundStart}
 use Rattle.mesa_exit_spec.specs.Ports.{Ports, in_memory}

@@ -10,13 +10,13 @@ use Rattle.mesa_model.specs.declared.commands.Script.{Script}
 use Rattle.mesa_model.specs.declared.entries.Entry.{Entry}
 use Rattle.mesa_model.specs.declared.entries.Outcome.{Outcome}
 use Rattle.mesa_model.specs.declared.entries.Outcome.TheVariants as outcome
-use Rattle.mesa_check.specs.mesa_history.Counting.{count_in, is_disk_fault, is_bench_fault, answers_disk, answers_bench, one_if}
-use Rattle.mesa_check.specs.mesa_history.Legal.{AllFit, is_due, is_due_of}
-use Rattle.mesa_check.specs.mesa_history.Replay.{is_skip, is_skipped, closes, go}
-use Rattle.mesa_check.specs.mesa_history.Run.{Place, Run, command_of, numbered, place_of}
-use Rattle.mesa_check.proofs.mesa_history.Places.{same_is}
+use Rattle.mesa_check.specs.mesa_history_spec.Counting.{count_in, is_disk_fault, is_bench_fault, answers_disk, answers_bench, one_if}
+use Rattle.mesa_check.specs.mesa_history_spec.Legal.{AllFit, is_due, is_due_of}
+use Rattle.mesa_check.specs.mesa_history_spec.Replay.{is_skip, is_skipped, closes, go}
+use Rattle.mesa_check.specs.mesa_history_spec.Run.{Place, Run, command_of, numbered, place_of}
+use Rattle.mesa_check.proofs.mesa_history_spec.Places.{same_is}
 use Rattle.mesa_exit_spec.specs.Completing.{is_quiet, AllQuiet}
-use Rattle.mesa_invariant.specs.Undamaged.{is_damaged, NoneDamaged}
+use Rattle.mesa_invariant_spec.specs.Undamaged.{is_damaged, NoneDamaged}
 
 -- ---- each entry is of a session that is there
 

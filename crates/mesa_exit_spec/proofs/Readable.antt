@@ -9,11 +9,11 @@ use Rattle.mesa_journal.proofs.Live.{never_damaged, one_live, same_live}
 use Rattle.mesa_check.specs.mesa_record.declared.record.Record.{Record}
 use Rattle.mesa_check.specs.mesa_record.declared.error.RecordError.{RecordError}
 use Rattle.mesa_check.specs.mesa_record.Reading.{record_at}
-use Rattle.mesa_look.specs.mesa_projection.Rows.{Rows}
-use Rattle.mesa_check.specs.mesa_image.Catalog.{Catalog}
-use Rattle.mesa_check.specs.mesa_image.Fitting.{applied_if, catalog_from, fits, read_record, then_bodies, with_body}
-use Rattle.mesa_check.specs.mesa_image.Journaled.{catalog, first_body}
-use Rattle.mesa_check.specs.mesa_image.Sound.{IsSoundAs}
+use Rattle.mesa_store_digest.specs.mesa_projection_laws.Rows.{Rows}
+use Rattle.mesa_check.specs.mesa_image_spec.Catalog.{Catalog}
+use Rattle.mesa_check.specs.mesa_image_spec.Fitting.{applied_if, catalog_from, fits, read_record, then_bodies, with_body}
+use Rattle.mesa_check.specs.mesa_image_spec.Journaled.{catalog, first_body}
+use Rattle.mesa_check.specs.mesa_image_spec.Sound.{IsSoundAs}
 use Rattle.mesa_check.specs.mesa_recover.Damages.{HasMisfit, IsCutOff, MisfitsBehind, first_place, misfit_of, place_if_none}
 use Rattle.mesa_check.specs.mesa_recover.Opening.{IsSoundStart, ReadsAs}
 use Rattle.mesa_exit_spec.proofs.Journals.{same_catalog}

@@ -11,8 +11,8 @@ use Rattle.mesa_script.specs.declared.script.ScriptError.{ScriptError}
 use Rattle.mesa_script.specs.declared.script.ScriptError.TheVariants as bad
 use Rattle.mesa_script.specs.Items.{Item, LeaseOf, NextSession, RowOf, EndOfLoad, Single}
 use Rattle.mesa_script.specs.Script.{Read, nothing_read, item_at, with_item, with_record, read_from, script_from, script_of, records_of, max_commands, max_sessions}
-use Rattle.mesa_check.specs.mesa_history.Run.{commands_of}
-use Rattle.mesa_check.proofs.mesa_history.Checks.{ok_on}
+use Rattle.mesa_check.specs.mesa_history_spec.Run.{commands_of}
+use Rattle.mesa_check.proofs.mesa_history_spec.Checks.{ok_on}
 use Rattle.mesa_exit_spec.specs.Scripts.{IsSmall, commands_in}
 
 commands_more : (xs ys : List (List Command)) → commands_in (xs ++ ys) ≡ commands_in xs + commands_in ys

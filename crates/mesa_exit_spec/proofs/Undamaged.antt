@@ -20,12 +20,12 @@ use Rattle.mesa_check.specs.mesa_delta.Spread.{blocks_of}
 use Rattle.mesa_check.specs.mesa_delta.Tail.{entries, entry, first_key, foot}
 use Rattle.mesa_check.proofs.mesa_delta.Placed.{laid}
 use Rattle.mesa_check.proofs.mesa_delta.Tailing.{foot_long}
-use Rattle.mesa_look.specs.mesa_projection.Rows.{Rows}
+use Rattle.mesa_store_digest.specs.mesa_projection_laws.Rows.{Rows}
 use Rattle.mesa_check.specs.mesa_commit.Images.{Has}
-use Rattle.mesa_check.specs.mesa_image.Catalog.{Catalog}
-use Rattle.mesa_check.specs.mesa_image.Fitting.{Shelved, shelved, stock_shelved}
-use Rattle.mesa_check.specs.mesa_image.Sound.{IsSoundAs, IsStocked, IsTold, bytes_of, layout_of, wants}
-use Rattle.mesa_check.proofs.mesa_recover.mesa_image.Lists.{all_flat}
+use Rattle.mesa_check.specs.mesa_image_spec.Catalog.{Catalog}
+use Rattle.mesa_check.specs.mesa_image_spec.Fitting.{Shelved, shelved, stock_shelved}
+use Rattle.mesa_check.specs.mesa_image_spec.Sound.{IsSoundAs, IsStocked, IsTold, bytes_of, layout_of, wants}
+use Rattle.mesa_check.proofs.mesa_recover.mesa_image_spec.Lists.{all_flat}
 use Rattle.mesa_check.specs.mesa_recover.mesa_table.declared.recorded.Recorded.{Recorded}
 use Rattle.mesa_check.specs.mesa_recover.mesa_table.Files.{recorded_of}
 use Rattle.mesa_check.specs.mesa_recover.Damages.{HasDamagedFile, IsFileDamage}

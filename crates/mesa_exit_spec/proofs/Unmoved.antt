@@ -4,8 +4,8 @@ use Rattle.mesa_disk.specs.mesa_fault.Causes.{last, Rose}
 use Rattle.mesa_disk.specs.Image.{Image}
 use Rattle.mesa_disk.specs.Story.{Story, Unmoved}
 use Rattle.mesa_disk.specs.declared.area.Area.{Area}
-use Rattle.mesa_look.specs.mesa_projection.Rows.{Rows}
-use Rattle.mesa_check.specs.mesa_image.Catalog.{Catalog}
+use Rattle.mesa_store_digest.specs.mesa_projection_laws.Rows.{Rows}
+use Rattle.mesa_check.specs.mesa_image_spec.Catalog.{Catalog}
 use Rattle.mesa_check.specs.mesa_recover.declared.error.OpenError.{OpenError}
 use Rattle.mesa_check.specs.mesa_recover.declared.error.OpenError.TheVariants as open_error
 use Rattle.mesa_check.specs.mesa_recover.Opening.{HasReason, IsRead, IsSoundStart, Keeps}

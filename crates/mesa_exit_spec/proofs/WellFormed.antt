@@ -12,14 +12,14 @@ use Rattle.mesa_check.proofs.mesa_schema.Lists.{all_map}
 use Rattle.mesa_check.proofs.mesa_schema.RisingRows.{folded_rise}
 use Rattle.mesa_model.specs.declared.commands.Script.{Script}
 use Rattle.mesa_model.specs.WellFormed.{IsContent, IsTable, IsWellFormed, is_kept, relation_names}
-use Rattle.mesa_look.specs.mesa_projection.Rows.{Rows}
-use Rattle.mesa_check.specs.mesa_image.Catalog.{Stock, Catalog}
-use Rattle.mesa_check.specs.mesa_image.Contents.{present, deltas_to, content, table_of, kept_of}
-use Rattle.mesa_check.specs.mesa_image.Fitting.{deltas_of, delta_shelved, names_in}
-use Rattle.mesa_check.specs.mesa_image.Shape.{IsShaped, IsCatalog}
-use Rattle.mesa_check.specs.mesa_image.Sound.{IsStocked, AreStocked, IsTold}
-use Rattle.mesa_check.proofs.mesa_recover.mesa_image.Formed.{AreFormed, all_formed, rows_formed, up_to}
-use Rattle.mesa_check.proofs.mesa_recover.mesa_image.Lists.{all_unflat}
+use Rattle.mesa_store_digest.specs.mesa_projection_laws.Rows.{Rows}
+use Rattle.mesa_check.specs.mesa_image_spec.Catalog.{Stock, Catalog}
+use Rattle.mesa_check.specs.mesa_image_spec.Contents.{present, deltas_to, content, table_of, kept_of}
+use Rattle.mesa_check.specs.mesa_image_spec.Fitting.{deltas_of, delta_shelved, names_in}
+use Rattle.mesa_check.specs.mesa_image_spec.Shape.{IsShaped, IsCatalog}
+use Rattle.mesa_check.specs.mesa_image_spec.Sound.{IsStocked, AreStocked, IsTold}
+use Rattle.mesa_check.proofs.mesa_recover.mesa_image_spec.Formed.{AreFormed, all_formed, rows_formed, up_to}
+use Rattle.mesa_check.proofs.mesa_recover.mesa_image_spec.Lists.{all_unflat}
 use Rattle.mesa_exit_spec.specs.Start.{start_of}
 
 content_is : (rows : Rows) (t : Stock) (floor next : ℕ) → IsShaped floor next t → IsStocked rows t → (version : ℕ) → IsContent (columns_of t.lineage) (content rows t version)

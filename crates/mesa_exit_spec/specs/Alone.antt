@@ -1,18 +1,18 @@
 -- A run of one session alone in which nothing failed and no reply tells that memory was short.
 use Rattle.std.specs.Prelude.{◌≡◌, ◌≢◌, ℕ, List, [], ◌∷◌, Bool, true, false, ◌||◌, Option, None, Some}
 use Rattle.std.specs.Io.KnownBytes.{Appends}
-use Rattle.mesa_single_session.specs.Alone.{AllTurnsStand, IsAlone, output_alone}
+use Rattle.mesa_single_session_laws.specs.Alone.{AllTurnsStand, IsAlone, output_alone}
 use Rattle.mesa_model.specs.declared.commands.Script.{Script}
 use Rattle.mesa_model.specs.declared.entries.Entry.{Entry}
 use Rattle.mesa_model.specs.declared.replies.Refusal.{Refusal}
 use Rattle.mesa_model.specs.declared.replies.Refusal.TheVariants as no
 use Rattle.mesa_model.specs.declared.replies.Reply.{Reply}
 use Rattle.mesa_model.specs.declared.replies.Reply.TheVariants as reply
-use Rattle.mesa_check.specs.mesa_history.Replay.{go, told_by}
-use Rattle.mesa_check.specs.mesa_history.Run.{Run, Told, begins}
+use Rattle.mesa_check.specs.mesa_history_spec.Replay.{go, told_by}
+use Rattle.mesa_check.specs.mesa_history_spec.Run.{Run, Told, begins}
 use Rattle.mesa_arguments.specs.declared.forms.Form.TheVariants as form
-use Rattle.mesa_look.specs.mesa_projection.Rows.{Rows}
-use Rattle.mesa_check.specs.mesa_image.Catalog.{Catalog}
+use Rattle.mesa_store_digest.specs.mesa_projection_laws.Rows.{Rows}
+use Rattle.mesa_check.specs.mesa_image_spec.Catalog.{Catalog}
 use Rattle.mesa_exit_spec.specs.Ports.{Ports}
 use Rattle.mesa_exit_spec.specs.Exits.{memory_status}
 use Rattle.mesa_exit_spec.specs.Start.{start_of}

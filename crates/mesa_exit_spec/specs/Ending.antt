@@ -6,21 +6,21 @@ use Rattle.mesa_disk.specs.Story.{Unmoved}
 use Rattle.mesa_disk.specs.mesa_file.declared.damage.Damage.{Damage}
 use Rattle.mesa_model.specs.declared.commands.Script.{Script}
 use Rattle.mesa_script.specs.declared.script.ScriptError.{ScriptError}
-use Rattle.mesa_check.specs.mesa_history.Run.{begins}
+use Rattle.mesa_check.specs.mesa_history_spec.Run.{begins}
 use Rattle.mesa_script.specs.Generated.{generated}
 use Rattle.mesa_script.specs.Script.{script_of}
 use Rattle.mesa_arguments.specs.declared.forms.Form.{Form}
 use Rattle.mesa_arguments.specs.declared.forms.Form.TheVariants as form
 use Rattle.mesa_generate.specs.Excerpt.{IsExcerpt, IsExcerptButRows, before_last_three}
-use Rattle.mesa_look.specs.mesa_projection.Rows.{Rows}
-use Rattle.mesa_check.specs.mesa_image.Catalog.{Catalog}
+use Rattle.mesa_store_digest.specs.mesa_projection_laws.Rows.{Rows}
+use Rattle.mesa_check.specs.mesa_image_spec.Catalog.{Catalog}
 use Rattle.mesa_check.specs.mesa_recover.declared.error.OpenError.{OpenError}
 use Rattle.mesa_check.specs.mesa_recover.declared.error.OpenError.TheVariants as open_error
 use Rattle.mesa_check.specs.mesa_recover.Opening.{IsSoundStart, ReadsAs}
 use Rattle.mesa_check.specs.Faults.{Fault}
 use Rattle.mesa_check.specs.Verdict.{IsFirstFault}
-use Rattle.mesa_look.specs.Latest.{CanBeLookedAt, relation_named}
-use Rattle.mesa_look.specs.Looked.{IsDigestOf}
+use Rattle.mesa_store_digest.specs.Latest.{CanBeLookedAt, relation_named}
+use Rattle.mesa_store_digest.specs.Looked.{IsDigestOf}
 use Rattle.mesa_exit_spec.specs.Ports.{Ports, in_memory}
 use Rattle.mesa_exit_spec.specs.Exits.{answered_status, digest_line, gen_line, no_table_line, no_version_line, refused_status, max_input, status_of, sink_status, usage_status, usage_line, source_status, source_line, length_status, length_line, script_status, script_line, open_status, open_line, verdict_status, verdict_line, memory_status, memory_line}
 use Rattle.mesa_exit_spec.specs.Start.{AreTold, IsSoundStore, start_of}

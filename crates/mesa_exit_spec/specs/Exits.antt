@@ -4,8 +4,8 @@ use Rattle.std.specs.Int.{w128, to_be_bytes}
 use Rattle.mesa_model.specs.mesa_filter.Hex.{hex_of}
 use Rattle.mesa_model.specs.declared.commands.Script.{Script}
 use Rattle.mesa_model.specs.declared.entries.Entry.{Entry}
-use Rattle.mesa_check.specs.mesa_history.Refused.{some_refused}
-use Rattle.mesa_check.specs.mesa_history.Run.{State, begins}
+use Rattle.mesa_check.specs.mesa_history_spec.Refused.{some_refused}
+use Rattle.mesa_check.specs.mesa_history_spec.Run.{State, begins}
 use Rattle.mesa_script.specs.declared.script.ScriptError.{ScriptError}
 use Rattle.mesa_script.specs.Errors.{error_text}
 use Rattle.mesa_script.specs.Replies.{damage_text, seen_text}

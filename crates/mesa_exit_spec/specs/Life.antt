@@ -7,11 +7,11 @@ use Rattle.mesa_model.specs.mesa_schema.Changes.{columns_of}
 use Rattle.mesa_model.specs.mesa_schema.Columns.{aggs_of}
 use Rattle.mesa_model.specs.mesa_schema.Folded.{folded}
 use Rattle.mesa_model.specs.Warehouse.{Table, Warehouse, empty_warehouse}
-use Rattle.mesa_check.specs.mesa_history.Found.{Kept, kept_in}
-use Rattle.mesa_check.specs.mesa_history.Law.{HoldsIn, written_in}
-use Rattle.mesa_check.specs.mesa_history.Run.{begins}
-use Rattle.mesa_check.specs.mesa_history.Sources.{Written, rows_now, sources_to}
-use Rattle.mesa_invariant.specs.Invariant.{run_at}
+use Rattle.mesa_check.specs.mesa_history_spec.Found.{Kept, kept_in}
+use Rattle.mesa_check.specs.mesa_history_spec.Law.{HoldsIn, written_in}
+use Rattle.mesa_check.specs.mesa_history_spec.Run.{begins}
+use Rattle.mesa_check.specs.mesa_history_spec.Sources.{Written, rows_now, sources_to}
+use Rattle.mesa_invariant_spec.specs.Invariant.{run_at}
 use Rattle.mesa_exit_spec.specs.Start.{state_of}
 
 -- A run in a store's life: its script, and those of its turns that the store has: all of them, or the ones before a crash.

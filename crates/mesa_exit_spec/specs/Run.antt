@@ -3,22 +3,22 @@ use Rattle.std.specs.Prelude.{◌≡◌, ℕ, ◌+◌, ◌<◌, ◌≤◌, List,
 use Rattle.std.specs.Io.KnownBytes.{Appends}
 use Rattle.std.specs.List.{AllByRecursion}
 use Rattle.mesa_disk.specs.mesa_fault.Causes.{last}
-use Rattle.mesa_single_session.specs.Alone.{AllTurnsStand, IsAlone, output_alone}
+use Rattle.mesa_single_session_laws.specs.Alone.{AllTurnsStand, IsAlone, output_alone}
 use Rattle.mesa_disk.specs.Image.{Image}
 use Rattle.mesa_disk.specs.Story.{Story}
 use Rattle.mesa_model.specs.declared.commands.Script.{Script}
 use Rattle.mesa_model.specs.declared.entries.Entry.{Entry}
-use Rattle.mesa_check.specs.mesa_history.Counting.{count_in, is_disk_fault}
-use Rattle.mesa_check.specs.mesa_history.Found.{kept_of}
-use Rattle.mesa_check.specs.mesa_history.Legal.{IsLegal}
-use Rattle.mesa_check.specs.mesa_history.Run.{State, begins}
-use Rattle.mesa_laws.specs.Printed.{AnswersFromTheFold}
-use Rattle.mesa_look.specs.mesa_projection.Rows.{Rows}
-use Rattle.mesa_invariant.specs.Printing.{IsPrinted, IsPrintedButRows}
-use Rattle.mesa_invariant.specs.Undamaged.{NoneDamaged}
-use Rattle.mesa_invariant.specs.Invariant.{AllFound, HasCounted, Outset, run_at}
-use Rattle.mesa_check.specs.mesa_image.Catalog.{Catalog}
-use Rattle.mesa_check.specs.mesa_image.Sound.{StandsFor}
+use Rattle.mesa_check.specs.mesa_history_spec.Counting.{count_in, is_disk_fault}
+use Rattle.mesa_check.specs.mesa_history_spec.Found.{kept_of}
+use Rattle.mesa_check.specs.mesa_history_spec.Legal.{IsLegal}
+use Rattle.mesa_check.specs.mesa_history_spec.Run.{State, begins}
+use Rattle.mesa_history_laws.specs.Printed.{AnswersFromTheFold}
+use Rattle.mesa_store_digest.specs.mesa_projection_laws.Rows.{Rows}
+use Rattle.mesa_invariant_spec.specs.Printing.{IsPrinted, IsPrintedButRows}
+use Rattle.mesa_invariant_spec.specs.Undamaged.{NoneDamaged}
+use Rattle.mesa_invariant_spec.specs.Invariant.{AllFound, HasCounted, Outset, run_at}
+use Rattle.mesa_check.specs.mesa_image_spec.Catalog.{Catalog}
+use Rattle.mesa_check.specs.mesa_image_spec.Sound.{StandsFor}
 use Rattle.mesa_check.specs.mesa_recover.Opening.{ReadsAs, most_runs}
 use Rattle.mesa_exit_spec.specs.Ports.{Ports}
 use Rattle.mesa_exit_spec.specs.Start.{IsSoundStore, start_of}

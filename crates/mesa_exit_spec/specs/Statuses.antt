@@ -11,16 +11,16 @@ use Rattle.mesa_script.specs.Generated.{generated}
 use Rattle.mesa_script.specs.Script.{script_of}
 use Rattle.mesa_arguments.specs.declared.forms.Form.{Form}
 use Rattle.mesa_arguments.specs.declared.forms.Form.TheVariants as form
-use Rattle.mesa_look.specs.mesa_projection.Rows.{Rows}
-use Rattle.mesa_check.specs.mesa_image.Catalog.{Catalog}
-use Rattle.mesa_check.specs.mesa_image.Sound.{IsSound}
+use Rattle.mesa_store_digest.specs.mesa_projection_laws.Rows.{Rows}
+use Rattle.mesa_check.specs.mesa_image_spec.Catalog.{Catalog}
+use Rattle.mesa_check.specs.mesa_image_spec.Sound.{IsSound}
 use Rattle.mesa_check.specs.mesa_recover.declared.error.OpenError.{OpenError}
 use Rattle.mesa_check.specs.mesa_recover.declared.error.OpenError.TheVariants as open_error
 use Rattle.mesa_check.specs.mesa_recover.Opening.{HasReason, ReadsAs}
 use Rattle.mesa_check.specs.Faults.{Fault}
 use Rattle.mesa_check.specs.Verdict.{IsFirstFault}
-use Rattle.mesa_look.specs.Latest.{relation_named}
-use Rattle.mesa_look.specs.Looked.{IsDigestOf}
+use Rattle.mesa_store_digest.specs.Latest.{relation_named}
+use Rattle.mesa_store_digest.specs.Looked.{IsDigestOf}
 use Rattle.mesa_exit_spec.specs.Ports.{Ports}
 use Rattle.mesa_exit_spec.specs.Exits.{digest_line, max_input, refused_status, usage_status, script_status, source_status, sink_status, length_status, open_status, status_of, verdict_status}
 use Rattle.mesa_exit_spec.specs.Start.{start_of}

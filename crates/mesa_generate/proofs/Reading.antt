@@ -4,14 +4,14 @@ use Rattle.std.specs.Prelude.{⊤, codes, if◌then◌else◌, slice_index_or, �
 use Rattle.std.specs.Fmt.{decimal}
 use Rattle.std.specs.List.{AllByRecursion}
 use Rattle.std.proofs.lemmas.List.{length-append}
-use Rattle.mesa_history.specs.mesa_span.mesa_list.Checks.{◌>>=◌, ◌>>◌, each_of, refuse_if, refuse_unless, refused_as}
-use Rattle.mesa_history.specs.mesa_span.mesa_list.Split.{entries_of}
+use Rattle.mesa_history_spec.specs.mesa_span.mesa_list.Checks.{◌>>=◌, ◌>>◌, each_of, refuse_if, refuse_unless, refused_as}
+use Rattle.mesa_history_spec.specs.mesa_span.mesa_list.Split.{entries_of}
 use Rattle.mesa_script.specs.Words.{key_words, limit_of, max_number, number_in, value_words, version_of}
 use Rattle.mesa_schema.proofs.Lists.{all_append}
 use Rattle.mesa_model.specs.declared.commands.Command.{Command}
 use Rattle.mesa_model.specs.declared.commands.Command.TheVariants as command
 use Rattle.mesa_model.specs.declared.commands.Script.{Script}
-use Rattle.mesa_history.specs.Run.{command_at, commands_of}
+use Rattle.mesa_history_spec.specs.Run.{command_at, commands_of}
 use Rattle.mesa_script.specs.declared.script.Reason.{Reason}
 use Rattle.mesa_script.specs.declared.script.Reason.TheVariants as reason
 use Rattle.mesa_script.specs.declared.script.ScriptError.{ScriptError}

@@ -4,7 +4,7 @@ use Rattle.std.specs.List.{AllByRecursion, list_all}
 use Rattle.std.specs.Prelude.{codes}
 use Rattle.std.specs.Fmt.{decimal}
 use Rattle.std.proofs.lemmas.Bool.{and_parts}
-use Rattle.mesa_history.specs.mesa_span.mesa_list.Checks.{◌>>◌, refuse_if, refuse_unless}
+use Rattle.mesa_history_spec.specs.mesa_span.mesa_list.Checks.{◌>>◌, refuse_if, refuse_unless}
 use Rattle.mesa_schema.specs.declared.columns.ValueColumn.{ValueColumn}
 use Rattle.mesa_schema.specs.declared.schema.SchemaError.{SchemaError}
 use Rattle.mesa_schema.specs.declared.schema.SchemaError.TheVariants as schema

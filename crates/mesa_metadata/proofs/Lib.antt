@@ -1,6 +1,6 @@
 pub use Rattle.mesa_catalog.proofs as mesa_catalog
-pub use Rattle.mesa_engine_state.proofs.mesa_image as mesa_image
-pub use Rattle.mesa_engine_state.proofs as mesa_engine_state
+pub use Rattle.mesa_engine_spec.proofs.mesa_image_spec as mesa_image_spec
+pub use Rattle.mesa_engine_spec.proofs as mesa_engine_spec
 pub mod Indexed
 pub mod Still
 pub mod Mapped

@@ -3,11 +3,11 @@ use Rattle.std.specs.Prelude.{ℕ, ◌+◌, ◌<◌, ◌≤◌, ◌^◌, List, �
 use Rattle.std.specs.declared.alloc.Global.{Global}
 use Rattle.mesa_trash.specs.declared.trash.Hold.{Hold}
 use Rattle.mesa_record.specs.declared.record.Record.{Record}
-use Rattle.mesa_catalog.specs.mesa_image.Fitting.{fits}
+use Rattle.mesa_catalog.specs.mesa_image_spec.Fitting.{fits}
 use Rattle.mesa_trash.specs.declared.trash.Dropped.{Dropped}
 use Rattle.mesa_catalog.specs.Kept.{Reserved}
-use Rattle.mesa_engine_state.specs.EngineState.{HeldPin, OpenQuery}
-use Rattle.mesa_engine_state.specs.Recorded.{hold_of_pin, hold_of_query}
+use Rattle.mesa_engine_spec.specs.EngineState.{HeldPin, OpenQuery}
+use Rattle.mesa_engine_spec.specs.Recorded.{hold_of_pin, hold_of_query}
 use Rattle.mesa_metadata.specs.declared.holders.Pin.{Pin}
 use Rattle.mesa_metadata.specs.declared.holders.Query.{Query}
 use Rattle.mesa_metadata.specs.declared.holders.Holders.{Holders}

@@ -14,5 +14,5 @@ mod trash;
 
 pub use holders::Pin;
 pub use mesa_catalog::{Begun, Catalog};
-pub use mesa_engine_state::Naming;
+pub use mesa_engine_spec::Naming;
 pub use metadata::Metadata;

@@ -1,9 +1,9 @@
 // The record of a turn: memory first, then a change that takes none and can't fail.
 ghost use Rattle.std.specs.Prelude.{◌≡◌, ◌+◌, ◌<◌, ◌^◌, length, IsTrue, IfOk, OnErr, OnOk, None, Some};
-ghost use Rattle.mesa_catalog.specs.mesa_image.Catalog.{applied};
-ghost use Rattle.mesa_catalog.specs.mesa_image.Fitting.{fits};
+ghost use Rattle.mesa_catalog.specs.mesa_image_spec.Catalog.{applied};
+ghost use Rattle.mesa_catalog.specs.mesa_image_spec.Fitting.{fits};
 ghost use Rattle.mesa_catalog.specs.Lookups.{generation_of, turns_generation};
-ghost use Rattle.mesa_engine_state.specs.Recorded.{failed_state, left_by, recorded_state, removed_by};
+ghost use Rattle.mesa_engine_spec.specs.Recorded.{failed_state, left_by, recorded_state, removed_by};
 ghost use Rattle.mesa_metadata.specs.Memory.{HasRoomFor, with_state};
 
 use crate::Metadata;

@@ -26,15 +26,15 @@ use Rattle.mesa_query.proofs.mesa_answer.Picked.{chosen-map}
 use Rattle.mesa_rules.proofs.mesa_catalog.Loads.{found_passes}
 use Rattle.mesa_delta.specs.declared.input.Input.{Input}
 use Rattle.mesa_disk.specs.Image.{Image}
-use Rattle.mesa_table.specs.mesa_image.Catalog.{Delta, Stock}
-use Rattle.mesa_table.specs.mesa_image.Contents.{Rows, present, rows_if_any}
-use Rattle.mesa_table.specs.mesa_image.Fitting.{delta_shelved, deltas_of}
-use Rattle.mesa_table.specs.mesa_image.Shape.{IsShaped}
-use Rattle.mesa_table.specs.mesa_image.Sound.{AreGrouped, IsGrouped, IsGroupedAs, IsStocked, IsTold}
-use Rattle.mesa_image.specs.Planned.{planned}
-use Rattle.mesa_image.proofs.Contents.{present_now}
-use Rattle.mesa_image.proofs.Formed.{AreFormed, all_formed, rows_formed}
-use Rattle.mesa_image.proofs.Lists.{all_unflat, is_equal}
+use Rattle.mesa_table.specs.mesa_image_spec.Catalog.{Delta, Stock}
+use Rattle.mesa_table.specs.mesa_image_spec.Contents.{Rows, present, rows_if_any}
+use Rattle.mesa_table.specs.mesa_image_spec.Fitting.{delta_shelved, deltas_of}
+use Rattle.mesa_table.specs.mesa_image_spec.Shape.{IsShaped}
+use Rattle.mesa_table.specs.mesa_image_spec.Sound.{AreGrouped, IsGrouped, IsGroupedAs, IsStocked, IsTold}
+use Rattle.mesa_image_spec.specs.Planned.{planned}
+use Rattle.mesa_image_spec.proofs.Contents.{present_now}
+use Rattle.mesa_image_spec.proofs.Formed.{AreFormed, all_formed, rows_formed}
+use Rattle.mesa_image_spec.proofs.Lists.{all_unflat, is_equal}
 use Rattle.mesa_query.specs.mesa_merge.Inputs.{knowns_of}
 use Rattle.mesa_plans.specs.Read.{own_file, relation_read, view_read}
 use Rattle.mesa_plans.specs.Told.{parts_under}

@@ -7,8 +7,8 @@ use Rattle.std.proofs.lemmas.Simd.{map-map}
 use Rattle.std.proofs.Math.ListN.{get_or-map as get_or-map_all}
 use Rattle.mesa_batch.specs.Glance.{Known}
 use Rattle.mesa_rules.specs.mesa_catalog.Lookups.{known_as}
-use Rattle.mesa_rules.specs.mesa_catalog.mesa_image.Catalog.{Catalog, no_stock, stock_at}
-use Rattle.mesa_rules.specs.mesa_catalog.mesa_image.Contents.{Rows, content, kept_of, table_of}
+use Rattle.mesa_rules.specs.mesa_catalog.mesa_image_spec.Catalog.{Catalog, no_stock, stock_at}
+use Rattle.mesa_rules.specs.mesa_catalog.mesa_image_spec.Contents.{Rows, content, kept_of, table_of}
 use Rattle.mesa_model.specs.Pins.{store_at, table_pinned}
 use Rattle.mesa_model.specs.Relations.{relation_columns, relation_content}
 use Rattle.mesa_model.specs.Warehouse.{Store, Table, Warehouse, content_at, no_table, table_at}

@@ -21,11 +21,11 @@ use Rattle.mesa_schema.proofs.Lists.{all_found}
 use Rattle.mesa_schema.proofs.Passing.{passed_first}
 use Rattle.mesa_query.proofs.mesa_answer.Picked.{chosen-map}
 use Rattle.mesa_rules.proofs.mesa_catalog.Loads.{found_passes}
-use Rattle.mesa_table.specs.mesa_image.Catalog.{Delta}
-use Rattle.mesa_table.specs.mesa_image.Contents.{Rows, present, rows_if_any}
-use Rattle.mesa_table.specs.mesa_image.Sound.{AreGrouped, IsGrouped, IsGroupedAs}
-use Rattle.mesa_image.proofs.Contents.{present_now}
-use Rattle.mesa_image.proofs.Lists.{is_equal}
+use Rattle.mesa_table.specs.mesa_image_spec.Catalog.{Delta}
+use Rattle.mesa_table.specs.mesa_image_spec.Contents.{Rows, present, rows_if_any}
+use Rattle.mesa_table.specs.mesa_image_spec.Sound.{AreGrouped, IsGrouped, IsGroupedAs}
+use Rattle.mesa_image_spec.proofs.Contents.{present_now}
+use Rattle.mesa_image_spec.proofs.Lists.{is_equal}
 use Rattle.mesa_plans.specs.Read.{own_file, relation_read}
 use Rattle.mesa_plans.proofs.Given.{part_of}
 use Rattle.mesa_plans.specs.Files.{files_seen, files_wanted, own_lineage, seen_by, table_wanted, view_file, view_wanted}

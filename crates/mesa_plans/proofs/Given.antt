@@ -14,11 +14,11 @@ use Rattle.mesa_delta.specs.File.{IsFile, file_bytes}
 use Rattle.mesa_delta.specs.Spread.{blocks_of}
 use Rattle.mesa_delta.specs.declared.input.Input.{Input}
 use Rattle.mesa_disk.specs.Image.{Image, file_of}
-use Rattle.mesa_table.specs.mesa_image.Catalog.{Delta}
-use Rattle.mesa_table.specs.mesa_image.Contents.{Rows}
-use Rattle.mesa_table.specs.mesa_image.Fitting.{Shelved, columns_seen, delta_shelved, files_shelved, view_shelved}
-use Rattle.mesa_table.specs.mesa_image.Sound.{IsTold, bytes_of}
-use Rattle.mesa_image.proofs.Lists.{all_unmap, is_equal}
+use Rattle.mesa_table.specs.mesa_image_spec.Catalog.{Delta}
+use Rattle.mesa_table.specs.mesa_image_spec.Contents.{Rows}
+use Rattle.mesa_table.specs.mesa_image_spec.Fitting.{Shelved, columns_seen, delta_shelved, files_shelved, view_shelved}
+use Rattle.mesa_table.specs.mesa_image_spec.Sound.{IsTold, bytes_of}
+use Rattle.mesa_image_spec.proofs.Lists.{all_unmap, is_equal}
 use Rattle.mesa_query.specs.mesa_merge.Inputs.{AreTold, known_of, knowns_of}
 use Rattle.mesa_query.specs.mesa_merge.Inputs.{IsTold as IsToldInput}
 use Rattle.mesa_plans.specs.Read.{own_file, relation_read, view_read}

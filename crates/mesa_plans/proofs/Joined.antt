@@ -13,7 +13,7 @@ use Rattle.mesa_schema.specs.declared.views.View.{View}
 use Rattle.mesa_disk.specs.Image.{Image}
 use Rattle.mesa_tasks.specs.mesa_delta.declared.input.Input.{Input}
 use Rattle.mesa_record.specs.declared.record.Files.{Files}
-use Rattle.mesa_table.specs.mesa_image.Catalog.{Delta}
+use Rattle.mesa_table.specs.mesa_image_spec.Catalog.{Delta}
 use Rattle.mesa_tasks.specs.Inputs.{AreInputsOf}
 use Rattle.mesa_tasks.specs.Opening.{HaveOpened, IsDamageOf, wanted_columns}
 use Rattle.mesa_tasks.specs.Tasks.{AreTaskViews}

@@ -1,5 +1,5 @@
 pub use Rattle.mesa_fold.proofs as mesa_fold
-pub use Rattle.mesa_image.proofs as mesa_image
+pub use Rattle.mesa_image_spec.proofs as mesa_image_spec
 pub use Rattle.mesa_schema.proofs as mesa_schema
 pub mod Parted
 pub mod Longest

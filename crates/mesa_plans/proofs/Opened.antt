@@ -8,7 +8,7 @@ use Rattle.mesa_delta.specs.declared.input.Input.{Input}
 use Rattle.mesa_disk.specs.Image.{Image}
 use Rattle.mesa_disk.specs.Story.{Story}
 use Rattle.mesa_file.specs.declared.damage.Damage.{Damage}
-use Rattle.mesa_table.specs.mesa_image.Catalog.{Delta}
+use Rattle.mesa_table.specs.mesa_image_spec.Catalog.{Delta}
 use Rattle.mesa_schema.specs.Changes.{Lineage}
 use Rattle.mesa_schema.specs.declared.views.View.{View}
 use Rattle.mesa_plans.specs.Read.{own_file, view_read}

@@ -18,8 +18,8 @@ use Rattle.mesa_order.proofs.MovedQueries.{allowed, may_ask, of_view}
 use Rattle.mesa_rules.proofs.ReadBy.{IsChosen, read_through, reads}
 use Rattle.mesa_rules.specs.Ordered.{as_read}
 use Rattle.mesa_rules.specs.declared.found.Found.{Found}
-use Rattle.mesa_table.specs.mesa_image.Catalog.{Stock}
-use Rattle.mesa_table.specs.mesa_image.Contents.{Rows, content}
+use Rattle.mesa_table.specs.mesa_image_spec.Catalog.{Stock}
+use Rattle.mesa_table.specs.mesa_image_spec.Contents.{Rows, content}
 use Rattle.mesa_tasks.specs.Pins.{view_at}
 use Rattle.mesa_plans.proofs.Reading.{IsThere, columns_read, view_seen}
 use Rattle.mesa_plans.proofs.Telling.{content_read, rows_by}

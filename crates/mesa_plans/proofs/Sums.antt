@@ -17,15 +17,15 @@ use Rattle.mesa_schema.proofs.Lists.{all_found, all_so}
 use Rattle.mesa_batch.specs.Totals.{AreAtMost, abs_total, sum_bound, sum_places}
 use Rattle.mesa_fold.proofs.Merged.{folds_totals}
 use Rattle.mesa_span.specs.Plan.{longest}
-use Rattle.mesa_table.specs.mesa_image.Catalog.{Delta, Ending, Stock, end_in, start_in}
-use Rattle.mesa_table.specs.mesa_image.Contents.{Rows, present}
-use Rattle.mesa_table.specs.mesa_image.Fitting.{base_deltas, delta_in, delta_shelved, deltas_of}
-use Rattle.mesa_table.specs.mesa_image.Shape.{IsShaped}
-use Rattle.mesa_table.specs.mesa_image.Sound.{IsMerged, IsStocked, IsTold}
-use Rattle.mesa_image.specs.Brought.{merged_of}
-use Rattle.mesa_image.specs.Planned.{behind_base, ending_at, longest_to, planned}
-use Rattle.mesa_image.proofs.Formed.{all_formed, rows_formed}
-use Rattle.mesa_image.proofs.Lists.{all_back, all_take, all_unflat}
+use Rattle.mesa_table.specs.mesa_image_spec.Catalog.{Delta, Ending, Stock, end_in, start_in}
+use Rattle.mesa_table.specs.mesa_image_spec.Contents.{Rows, present}
+use Rattle.mesa_table.specs.mesa_image_spec.Fitting.{base_deltas, delta_in, delta_shelved, deltas_of}
+use Rattle.mesa_table.specs.mesa_image_spec.Shape.{IsShaped}
+use Rattle.mesa_table.specs.mesa_image_spec.Sound.{IsMerged, IsStocked, IsTold}
+use Rattle.mesa_image_spec.specs.Brought.{merged_of}
+use Rattle.mesa_image_spec.specs.Planned.{behind_base, ending_at, longest_to, planned}
+use Rattle.mesa_image_spec.proofs.Formed.{all_formed, rows_formed}
+use Rattle.mesa_image_spec.proofs.Lists.{all_back, all_take, all_unflat}
 
 -- ---- totals of columns
 

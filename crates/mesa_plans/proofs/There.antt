@@ -10,7 +10,7 @@ use Rattle.mesa_schema.specs.Changes.{Lineage}
 use Rattle.mesa_schema.specs.Columns.{place_of}
 use Rattle.mesa_schema.specs.declared.views.View.{View}
 use Rattle.mesa_rules.specs.mesa_catalog.Lookups.{relation_from, relation_of}
-use Rattle.mesa_rules.specs.mesa_catalog.mesa_image.Catalog.{Catalog, Stock, no_stock, stock_at}
+use Rattle.mesa_rules.specs.mesa_catalog.mesa_image_spec.Catalog.{Catalog, Stock, no_stock, stock_at}
 use Rattle.mesa_plans.proofs.Reading.{IsThere}
 use Rattle.mesa_rules.specs.mesa_catalog.mesa_table.Lookups.{relation_in, view_names}
 use Rattle.mesa_rules.specs.mesa_catalog.mesa_table.declared.relation.Relation.{Relation as Place}

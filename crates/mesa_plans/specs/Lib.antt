@@ -1,7 +1,7 @@
 pub use Rattle.mesa_delta.specs.mesa_block as mesa_block
 pub use Rattle.mesa_commit.specs as mesa_commit
 pub use Rattle.mesa_fold.specs as mesa_fold
-pub use Rattle.mesa_image.specs as mesa_image
+pub use Rattle.mesa_image_spec.specs as mesa_image_spec
 pub use Rattle.mesa_list.specs as mesa_list
 pub use Rattle.mesa_record.specs as mesa_record
 pub use Rattle.mesa_schema.specs as mesa_schema

@@ -9,8 +9,8 @@ use Rattle.mesa_disk.specs.Files.{HasDistinctIds, HasOtherIds}
 use Rattle.mesa_plans.specs.mesa_commit.Turn.{made_ids}
 use Rattle.mesa_trash.specs.Filed.{AreGiven}
 use Rattle.mesa_trash.specs.Holding.{Among}
-use Rattle.mesa_catalog.specs.mesa_image.Contents.{Rows}
-use Rattle.mesa_catalog.specs.mesa_image.Fitting.{are_new_ids, has_number, run_of_id}
+use Rattle.mesa_catalog.specs.mesa_image_spec.Contents.{Rows}
+use Rattle.mesa_catalog.specs.mesa_image_spec.Fitting.{are_new_ids, has_number, run_of_id}
 use Rattle.mesa_tasks.specs.declared.made.MadeFile.{MadeFile}
 use Rattle.mesa_publishing.specs.Adopted.{told_under}
 use Rattle.mesa_publishing.specs.Published.{rows_with}

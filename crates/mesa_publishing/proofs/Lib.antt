@@ -1,6 +1,6 @@
 pub use Rattle.mesa_copy.proofs as mesa_copy
-pub use Rattle.mesa_metadata.proofs.mesa_engine_state as mesa_engine_state
-pub use Rattle.mesa_catalog.proofs.mesa_history as mesa_history
+pub use Rattle.mesa_metadata.proofs.mesa_engine_spec as mesa_engine_spec
+pub use Rattle.mesa_catalog.proofs.mesa_history_spec as mesa_history_spec
 pub use Rattle.mesa_plans.proofs as mesa_plans
 pub use Rattle.mesa_trash.proofs as mesa_trash
 pub mod KeysOnce

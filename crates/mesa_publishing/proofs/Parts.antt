@@ -21,14 +21,14 @@ use Rattle.mesa_plans.specs.mesa_block.Layout.{Layout}
 use Rattle.mesa_plans.specs.mesa_block.Rows.{IsRow}
 use Rattle.mesa_tasks.specs.mesa_delta.File.{IsFile, file_bytes}
 use Rattle.mesa_tasks.specs.mesa_delta.Summary.{IsReferenceOf, all_noted, file_layout, new_layout, values_of}
-use Rattle.mesa_catalog.specs.mesa_image.Catalog.{Delta, Stock, part_delta}
-use Rattle.mesa_catalog.specs.mesa_image.Contents.{Rows, present}
-use Rattle.mesa_catalog.specs.mesa_image.Fitting.{columns_seen, counts_columns, counts_view, files_fit, files_shelved, is_view_ref, shelved_id, view_shelved}
-use Rattle.mesa_catalog.specs.mesa_image.Sound.{AreGrouped, IsGrouped, IsGroupedAs, IsTold, wants}
+use Rattle.mesa_catalog.specs.mesa_image_spec.Catalog.{Delta, Stock, part_delta}
+use Rattle.mesa_catalog.specs.mesa_image_spec.Contents.{Rows, present}
+use Rattle.mesa_catalog.specs.mesa_image_spec.Fitting.{columns_seen, counts_columns, counts_view, files_fit, files_shelved, is_view_ref, shelved_id, view_shelved}
+use Rattle.mesa_catalog.specs.mesa_image_spec.Sound.{AreGrouped, IsGrouped, IsGroupedAs, IsTold, wants}
 use Rattle.mesa_plans.specs.mesa_commit.Turn.{told_files}
-use Rattle.mesa_catalog.specs.mesa_image.Brought.{Brings}
-use Rattle.mesa_catalog.proofs.mesa_image.Contents.{present_now}
-use Rattle.mesa_catalog.proofs.mesa_image.Lifted.{columns_now}
+use Rattle.mesa_catalog.specs.mesa_image_spec.Brought.{Brings}
+use Rattle.mesa_catalog.proofs.mesa_image_spec.Contents.{present_now}
+use Rattle.mesa_catalog.proofs.mesa_image_spec.Lifted.{columns_now}
 use Rattle.mesa_tasks.specs.Made.{AreMadeFiles, AreMadeViews, IsMadeFile, content_of}
 use Rattle.mesa_tasks.specs.declared.made.MadeFile.{MadeFile}
 use Rattle.mesa_tasks.specs.declared.made.MadeFiles.{MadeFiles}

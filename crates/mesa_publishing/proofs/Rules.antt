@@ -39,9 +39,9 @@ use Rattle.mesa_tasks.specs.mesa_delta.File.{IsFile}
 use Rattle.mesa_tasks.specs.mesa_delta.Spread.{spread}
 use Rattle.mesa_tasks.specs.mesa_delta.Summary.{IsReferenceOf, last_key, new_layout}
 use Rattle.mesa_tasks.specs.mesa_delta.Tail.{first_key}
-use Rattle.mesa_catalog.specs.mesa_image.Catalog.{Catalog, Stock, stock_at}
-use Rattle.mesa_catalog.specs.mesa_image.Shape.{IsCatalog, IsShaped}
-use Rattle.mesa_catalog.proofs.mesa_image.Lists.{both_true, is_equal}
+use Rattle.mesa_catalog.specs.mesa_image_spec.Catalog.{Catalog, Stock, stock_at}
+use Rattle.mesa_catalog.specs.mesa_image_spec.Shape.{IsCatalog, IsShaped}
+use Rattle.mesa_catalog.proofs.mesa_image_spec.Lists.{both_true, is_equal}
 use Rattle.mesa_catalog.specs.Lookups.{known_as, sight_of}
 use Rattle.mesa_tasks.specs.Batches.{AreParts, HasFiles, Share, share_of, shares, shares_from}
 use Rattle.mesa_tasks.specs.Made.{AreMadeFiles, AreMadeViews, IsMadeFile, content_of}

@@ -26,16 +26,16 @@ use Rattle.mesa_record.specs.declared.record.Part.{Part}
 use Rattle.mesa_record.specs.declared.record.Record.{Record}
 use Rattle.mesa_record.specs.declared.record.Record.TheVariants as record_of
 use Rattle.mesa_record.specs.Rules.{keeps_rules}
-use Rattle.mesa_catalog.specs.mesa_image.Catalog.{Catalog, Stock, no_stock, stock_at}
-use Rattle.mesa_catalog.specs.mesa_image.Fitting.{are_new_ids, brings_new_files, brought, fits, is_there, part_fits, publish_fits}
-use Rattle.mesa_catalog.specs.mesa_image.Shape.{IsCatalog}
-use Rattle.mesa_catalog.specs.mesa_image.Sound.{wants}
-use Rattle.mesa_catalog.specs.mesa_image.Brought.{AreTold}
-use Rattle.mesa_catalog.specs.mesa_image.Ids.{brought_ids, named}
-use Rattle.mesa_catalog.specs.mesa_image.Sourced.{tables_read}
+use Rattle.mesa_catalog.specs.mesa_image_spec.Catalog.{Catalog, Stock, no_stock, stock_at}
+use Rattle.mesa_catalog.specs.mesa_image_spec.Fitting.{are_new_ids, brings_new_files, brought, fits, is_there, part_fits, publish_fits}
+use Rattle.mesa_catalog.specs.mesa_image_spec.Shape.{IsCatalog}
+use Rattle.mesa_catalog.specs.mesa_image_spec.Sound.{wants}
+use Rattle.mesa_catalog.specs.mesa_image_spec.Brought.{AreTold}
+use Rattle.mesa_catalog.specs.mesa_image_spec.Ids.{brought_ids, named}
+use Rattle.mesa_catalog.specs.mesa_image_spec.Sourced.{tables_read}
 use Rattle.mesa_catalog.specs.Lookups.{known_as, sight_of}
-use Rattle.mesa_metadata.specs.mesa_engine_state.EngineState.{EngineState, first_id, most_files, next_id, projection_of}
-use Rattle.mesa_metadata.proofs.mesa_engine_state.Changing.{tables_are}
+use Rattle.mesa_metadata.specs.mesa_engine_spec.EngineState.{EngineState, first_id, most_files, next_id, projection_of}
+use Rattle.mesa_metadata.proofs.mesa_engine_spec.Changing.{tables_are}
 use Rattle.mesa_tasks.specs.Batches.{AreParts, IsPrepared, is_over, shares, shares_from}
 use Rattle.mesa_tasks.specs.declared.made.MadeFile.{MadeFile}
 use Rattle.mesa_tasks.specs.declared.prepared.Prepared.{Prepared}

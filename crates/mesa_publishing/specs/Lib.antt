@@ -1,8 +1,8 @@
 pub use Rattle.mesa_trash.specs.mesa_commit as mesa_commit
 pub use Rattle.mesa_copy.specs.mesa_compact as mesa_compact
 pub use Rattle.mesa_copy.specs as mesa_copy
-pub use Rattle.mesa_metadata.specs.mesa_engine_state as mesa_engine_state
-pub use Rattle.mesa_tasks.specs.mesa_history as mesa_history
+pub use Rattle.mesa_metadata.specs.mesa_engine_spec as mesa_engine_spec
+pub use Rattle.mesa_tasks.specs.mesa_history_spec as mesa_history_spec
 pub use Rattle.mesa_list.specs as mesa_list
 pub use Rattle.mesa_plans.specs as mesa_plans
 pub use Rattle.mesa_trash.specs as mesa_trash

@@ -15,17 +15,17 @@ use Rattle.mesa_model.specs.declared.replies.Reply.TheVariants as reply
 use Rattle.mesa_record.specs.declared.record.Part.{Part}
 use Rattle.mesa_record.specs.declared.record.Record.TheVariants as record_of
 use Rattle.mesa_record.specs.Rules.{keeps_rules}
-use Rattle.mesa_catalog.specs.mesa_image.Catalog.{Catalog}
-use Rattle.mesa_catalog.specs.mesa_image.Contents.{Rows}
-use Rattle.mesa_catalog.specs.mesa_image.Fitting.{brought, fits}
-use Rattle.mesa_catalog.specs.mesa_image.Sound.{wants}
-use Rattle.mesa_catalog.specs.mesa_image.Brought.{AreTold, BringsAll}
-use Rattle.mesa_catalog.specs.mesa_image.Ids.{brought_ids}
+use Rattle.mesa_catalog.specs.mesa_image_spec.Catalog.{Catalog}
+use Rattle.mesa_catalog.specs.mesa_image_spec.Contents.{Rows}
+use Rattle.mesa_catalog.specs.mesa_image_spec.Fitting.{brought, fits}
+use Rattle.mesa_catalog.specs.mesa_image_spec.Sound.{wants}
+use Rattle.mesa_catalog.specs.mesa_image_spec.Brought.{AreTold, BringsAll}
+use Rattle.mesa_catalog.specs.mesa_image_spec.Ids.{brought_ids}
 use Rattle.mesa_catalog.specs.Lookups.{sight_of}
-use Rattle.mesa_metadata.specs.mesa_projection.Rows.{no_rows}
+use Rattle.mesa_metadata.specs.mesa_projection_laws.Rows.{no_rows}
 use Rattle.mesa_tasks.specs.Batches.{Share, shares}
-use Rattle.mesa_metadata.specs.mesa_engine_state.EngineState.{EngineState, books_of, next_id}
-use Rattle.mesa_metadata.specs.mesa_engine_state.Recorded.{Adopts}
+use Rattle.mesa_metadata.specs.mesa_engine_spec.EngineState.{EngineState, books_of, next_id}
+use Rattle.mesa_metadata.specs.mesa_engine_spec.Recorded.{Adopts}
 use Rattle.mesa_publishing.specs.declared.publishing.Published.{Published}
 
 -- ---- the rows that a batch brings

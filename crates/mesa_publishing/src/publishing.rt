@@ -7,12 +7,12 @@ ghost use Rattle.mesa_model.specs.Warehouse.{max_versions};
 ghost use Rattle.mesa_model.specs.declared.replies.Refusal.TheVariants as no;
 ghost use Rattle.mesa_publishing.specs.declared.failure.Unpublished.TheVariants.{Refused};
 ghost use Rattle.mesa_trash.specs.Holding.{Among};
-ghost use Rattle.mesa_catalog.specs.mesa_image.Shape.{IsCatalog};
-ghost use Rattle.mesa_catalog.specs.mesa_image.Ids.{named};
-ghost use Rattle.mesa_catalog.specs.mesa_image.Sourced.{tables_read};
+ghost use Rattle.mesa_catalog.specs.mesa_image_spec.Shape.{IsCatalog};
+ghost use Rattle.mesa_catalog.specs.mesa_image_spec.Ids.{named};
+ghost use Rattle.mesa_catalog.specs.mesa_image_spec.Sourced.{tables_read};
 ghost use Rattle.mesa_catalog.specs.Lookups.{sight_of};
 ghost use Rattle.mesa_tasks.specs.Batches.{IsPrepared};
-ghost use Rattle.mesa_metadata.specs.mesa_engine_state.EngineState.{most_files, next_id};
+ghost use Rattle.mesa_metadata.specs.mesa_engine_spec.EngineState.{most_files, next_id};
 ghost use Rattle.mesa_publishing.specs.Bounds.{IsDue};
 ghost use Rattle.mesa_publishing.specs.Published.{IsLoaded, IsPublished, bare_of};
 

@@ -3,11 +3,11 @@ ghost use Rattle.std.specs.Prelude.{◌≡◌, ◌+◌, ◌<◌, ◌^◌, ◌++�
 ghost use Rattle.std.specs.List.{AllByRecursion};
 ghost use Rattle.mesa_disk.specs.Files.{files_of};
 ghost use Rattle.mesa_plans.specs.Ranges.{HoldsAll};
-ghost use Rattle.mesa_metadata.specs.mesa_image.Shape.{IsCatalog};
-ghost use Rattle.mesa_metadata.specs.mesa_image.Countable.{AreCounted};
-ghost use Rattle.mesa_metadata.specs.mesa_image.Ids.{named};
-ghost use Rattle.mesa_metadata.specs.mesa_image.Recordable.{AreRecordable};
-ghost use Rattle.mesa_metadata.specs.mesa_engine_state.EngineState.{most_files, next_id};
+ghost use Rattle.mesa_metadata.specs.mesa_image_spec.Shape.{IsCatalog};
+ghost use Rattle.mesa_metadata.specs.mesa_image_spec.Countable.{AreCounted};
+ghost use Rattle.mesa_metadata.specs.mesa_image_spec.Ids.{named};
+ghost use Rattle.mesa_metadata.specs.mesa_image_spec.Recordable.{AreRecordable};
+ghost use Rattle.mesa_metadata.specs.mesa_engine_spec.EngineState.{most_files, next_id};
 ghost use Rattle.mesa_publishing.specs.Adopted.{ref_under, told_under};
 ghost use Rattle.mesa_schema.specs.Recasts.{recast_checked};
 ghost use Rattle.mesa_table.specs.Meaning.{AreLoaded, ending_of};

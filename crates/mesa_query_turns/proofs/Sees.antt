@@ -8,9 +8,9 @@ use Rattle.mesa_engine.specs.mesa_catalog.Lookups.{known_as}
 use Rattle.mesa_filter.specs.declared.words.QueryWords.{QueryWords}
 use Rattle.mesa_filter.specs.declared.words.VersionWord.{VersionWord}
 use Rattle.mesa_filter.specs.declared.words.VersionWord.TheVariants as asks
-use Rattle.mesa_engine.specs.mesa_catalog.mesa_image.Catalog.{Catalog}
-use Rattle.mesa_engine.specs.mesa_engine_state.EngineState.{HeldPin, EngineState, bare_held, books_of, projection_at, projection_of, projections, projections_at}
-use Rattle.mesa_engine.specs.mesa_engine_state.Turned.{is_held_pin}
+use Rattle.mesa_engine.specs.mesa_catalog.mesa_image_spec.Catalog.{Catalog}
+use Rattle.mesa_engine.specs.mesa_engine_spec.EngineState.{HeldPin, EngineState, bare_held, books_of, projection_at, projection_of, projections, projections_at}
+use Rattle.mesa_engine.specs.mesa_engine_spec.Turned.{is_held_pin}
 use Rattle.mesa_plans.specs.mesa_list.Checks.{◌>>=◌, ◌>>◌}
 use Rattle.mesa_model.specs.Pins.{is_pin}
 use Rattle.mesa_model.specs.Query.{Answer, query_answer, store_asked, version_seen}
@@ -22,7 +22,7 @@ use Rattle.mesa_model.specs.declared.replies.Refusal.TheVariants as no
 use Rattle.mesa_rules.proofs.Seen.{oldest_there}
 use Rattle.mesa_rules.specs.Found.{Sees, of_catalog, version_in}
 use Rattle.mesa_rules.specs.Seen.{HasCatalog, known_in, known_of}
-use Rattle.mesa_engine.specs.mesa_projection.Rows.{Rows}
+use Rattle.mesa_engine.specs.mesa_projection_laws.Rows.{Rows}
 
 -- the tables of a catalogue without their contents
 known_projections : (c : Catalog) → known_in (projections c) ≡ map known_as c.tables

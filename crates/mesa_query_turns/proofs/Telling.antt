@@ -17,20 +17,20 @@ use Rattle.mesa_filter.specs.Query.{BuiltQuery, IsQueryOf, group_kinds}
 use Rattle.mesa_filter.specs.declared.words.QueryWords.{QueryWords}
 use Rattle.mesa_filter.specs.declared.words.VersionWord.{VersionWord}
 use Rattle.mesa_filter.specs.declared.words.VersionWord.TheVariants as asks
-use Rattle.mesa_engine.specs.mesa_history.Run.{First, State}
-use Rattle.mesa_engine.specs.mesa_history.Turns.{IsDue}
-use Rattle.mesa_engine.specs.mesa_catalog.mesa_image.Catalog.{Catalog, no_stock, stock_at}
-use Rattle.mesa_engine.specs.mesa_catalog.mesa_image.Fitting.{delta_shelved, deltas_of, shelved}
-use Rattle.mesa_engine.proofs.mesa_engine_state.mesa_image.Lists.{all_unflat}
-use Rattle.mesa_engine.specs.mesa_engine_state.mesa_image.Planned.{planned}
-use Rattle.mesa_engine.specs.mesa_catalog.mesa_image.Shape.{IsCatalog, IsShaped}
-use Rattle.mesa_engine.specs.mesa_catalog.mesa_image.Sound.{AreStocked, IsStocked, wants}
-use Rattle.mesa_engine.proofs.mesa_engine_state.Holding.{pins_of}
-use Rattle.mesa_engine.proofs.mesa_engine_state.Lists.{map_all}
-use Rattle.mesa_engine.proofs.mesa_engine_state.Staying.{there_now}
-use Rattle.mesa_engine.specs.mesa_engine_state.EngineState.{HeldPin, Holder, EngineState, books_of, files_held, holders}
-use Rattle.mesa_engine.specs.mesa_engine_state.Turned.{is_held_pin}
-use Rattle.mesa_engine.specs.mesa_engine_state.Vault.{Origin, Starts, IsVault, IsVaultAt, outset_of}
+use Rattle.mesa_engine.specs.mesa_history_spec.Run.{First, State}
+use Rattle.mesa_engine.specs.mesa_history_spec.Turns.{IsDue}
+use Rattle.mesa_engine.specs.mesa_catalog.mesa_image_spec.Catalog.{Catalog, no_stock, stock_at}
+use Rattle.mesa_engine.specs.mesa_catalog.mesa_image_spec.Fitting.{delta_shelved, deltas_of, shelved}
+use Rattle.mesa_engine.proofs.mesa_engine_spec.mesa_image_spec.Lists.{all_unflat}
+use Rattle.mesa_engine.specs.mesa_engine_spec.mesa_image_spec.Planned.{planned}
+use Rattle.mesa_engine.specs.mesa_catalog.mesa_image_spec.Shape.{IsCatalog, IsShaped}
+use Rattle.mesa_engine.specs.mesa_catalog.mesa_image_spec.Sound.{AreStocked, IsStocked, wants}
+use Rattle.mesa_engine.proofs.mesa_engine_spec.Holding.{pins_of}
+use Rattle.mesa_engine.proofs.mesa_engine_spec.Lists.{map_all}
+use Rattle.mesa_engine.proofs.mesa_engine_spec.Staying.{there_now}
+use Rattle.mesa_engine.specs.mesa_engine_spec.EngineState.{HeldPin, Holder, EngineState, books_of, files_held, holders}
+use Rattle.mesa_engine.specs.mesa_engine_spec.Turned.{is_held_pin}
+use Rattle.mesa_engine.specs.mesa_engine_spec.Vault.{Origin, Starts, IsVault, IsVaultAt, outset_of}
 use Rattle.mesa_model.specs.Page.{page_of}
 use Rattle.mesa_model.specs.Query.{Answer, answer_rows, query_answer}
 use Rattle.mesa_model.specs.Warehouse.{Warehouse}
@@ -50,15 +50,15 @@ use Rattle.mesa_plans.proofs.Unsound.{seen_sound}
 use Rattle.mesa_plans.specs.Read.{relation_read}
 use Rattle.mesa_plans.proofs.Among.{all_planned}
 use Rattle.mesa_rules.specs.Found.{answer_found}
-use Rattle.mesa_engine.proofs.mesa_projection.Steps.{query-bare}
-use Rattle.mesa_engine.specs.mesa_projection.Bare.{bare_answer, bare_result}
-use Rattle.mesa_engine.specs.mesa_projection.Rows.{Rows, no_rows}
+use Rattle.mesa_engine.proofs.mesa_projection_laws.Steps.{query-bare}
+use Rattle.mesa_engine.specs.mesa_projection_laws.Bare.{bare_answer, bare_result}
+use Rattle.mesa_engine.specs.mesa_projection_laws.Rows.{Rows, no_rows}
 use Rattle.mesa_tasks.specs.declared.querying.Pinned.{Pinned}
 use Rattle.mesa_trash.specs.Filed.{PinFiles}
-use Rattle.mesa_engine.specs.mesa_engine_state.mesa_invariant.Books.{AreBooksOf}
-use Rattle.mesa_engine.specs.mesa_engine_state.mesa_invariant.Queries.{IsOpen, IsPinned}
-use Rattle.mesa_engine.specs.mesa_engine_state.mesa_invariant.Turns.{entry}
-use Rattle.mesa_engine.specs.mesa_engine_state.mesa_invariant.Invariant.{Outset, Counts, run_at}
+use Rattle.mesa_engine.specs.mesa_engine_spec.mesa_invariant_spec.Books.{AreBooksOf}
+use Rattle.mesa_engine.specs.mesa_engine_spec.mesa_invariant_spec.Queries.{IsOpen, IsPinned}
+use Rattle.mesa_engine.specs.mesa_engine_spec.mesa_invariant_spec.Turns.{entry}
+use Rattle.mesa_engine.specs.mesa_engine_spec.mesa_invariant_spec.Invariant.{Outset, Counts, run_at}
 
 -- ---- the catalogue that a query sees
 

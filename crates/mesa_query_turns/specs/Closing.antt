@@ -3,19 +3,19 @@ use Rattle.std.specs.Prelude.{◌≡◌, ℕ, List, Option, None, Some, Result, 
 use Rattle.mesa_delta.specs.declared.error.FileError.{FileError}
 use Rattle.mesa_delta.specs.declared.error.FileError.TheVariants as file_error
 use Rattle.mesa_filter.specs.declared.words.QueryWords.{QueryWords}
-use Rattle.mesa_engine.specs.mesa_history.Run.{Run}
+use Rattle.mesa_engine.specs.mesa_history_spec.Run.{Run}
 use Rattle.mesa_engine.specs.Printing.{page_text}
 use Rattle.mesa_model.specs.Query.{Answer}
 use Rattle.mesa_model.specs.declared.commands.Script.{Script}
 use Rattle.mesa_model.specs.declared.entries.Entry.{Entry}
 use Rattle.mesa_model.specs.declared.entries.Kind.TheVariants as kind
 use Rattle.mesa_model.specs.declared.replies.Page.{Page}
-use Rattle.mesa_engine.specs.mesa_output.Output.{block}
+use Rattle.mesa_engine.specs.mesa_output_spec.Output.{block}
 use Rattle.mesa_script.specs.Rows.{rendered}
 use Rattle.mesa_script.specs.declared.rendered.Rendered.{Rendered}
-use Rattle.mesa_engine.specs.mesa_engine_state.mesa_invariant.Causes.{Cause, Unread, Damaged, NoMemory, reply_of, told_at}
-use Rattle.mesa_engine.specs.mesa_engine_state.mesa_invariant.Queries.{IsOpenFrom, closing_outcome}
-use Rattle.mesa_engine.specs.mesa_engine_state.mesa_invariant.Turns.{entry}
+use Rattle.mesa_engine.specs.mesa_engine_spec.mesa_invariant_spec.Causes.{Cause, Unread, Damaged, NoMemory, reply_of, told_at}
+use Rattle.mesa_engine.specs.mesa_engine_spec.mesa_invariant_spec.Queries.{IsOpenFrom, closing_outcome}
+use Rattle.mesa_engine.specs.mesa_engine_spec.mesa_invariant_spec.Turns.{entry}
 
 -- A session's query was answered at a position and isn't closed yet, and this is told of its answer.
 pub record IsToClose (script : Script) (r : Run) (session number position : ℕ) (tells : Answer → Type 0) : Type 0 where

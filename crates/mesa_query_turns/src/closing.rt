@@ -2,20 +2,20 @@
 ghost use Rattle.std.specs.Prelude.{◌≡◌, ◌<◌, ◌≤◌, ◌||◌, ◌++◌, ◌∷◌, [], true, false, not, is_some, length, vec_capacity, vec_len, IfErr};
 ghost use Rattle.mesa_query_turns.specs.Closing.{IsPageOf, IsSomePageOf, IsToClose, cause_if, cause_of, closing_entry, closing_text};
 ghost use Rattle.mesa_tasks.specs.Errors.{HasDiffered};
-ghost use Rattle.mesa_engine.specs.mesa_history.Run.{Finished};
-ghost use Rattle.mesa_engine.specs.mesa_engine_state.Turned.{answered_state};
+ghost use Rattle.mesa_engine.specs.mesa_history_spec.Run.{Finished};
+ghost use Rattle.mesa_engine.specs.mesa_engine_spec.Turned.{answered_state};
 ghost use Rattle.mesa_engine.specs.Failure.{cause_in};
 ghost use Rattle.mesa_engine.specs.Printing.{GoesOn};
 ghost use Rattle.mesa_engine.specs.mesa_metadata.Memory.{is_of_another};
 ghost use Rattle.mesa_model.specs.Entry.{IsShort};
 ghost use Rattle.mesa_model.specs.declared.entries.Kind.TheVariants as kind;
-ghost use Rattle.mesa_engine.specs.mesa_projection.Rows.{Rows, no_rows};
+ghost use Rattle.mesa_engine.specs.mesa_projection_laws.Rows.{Rows, no_rows};
 ghost use Rattle.mesa_tasks.specs.GivingBack.{SomeFailed, pinned_inputs};
-ghost use Rattle.mesa_engine.specs.mesa_engine_state.mesa_invariant.Printing.{IsPut};
-ghost use Rattle.mesa_engine.specs.mesa_engine_state.mesa_invariant.Queries.{closing_fault, closing_outcome};
-ghost use Rattle.mesa_engine.specs.mesa_engine_state.mesa_invariant.Turns.{AnswersDisk, SomeRose, Takes};
-ghost use Rattle.mesa_engine.specs.mesa_engine_state.mesa_invariant.Undamaged.{is_damaged};
-ghost use Rattle.mesa_engine.specs.mesa_engine_state.mesa_invariant.Invariant.{run_at};
+ghost use Rattle.mesa_engine.specs.mesa_engine_spec.mesa_invariant_spec.Printing.{IsPut};
+ghost use Rattle.mesa_engine.specs.mesa_engine_spec.mesa_invariant_spec.Queries.{closing_fault, closing_outcome};
+ghost use Rattle.mesa_engine.specs.mesa_engine_spec.mesa_invariant_spec.Turns.{AnswersDisk, SomeRose, Takes};
+ghost use Rattle.mesa_engine.specs.mesa_engine_spec.mesa_invariant_spec.Undamaged.{is_damaged};
+ghost use Rattle.mesa_engine.specs.mesa_engine_spec.mesa_invariant_spec.Invariant.{run_at};
 
 use crate::damages::may_be_told;
 use crate::give_back;

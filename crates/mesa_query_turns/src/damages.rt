@@ -3,8 +3,8 @@ ghost use Rattle.std.specs.Prelude.{◌≡◌, ◌<◌, ◌^◌, length, IfErr};
 ghost use Rattle.mesa_tasks.specs.Errors.{Differs, HasDiffered};
 ghost use Rattle.mesa_query_turns.specs.Closing.{cause_if};
 ghost use Rattle.mesa_disk.specs.mesa_key.Spelling.{AreBytes};
-ghost use Rattle.mesa_engine.specs.mesa_output.Output.{IsDamage, IsSeen};
-ghost use Rattle.mesa_engine.specs.mesa_engine_state.mesa_invariant.Queries.{MayClose};
+ghost use Rattle.mesa_engine.specs.mesa_output_spec.Output.{IsDamage, IsSeen};
+ghost use Rattle.mesa_engine.specs.mesa_engine_spec.mesa_invariant_spec.Queries.{MayClose};
 
 use mesa_delta::FileError;
 use mesa_file::{Damage, Seen};

@@ -1,17 +1,17 @@
 // A query's first turn.
 ghost use Rattle.std.specs.Prelude.{◌≡◌, ◌<◌, true, length, IfNone, IfSome, OnSome};
 ghost use Rattle.mesa_query_turns.specs.Opening.{HasItsFiles, IsHeaded, asked_state};
-ghost use Rattle.mesa_engine.specs.mesa_history.Run.{First, Finished};
-ghost use Rattle.mesa_engine.specs.mesa_history.Turns.{IsDue};
+ghost use Rattle.mesa_engine.specs.mesa_history_spec.Run.{First, Finished};
+ghost use Rattle.mesa_engine.specs.mesa_history_spec.Turns.{IsDue};
 ghost use Rattle.mesa_model.specs.declared.commands.Command.TheVariants as command;
 ghost use Rattle.mesa_model.specs.declared.entries.Kind.TheVariants as kind;
 ghost use Rattle.mesa_plans.specs.Told.{Tells};
 ghost use Rattle.mesa_model.specs.mesa_schema.Columns.{Columns};
-ghost use Rattle.mesa_engine.specs.mesa_projection.Rows.{no_rows};
+ghost use Rattle.mesa_engine.specs.mesa_projection_laws.Rows.{no_rows};
 ghost use Rattle.mesa_tasks.specs.Pins.{IsPinned};
-ghost use Rattle.mesa_engine.specs.mesa_engine_state.mesa_invariant.Queries.{IsOpen};
-ghost use Rattle.mesa_engine.specs.mesa_engine_state.mesa_invariant.Turns.{AnswersDisk, IsSeen, IsTurn, SomeRose, Takes};
-ghost use Rattle.mesa_engine.specs.mesa_engine_state.mesa_invariant.Invariant.{run_at};
+ghost use Rattle.mesa_engine.specs.mesa_engine_spec.mesa_invariant_spec.Queries.{IsOpen};
+ghost use Rattle.mesa_engine.specs.mesa_engine_spec.mesa_invariant_spec.Turns.{AnswersDisk, IsSeen, IsTurn, SomeRose, Takes};
+ghost use Rattle.mesa_engine.specs.mesa_engine_spec.mesa_invariant_spec.Invariant.{run_at};
 
 use crate::holding::hold_files;
 use mesa_disk::{Disk, Made};

@@ -2,9 +2,9 @@
 ghost use Rattle.std.specs.Prelude.{◌≡◌, Err, IfErr, IfOk, None, Some};
 ghost use Rattle.mesa_query_turns.specs.Seeing.{SeesBooks, catalogue_asked, pinned_asked};
 ghost use Rattle.mesa_filter.specs.declared.words.QueryWords.{QueryWords as AnyWords};
-ghost use Rattle.mesa_engine.specs.mesa_engine_state.EngineState.{books_of};
+ghost use Rattle.mesa_engine.specs.mesa_engine_spec.EngineState.{books_of};
 ghost use Rattle.mesa_model.specs.Query.{query_answer};
-ghost use Rattle.mesa_engine.specs.mesa_projection.Rows.{Rows};
+ghost use Rattle.mesa_engine.specs.mesa_projection_laws.Rows.{Rows};
 
 use mesa_engine::{Catalog, Metadata};
 use mesa_filter::VersionWord;

@@ -6,16 +6,16 @@ use Rattle.mesa_model.specs.declared.commands.Command.{Command}
 use Rattle.mesa_model.specs.declared.commands.Command.TheVariants as command
 use Rattle.mesa_model.specs.declared.entries.Entry.{Entry}
 use Rattle.mesa_model.specs.declared.entries.Kind.TheVariants as kind
-use Rattle.mesa_engine.specs.mesa_history.Replay.{is_skip}
-use Rattle.mesa_engine.specs.mesa_history.Run.{First}
-use Rattle.mesa_engine.specs.mesa_history.Turns.{IsDue}
-use Rattle.mesa_engine.specs.mesa_engine_state.mesa_invariant.Turns.{entry, is_load, looking}
-use Rattle.mesa_engine.specs.mesa_engine_state.mesa_invariant.Invariant.{Outset, run_of}
-use Rattle.mesa_engine.proofs.mesa_engine_state.mesa_invariant.Reading.{look_turn}
-use Rattle.mesa_engine.proofs.mesa_engine_state.mesa_invariant.Turning.{stays}
-use Rattle.mesa_engine.specs.mesa_engine_state.EngineState.{EngineState, books_of}
-use Rattle.mesa_engine.specs.mesa_engine_state.Vault.{Origin, IsVault}
-use Rattle.mesa_engine.proofs.mesa_engine_state.Staying.{still_vault}
+use Rattle.mesa_engine.specs.mesa_history_spec.Replay.{is_skip}
+use Rattle.mesa_engine.specs.mesa_history_spec.Run.{First}
+use Rattle.mesa_engine.specs.mesa_history_spec.Turns.{IsDue}
+use Rattle.mesa_engine.specs.mesa_engine_spec.mesa_invariant_spec.Turns.{entry, is_load, looking}
+use Rattle.mesa_engine.specs.mesa_engine_spec.mesa_invariant_spec.Invariant.{Outset, run_of}
+use Rattle.mesa_engine.proofs.mesa_engine_spec.mesa_invariant_spec.Reading.{look_turn}
+use Rattle.mesa_engine.proofs.mesa_engine_spec.mesa_invariant_spec.Turning.{stays}
+use Rattle.mesa_engine.specs.mesa_engine_spec.EngineState.{EngineState, books_of}
+use Rattle.mesa_engine.specs.mesa_engine_spec.Vault.{Origin, IsVault}
+use Rattle.mesa_engine.proofs.mesa_engine_spec.Staying.{still_vault}
 
 -- what a command that loads is
 pub load_of : (c : Command) → IsTrue (is_load c) → (rows : List RowWords) × (c ≡ command.Load rows)

@@ -8,8 +8,8 @@ use Rattle.std.proofs.lemmas.Simd.{map-map}
 use Rattle.mesa_disk.specs.Story.{Story}
 use Rattle.mesa_filter.specs.declared.words.VersionWord.{VersionWord}
 use Rattle.mesa_filter.specs.declared.words.VersionWord.TheVariants as asks
-use Rattle.mesa_engine.specs.mesa_image.Catalog.{Catalog, Stock}
-use Rattle.mesa_engine.specs.mesa_image.Shape.{IsCatalog, IsShaped}
+use Rattle.mesa_engine.specs.mesa_image_spec.Catalog.{Catalog, Stock}
+use Rattle.mesa_engine.specs.mesa_image_spec.Shape.{IsCatalog, IsShaped}
 use Rattle.mesa_list.specs.Checks.{◌>>=◌, ◌>>◌, refuse_if}
 use Rattle.mesa_model.specs.Pins.{count_at, make_pin, next_token, with_pin}
 use Rattle.mesa_model.specs.Refusals.{refuse_closed}
@@ -23,23 +23,23 @@ use Rattle.mesa_model.specs.declared.replies.Refusal.{Refusal}
 use Rattle.mesa_model.specs.declared.replies.Refusal.TheVariants as no
 use Rattle.mesa_model.specs.declared.replies.Reply.{Reply}
 use Rattle.mesa_model.specs.declared.replies.Reply.TheVariants as reply
-use Rattle.mesa_engine.specs.mesa_history.Run.{First}
-use Rattle.mesa_engine.specs.mesa_history.Turns.{IsDue}
-use Rattle.mesa_engine.specs.mesa_output.Output.{block}
+use Rattle.mesa_engine.specs.mesa_history_spec.Run.{First}
+use Rattle.mesa_engine.specs.mesa_history_spec.Turns.{IsDue}
+use Rattle.mesa_engine.specs.mesa_output_spec.Output.{block}
 use Rattle.mesa_rules.specs.Seen.{HasCatalog, known_of}
-use Rattle.mesa_engine.specs.mesa_projection.Rows.{Rows}
+use Rattle.mesa_engine.specs.mesa_projection_laws.Rows.{Rows}
 use Rattle.mesa_engine.specs.Engine.{most_turns}
-use Rattle.mesa_engine.specs.mesa_engine_state.mesa_invariant.Causes.{told_at}
-use Rattle.mesa_engine.specs.mesa_engine_state.mesa_invariant.Changes.{MakesPin}
-use Rattle.mesa_engine.specs.mesa_engine_state.mesa_invariant.Printing.{IsPut}
-use Rattle.mesa_engine.specs.mesa_engine_state.mesa_invariant.Turns.{entry}
-use Rattle.mesa_engine.specs.mesa_engine_state.mesa_invariant.Invariant.{Outset, run_of}
-use Rattle.mesa_engine.proofs.mesa_engine_state.mesa_invariant.Pinning.{pin_turn}
-use Rattle.mesa_engine.proofs.mesa_engine_state.mesa_invariant.Turning.{stays}
-use Rattle.mesa_engine.specs.mesa_engine_state.EngineState.{EngineState, bare_held, books_of, projection_of, projections}
-use Rattle.mesa_engine.specs.mesa_engine_state.Turned.{pinned_state}
-use Rattle.mesa_engine.specs.mesa_engine_state.Vault.{Origin, IsVault}
-use Rattle.mesa_engine.proofs.mesa_engine_state.Staying.{pinned_vault}
+use Rattle.mesa_engine.specs.mesa_engine_spec.mesa_invariant_spec.Causes.{told_at}
+use Rattle.mesa_engine.specs.mesa_engine_spec.mesa_invariant_spec.Changes.{MakesPin}
+use Rattle.mesa_engine.specs.mesa_engine_spec.mesa_invariant_spec.Printing.{IsPut}
+use Rattle.mesa_engine.specs.mesa_engine_spec.mesa_invariant_spec.Turns.{entry}
+use Rattle.mesa_engine.specs.mesa_engine_spec.mesa_invariant_spec.Invariant.{Outset, run_of}
+use Rattle.mesa_engine.proofs.mesa_engine_spec.mesa_invariant_spec.Pinning.{pin_turn}
+use Rattle.mesa_engine.proofs.mesa_engine_spec.mesa_invariant_spec.Turning.{stays}
+use Rattle.mesa_engine.specs.mesa_engine_spec.EngineState.{EngineState, bare_held, books_of, projection_of, projections}
+use Rattle.mesa_engine.specs.mesa_engine_spec.Turned.{pinned_state}
+use Rattle.mesa_engine.specs.mesa_engine_spec.Vault.{Origin, IsVault}
+use Rattle.mesa_engine.proofs.mesa_engine_spec.Staying.{pinned_vault}
 use Rattle.mesa_engine.specs.mesa_metadata.Memory.{hold_now}
 
 -- ---- results

@@ -20,25 +20,25 @@ use Rattle.mesa_model.specs.declared.entries.Outcome.TheVariants as outcome
 use Rattle.mesa_model.specs.declared.replies.Refusal.{Refusal}
 use Rattle.mesa_model.specs.declared.replies.Reply.{Reply}
 use Rattle.mesa_model.specs.declared.replies.Reply.TheVariants as reply
-use Rattle.mesa_engine.specs.mesa_history.Legal.{is_written}
-use Rattle.mesa_engine.specs.mesa_history.Machine.{Machine, explained, ranges_at}
-use Rattle.mesa_engine.specs.mesa_history.Refused.{is_refusal}
-use Rattle.mesa_engine.specs.mesa_history.Run.{First}
-use Rattle.mesa_engine.specs.mesa_history.Turns.{IsDue}
-use Rattle.mesa_engine.specs.mesa_output.Output.{block}
+use Rattle.mesa_engine.specs.mesa_history_spec.Legal.{is_written}
+use Rattle.mesa_engine.specs.mesa_history_spec.Machine.{Machine, explained, ranges_at}
+use Rattle.mesa_engine.specs.mesa_history_spec.Refused.{is_refusal}
+use Rattle.mesa_engine.specs.mesa_history_spec.Run.{First}
+use Rattle.mesa_engine.specs.mesa_history_spec.Turns.{IsDue}
+use Rattle.mesa_engine.specs.mesa_output_spec.Output.{block}
 use Rattle.mesa_read_turns.specs.Asked.{cause_asked}
-use Rattle.mesa_engine.specs.mesa_projection.Rows.{Rows}
+use Rattle.mesa_engine.specs.mesa_projection_laws.Rows.{Rows}
 use Rattle.mesa_span.specs.Plan.{plan}
-use Rattle.mesa_engine.specs.mesa_engine_state.mesa_invariant.Causes.{told_at}
-use Rattle.mesa_engine.specs.mesa_engine_state.mesa_invariant.Changes.{HasNoPlan, is_plain}
-use Rattle.mesa_engine.specs.mesa_engine_state.mesa_invariant.Printing.{IsPut}
-use Rattle.mesa_engine.specs.mesa_engine_state.mesa_invariant.Turns.{entry}
-use Rattle.mesa_engine.specs.mesa_engine_state.mesa_invariant.Invariant.{Outset, run_of}
-use Rattle.mesa_engine.proofs.mesa_engine_state.mesa_invariant.Reading.{explained_turn}
-use Rattle.mesa_engine.proofs.mesa_engine_state.mesa_invariant.Turning.{stays}
-use Rattle.mesa_engine.specs.mesa_engine_state.EngineState.{EngineState, books_of}
-use Rattle.mesa_engine.specs.mesa_engine_state.Vault.{Origin, IsVault}
-use Rattle.mesa_engine.proofs.mesa_engine_state.Staying.{still_vault}
+use Rattle.mesa_engine.specs.mesa_engine_spec.mesa_invariant_spec.Causes.{told_at}
+use Rattle.mesa_engine.specs.mesa_engine_spec.mesa_invariant_spec.Changes.{HasNoPlan, is_plain}
+use Rattle.mesa_engine.specs.mesa_engine_spec.mesa_invariant_spec.Printing.{IsPut}
+use Rattle.mesa_engine.specs.mesa_engine_spec.mesa_invariant_spec.Turns.{entry}
+use Rattle.mesa_engine.specs.mesa_engine_spec.mesa_invariant_spec.Invariant.{Outset, run_of}
+use Rattle.mesa_engine.proofs.mesa_engine_spec.mesa_invariant_spec.Reading.{explained_turn}
+use Rattle.mesa_engine.proofs.mesa_engine_spec.mesa_invariant_spec.Turning.{stays}
+use Rattle.mesa_engine.specs.mesa_engine_spec.EngineState.{EngineState, books_of}
+use Rattle.mesa_engine.specs.mesa_engine_spec.Vault.{Origin, IsVault}
+use Rattle.mesa_engine.proofs.mesa_engine_spec.Staying.{still_vault}
 
 -- what is told of a plan is its ranges: no page, no refusal, and nothing that was written
 pub record IsPlanReply (r : Reply) : Type 0 where

@@ -1,21 +1,21 @@
 // A plan that is told.
 ghost use Rattle.std.specs.Prelude.{◌≡◌, ◌<◌, false, length, IfErr, IfOk, Ok};
 ghost use Rattle.mesa_engine.specs.Failing.{is_of_device};
-ghost use Rattle.mesa_engine.specs.mesa_history.Machine.{explained};
-ghost use Rattle.mesa_engine.specs.mesa_history.Replay.{no_rows as no_heading};
-ghost use Rattle.mesa_engine.specs.mesa_history.Run.{First, Finished};
-ghost use Rattle.mesa_engine.specs.mesa_history.Turns.{IsDue};
-ghost use Rattle.mesa_engine.specs.mesa_image.Shape.{IsCatalog};
-ghost use Rattle.mesa_engine.specs.mesa_engine_state.EngineState.{books_of};
+ghost use Rattle.mesa_engine.specs.mesa_history_spec.Machine.{explained};
+ghost use Rattle.mesa_engine.specs.mesa_history_spec.Replay.{no_rows as no_heading};
+ghost use Rattle.mesa_engine.specs.mesa_history_spec.Run.{First, Finished};
+ghost use Rattle.mesa_engine.specs.mesa_history_spec.Turns.{IsDue};
+ghost use Rattle.mesa_engine.specs.mesa_image_spec.Shape.{IsCatalog};
+ghost use Rattle.mesa_engine.specs.mesa_engine_spec.EngineState.{books_of};
 ghost use Rattle.mesa_engine.specs.Failure.{cause_in};
 ghost use Rattle.mesa_model.specs.declared.commands.Command.TheVariants as command;
 ghost use Rattle.mesa_model.specs.declared.entries.Kind.TheVariants as kind;
 ghost use Rattle.mesa_read_turns.specs.Asked.{cause_asked};
 ghost use Rattle.mesa_engine.specs.mesa_script.Rows.{body_of};
-ghost use Rattle.mesa_engine.specs.mesa_projection.Rows.{no_rows};
-ghost use Rattle.mesa_engine.specs.mesa_engine_state.mesa_invariant.Changes.{HasNoPlan};
-ghost use Rattle.mesa_engine.specs.mesa_engine_state.mesa_invariant.Turns.{AnswersDisk, Takes};
-ghost use Rattle.mesa_engine.specs.mesa_engine_state.mesa_invariant.Invariant.{run_at};
+ghost use Rattle.mesa_engine.specs.mesa_projection_laws.Rows.{no_rows};
+ghost use Rattle.mesa_engine.specs.mesa_engine_spec.mesa_invariant_spec.Changes.{HasNoPlan};
+ghost use Rattle.mesa_engine.specs.mesa_engine_spec.mesa_invariant_spec.Turns.{AnswersDisk, Takes};
+ghost use Rattle.mesa_engine.specs.mesa_engine_spec.mesa_invariant_spec.Invariant.{run_at};
 
 use crate::spans::lines_of;
 use mesa_disk::{Disk, Made};

@@ -2,13 +2,13 @@
 ghost use Rattle.std.specs.Prelude.{◌≡◌, ◌<◌, true, length, IfOk, OnOk};
 ghost use Rattle.mesa_batch.specs.Glance.{tables_of};
 ghost use Rattle.mesa_rules.specs.mesa_catalog.Lookups.{sight_of};
-ghost use Rattle.mesa_engine.specs.mesa_history.Run.{First, Looked};
+ghost use Rattle.mesa_engine.specs.mesa_history_spec.Run.{First, Looked};
 ghost use Rattle.mesa_model.specs.declared.entries.Kind.TheVariants as kind;
-ghost use Rattle.mesa_engine.specs.mesa_projection.Rows.{no_rows};
-ghost use Rattle.mesa_engine.specs.mesa_engine_state.mesa_invariant.Sight.{tables_seen};
-ghost use Rattle.mesa_engine.specs.mesa_engine_state.mesa_invariant.Turns as spec;
-ghost use Rattle.mesa_engine.specs.mesa_engine_state.mesa_invariant.Turns.{AnswersDisk, Asks, Takes, is_load};
-ghost use Rattle.mesa_engine.specs.mesa_engine_state.mesa_invariant.Invariant.{run_at};
+ghost use Rattle.mesa_engine.specs.mesa_projection_laws.Rows.{no_rows};
+ghost use Rattle.mesa_engine.specs.mesa_engine_spec.mesa_invariant_spec.Sight.{tables_seen};
+ghost use Rattle.mesa_engine.specs.mesa_engine_spec.mesa_invariant_spec.Turns as spec;
+ghost use Rattle.mesa_engine.specs.mesa_engine_spec.mesa_invariant_spec.Turns.{AnswersDisk, Asks, Takes, is_load};
+ghost use Rattle.mesa_engine.specs.mesa_engine_spec.mesa_invariant_spec.Invariant.{run_at};
 
 use mesa_batch::Glance;
 use mesa_disk::{Disk, Made};

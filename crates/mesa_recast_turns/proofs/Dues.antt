@@ -4,15 +4,15 @@ use Rattle.std.specs.Prelude.{◌==◌, is_ok}
 use Rattle.std.proofs.lemmas.Bool.Decides.{nat_tests}
 use Rattle.std.proofs.lemmas.List.{length-map}
 use Rattle.mesa_disk.specs.Story.{Story}
-use Rattle.mesa_engine.specs.mesa_history.Claims.{HasClaimAt, HasErrand, HasRecastClaim}
-use Rattle.mesa_engine.specs.mesa_history.Machine.{Claim, Errand, Machine, Recasts, still_checked}
-use Rattle.mesa_engine.specs.mesa_history.Run.{Place, Renewed}
-use Rattle.mesa_engine.specs.mesa_history.Turns.{IsDue}
-use Rattle.mesa_engine.specs.mesa_image.Catalog.{ranges_of}
-use Rattle.mesa_engine.specs.mesa_engine_state.EngineState.{EngineState}
-use Rattle.mesa_engine.specs.mesa_engine_state.Vault.{Origin, IsVault}
-use Rattle.mesa_engine.proofs.mesa_engine_state.Beginning.{vault_claims}
-use Rattle.mesa_engine.specs.mesa_engine_state.mesa_invariant.Invariant.{Outset, run_of}
+use Rattle.mesa_engine.specs.mesa_history_spec.Claims.{HasClaimAt, HasErrand, HasRecastClaim}
+use Rattle.mesa_engine.specs.mesa_history_spec.Machine.{Claim, Errand, Machine, Recasts, still_checked}
+use Rattle.mesa_engine.specs.mesa_history_spec.Run.{Place, Renewed}
+use Rattle.mesa_engine.specs.mesa_history_spec.Turns.{IsDue}
+use Rattle.mesa_engine.specs.mesa_image_spec.Catalog.{ranges_of}
+use Rattle.mesa_engine.specs.mesa_engine_spec.EngineState.{EngineState}
+use Rattle.mesa_engine.specs.mesa_engine_spec.Vault.{Origin, IsVault}
+use Rattle.mesa_engine.proofs.mesa_engine_spec.Beginning.{vault_claims}
+use Rattle.mesa_engine.specs.mesa_engine_spec.mesa_invariant_spec.Invariant.{Outset, run_of}
 use Rattle.mesa_list.specs.Checks.{refused_as}
 use Rattle.mesa_model.specs.Refusals.{recast_refusal}
 use Rattle.mesa_model.specs.declared.commands.Command.TheVariants as command

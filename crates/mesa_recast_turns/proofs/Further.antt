@@ -4,19 +4,19 @@ use Rattle.std.specs.List.{AllByRecursion}
 use Rattle.std.proofs.lemmas.List.{append-nil, map-append}
 use Rattle.mesa_disk.specs.mesa_fault.Causes.{last}
 use Rattle.mesa_disk.specs.Story.{Story, Unmoved}
-use Rattle.mesa_engine.specs.mesa_history.Sources.{Source, Written}
+use Rattle.mesa_engine.specs.mesa_history_spec.Sources.{Source, Written}
 use Rattle.mesa_plans.specs.mesa_schema.Changes.{Lineage, columns_of, epoch_of}
 use Rattle.mesa_plans.specs.mesa_schema.Columns.{Columns}
 use Rattle.mesa_plans.specs.mesa_schema.Recasts.{Recast}
-use Rattle.mesa_engine.specs.mesa_projection.Rows.{Rows}
+use Rattle.mesa_engine.specs.mesa_projection_laws.Rows.{Rows}
 use Rattle.mesa_tasks.specs.Inputs.{AreInputsTo, IsMergeOf}
 use Rattle.mesa_tasks.specs.Opening.{Counted}
 use Rattle.mesa_tasks.specs.Recasts.{AreRangesOf, AreRewritten, own}
 use Rattle.mesa_tasks.specs.declared.recasting.RecastRange.{RecastRange}
 use Rattle.mesa_tasks.specs.declared.recasting.RecastedRange.{RecastedRange}
-use Rattle.mesa_engine.specs.mesa_engine_state.mesa_invariant.Turns.{SomeRose, faults_of}
-use Rattle.mesa_engine.specs.mesa_engine_state.mesa_invariant.Invariant.{HasCounted}
-use Rattle.mesa_engine.proofs.mesa_engine_state.Lists.{all_joined, all_so}
+use Rattle.mesa_engine.specs.mesa_engine_spec.mesa_invariant_spec.Turns.{SomeRose, faults_of}
+use Rattle.mesa_engine.specs.mesa_engine_spec.mesa_invariant_spec.Invariant.{HasCounted}
+use Rattle.mesa_engine.proofs.mesa_engine_spec.Lists.{all_joined, all_so}
 use Rattle.mesa_close_turns.specs.mesa_copy.Copying.{AreRangesBounded, known_range, known_ranges}
 use Rattle.mesa_close_turns.specs.mesa_publishing.mesa_compact.Bounded.{AreBounded}
 use Rattle.mesa_close_turns.specs.mesa_publishing.mesa_compact.mesa_merge.Inputs.{knowns_of}

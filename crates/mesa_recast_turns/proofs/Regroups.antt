@@ -19,61 +19,61 @@ use Rattle.mesa_model.specs.declared.entries.Outcome.TheVariants as outcome
 use Rattle.mesa_model.specs.declared.replies.Reply.{Reply}
 use Rattle.mesa_model.specs.declared.replies.Reply.TheVariants as reply
 use Rattle.mesa_plans.specs.mesa_schema.Changes.{epoch_of}
-use Rattle.mesa_engine.specs.mesa_history.Law.{Regroups as Grouping}
-use Rattle.mesa_engine.specs.mesa_history.Machine.{Claim, claim_checked, still_checked}
-use Rattle.mesa_engine.specs.mesa_history.Run.{Renewed}
-use Rattle.mesa_engine.specs.mesa_history.Sources.{Written}
-use Rattle.mesa_engine.specs.mesa_history.Turns.{IsDue}
+use Rattle.mesa_engine.specs.mesa_history_spec.Law.{Regroups as Grouping}
+use Rattle.mesa_engine.specs.mesa_history_spec.Machine.{Claim, claim_checked, still_checked}
+use Rattle.mesa_engine.specs.mesa_history_spec.Run.{Renewed}
+use Rattle.mesa_engine.specs.mesa_history_spec.Sources.{Written}
+use Rattle.mesa_engine.specs.mesa_history_spec.Turns.{IsDue}
 use Rattle.mesa_close_turns.specs.mesa_record.Reading.{record_at}
 use Rattle.mesa_close_turns.specs.mesa_record.Rules.{IsTyped, keeps_rules}
 use Rattle.mesa_close_turns.specs.mesa_record.declared.record.Record.{Record}
 use Rattle.mesa_close_turns.specs.mesa_record.declared.record.Record.TheVariants as record_of
 use Rattle.mesa_close_turns.specs.mesa_record.declared.recasting.Recasting.{Recasting}
-use Rattle.mesa_engine.specs.mesa_image.Catalog.{Catalog, applied, no_stock, stock_at}
-use Rattle.mesa_engine.specs.mesa_image.Contents.{kept_of}
-use Rattle.mesa_engine.specs.mesa_image.Fitting.{brought, fits, kind_fits, shelved}
-use Rattle.mesa_engine.specs.mesa_image.Held.{IsHeld, IsUnnamed}
-use Rattle.mesa_engine.specs.mesa_image.Sound.{AreStocked, StandsFor, wants}
-use Rattle.mesa_engine.proofs.mesa_engine_state.mesa_image.Agreeing.{agree_stocked, agree_wants}
-use Rattle.mesa_engine.proofs.mesa_engine_state.mesa_image.AllSourced.{agree_sourced, recast_sources as recast_sourced}
-use Rattle.mesa_engine.proofs.mesa_engine_state.mesa_image.CatalogRewriting.{catalog_brings}
-use Rattle.mesa_engine.proofs.mesa_engine_state.mesa_image.CountedRecords.{fits_counted}
-use Rattle.mesa_engine.proofs.mesa_engine_state.mesa_image.Ids.{own_ids}
-use Rattle.mesa_engine.proofs.mesa_engine_state.mesa_image.Recordable.{applied_recordable}
-use Rattle.mesa_engine.proofs.mesa_engine_state.mesa_image.Moving.{kind_of}
-use Rattle.mesa_engine.proofs.mesa_engine_state.mesa_image.RecastKept.{recast_moves}
-use Rattle.mesa_engine.proofs.mesa_engine_state.mesa_image.ShapedRecasts.{recast_there}
-use Rattle.mesa_engine.proofs.mesa_engine_state.mesa_image.Wholes.{fits_shaped}
-use Rattle.mesa_engine.specs.mesa_engine_state.mesa_image.Brought.{AreTold, BringsRecast}
-use Rattle.mesa_engine.specs.mesa_engine_state.mesa_image.Ids.{brought_ids, dropped_ids, named}
-use Rattle.mesa_engine.specs.mesa_engine_state.mesa_image.Moves.{Moves, kept_recast}
-use Rattle.mesa_engine.specs.mesa_engine_state.mesa_image.Rewritten.{recasting_of}
-use Rattle.mesa_engine.specs.mesa_engine_state.mesa_image.Sourced.{HasSources, written_behind}
+use Rattle.mesa_engine.specs.mesa_image_spec.Catalog.{Catalog, applied, no_stock, stock_at}
+use Rattle.mesa_engine.specs.mesa_image_spec.Contents.{kept_of}
+use Rattle.mesa_engine.specs.mesa_image_spec.Fitting.{brought, fits, kind_fits, shelved}
+use Rattle.mesa_engine.specs.mesa_image_spec.Held.{IsHeld, IsUnnamed}
+use Rattle.mesa_engine.specs.mesa_image_spec.Sound.{AreStocked, StandsFor, wants}
+use Rattle.mesa_engine.proofs.mesa_engine_spec.mesa_image_spec.Agreeing.{agree_stocked, agree_wants}
+use Rattle.mesa_engine.proofs.mesa_engine_spec.mesa_image_spec.AllSourced.{agree_sourced, recast_sources as recast_sourced}
+use Rattle.mesa_engine.proofs.mesa_engine_spec.mesa_image_spec.CatalogRewriting.{catalog_brings}
+use Rattle.mesa_engine.proofs.mesa_engine_spec.mesa_image_spec.CountedRecords.{fits_counted}
+use Rattle.mesa_engine.proofs.mesa_engine_spec.mesa_image_spec.Ids.{own_ids}
+use Rattle.mesa_engine.proofs.mesa_engine_spec.mesa_image_spec.Recordable.{applied_recordable}
+use Rattle.mesa_engine.proofs.mesa_engine_spec.mesa_image_spec.Moving.{kind_of}
+use Rattle.mesa_engine.proofs.mesa_engine_spec.mesa_image_spec.RecastKept.{recast_moves}
+use Rattle.mesa_engine.proofs.mesa_engine_spec.mesa_image_spec.ShapedRecasts.{recast_there}
+use Rattle.mesa_engine.proofs.mesa_engine_spec.mesa_image_spec.Wholes.{fits_shaped}
+use Rattle.mesa_engine.specs.mesa_engine_spec.mesa_image_spec.Brought.{AreTold, BringsRecast}
+use Rattle.mesa_engine.specs.mesa_engine_spec.mesa_image_spec.Ids.{brought_ids, dropped_ids, named}
+use Rattle.mesa_engine.specs.mesa_engine_spec.mesa_image_spec.Moves.{Moves, kept_recast}
+use Rattle.mesa_engine.specs.mesa_engine_spec.mesa_image_spec.Rewritten.{recasting_of}
+use Rattle.mesa_engine.specs.mesa_engine_spec.mesa_image_spec.Sourced.{HasSources, written_behind}
 use Rattle.mesa_engine.specs.mesa_metadata.mesa_catalog.Lookups.{generation_of, turns_generation}
 use Rattle.mesa_store.specs.Store.{Writes as IsWritten}
-use Rattle.mesa_engine.specs.mesa_output.Output.{block}
-use Rattle.mesa_engine.specs.mesa_projection.Rows.{Rows, no_rows}
+use Rattle.mesa_engine.specs.mesa_output_spec.Output.{block}
+use Rattle.mesa_engine.specs.mesa_projection_laws.Rows.{Rows, no_rows}
 use Rattle.mesa_close_turns.proofs.mesa_trash.Filing.{freed_unnamed}
 use Rattle.mesa_close_turns.specs.mesa_trash.Filed.{Renames}
 use Rattle.mesa_close_turns.specs.mesa_trash.Holding.{Among, freed, ids_of}
 use Rattle.mesa_tasks.specs.Recasts.{claim_of_recast, recast_in, recast_table}
 use Rattle.mesa_tasks.specs.declared.recasting.Recast.{Recast}
-use Rattle.mesa_engine.specs.mesa_engine_state.mesa_invariant.Causes.{Unwritten, reply_of, told_at}
-use Rattle.mesa_engine.specs.mesa_engine_state.mesa_invariant.Printing.{IsPut}
-use Rattle.mesa_engine.specs.mesa_engine_state.mesa_invariant.Turns.{entry}
-use Rattle.mesa_engine.specs.mesa_engine_state.mesa_invariant.Invariant.{Counts, Passes, StandsForEither, Writes, run_of}
-use Rattle.mesa_engine.specs.mesa_engine_state.mesa_invariant.Works.{Regroups}
-use Rattle.mesa_engine.proofs.mesa_engine_state.mesa_invariant.Working.{checked_open}
-use Rattle.mesa_engine.specs.mesa_engine_state.EngineState.{EngineState, books_of, first_id, holders, ids_held, next_id, projection_of}
-use Rattle.mesa_engine.specs.mesa_engine_state.Recorded.{IsRecorded, failed_state, left_by, recorded_state, removed_by, waiting}
-use Rattle.mesa_engine.specs.mesa_engine_state.Vault.{IsVault, Starts, outset_of, written_by}
-use Rattle.mesa_engine.proofs.mesa_engine_state.Agreeing.{named_agree, same_kept}
-use Rattle.mesa_engine.proofs.mesa_engine_state.Filing.{filed_moved, holds_are}
-use Rattle.mesa_engine.proofs.mesa_engine_state.Recasting.{recast_as, recast_is}
-use Rattle.mesa_engine.proofs.mesa_engine_state.Recording.{Clears, clears_freed}
-use Rattle.mesa_engine.proofs.mesa_engine_state.Renaming.{record_brings, record_renames}
-use Rattle.mesa_engine.proofs.mesa_engine_state.Sources.{recast_sources}
-use Rattle.mesa_engine.proofs.mesa_engine_state.Writing.{recast_vault, unrecast_vault}
+use Rattle.mesa_engine.specs.mesa_engine_spec.mesa_invariant_spec.Causes.{Unwritten, reply_of, told_at}
+use Rattle.mesa_engine.specs.mesa_engine_spec.mesa_invariant_spec.Printing.{IsPut}
+use Rattle.mesa_engine.specs.mesa_engine_spec.mesa_invariant_spec.Turns.{entry}
+use Rattle.mesa_engine.specs.mesa_engine_spec.mesa_invariant_spec.Invariant.{Counts, Passes, StandsForEither, Writes, run_of}
+use Rattle.mesa_engine.specs.mesa_engine_spec.mesa_invariant_spec.Works.{Regroups}
+use Rattle.mesa_engine.proofs.mesa_engine_spec.mesa_invariant_spec.Working.{checked_open}
+use Rattle.mesa_engine.specs.mesa_engine_spec.EngineState.{EngineState, books_of, first_id, holders, ids_held, next_id, projection_of}
+use Rattle.mesa_engine.specs.mesa_engine_spec.Recorded.{IsRecorded, failed_state, left_by, recorded_state, removed_by, waiting}
+use Rattle.mesa_engine.specs.mesa_engine_spec.Vault.{IsVault, Starts, outset_of, written_by}
+use Rattle.mesa_engine.proofs.mesa_engine_spec.Agreeing.{named_agree, same_kept}
+use Rattle.mesa_engine.proofs.mesa_engine_spec.Filing.{filed_moved, holds_are}
+use Rattle.mesa_engine.proofs.mesa_engine_spec.Recasting.{recast_as, recast_is}
+use Rattle.mesa_engine.proofs.mesa_engine_spec.Recording.{Clears, clears_freed}
+use Rattle.mesa_engine.proofs.mesa_engine_spec.Renaming.{record_brings, record_renames}
+use Rattle.mesa_engine.proofs.mesa_engine_spec.Sources.{recast_sources}
+use Rattle.mesa_engine.proofs.mesa_engine_spec.Writing.{recast_vault, unrecast_vault}
 use Rattle.mesa_close_turns.specs.mesa_publishing.Published.{AllTell, rows_with}
 use Rattle.mesa_close_turns.specs.mesa_publishing.Grown.{HasSameColumns}
 use Rattle.mesa_close_turns.specs.mesa_publishing.Recasts.{HasItsRanges, IsRecastIn, stock_of_recast}

@@ -3,14 +3,14 @@ use Rattle.std.specs.Prelude.{◌≡◌, ℕ, ◌+◌, ◌<◌, ◌≤◌, List,
 use Rattle.std.specs.List.{AllByRecursion}
 use Rattle.mesa_disk.specs.mesa_fault.Causes.{last}
 use Rattle.mesa_plans.specs.Ranges.{HoldsAll}
-use Rattle.mesa_engine.specs.mesa_history.Counting.{count_in, is_disk_fault}
-use Rattle.mesa_engine.specs.mesa_history.Run.{State, begins}
-use Rattle.mesa_engine.specs.mesa_history.Sources.{Written}
-use Rattle.mesa_engine.specs.mesa_engine_state.EngineState.{EngineState}
-use Rattle.mesa_engine.specs.mesa_engine_state.mesa_invariant.Turns.{Faults, Shown}
+use Rattle.mesa_engine.specs.mesa_history_spec.Counting.{count_in, is_disk_fault}
+use Rattle.mesa_engine.specs.mesa_history_spec.Run.{State, begins}
+use Rattle.mesa_engine.specs.mesa_history_spec.Sources.{Written}
+use Rattle.mesa_engine.specs.mesa_engine_spec.EngineState.{EngineState}
+use Rattle.mesa_engine.specs.mesa_engine_spec.mesa_invariant_spec.Turns.{Faults, Shown}
 use Rattle.mesa_model.specs.declared.commands.Script.{Script}
 use Rattle.mesa_plans.specs.mesa_schema.Changes.{Lineage, columns_of, epoch_of}
-use Rattle.mesa_engine.specs.mesa_projection.Rows.{Rows}
+use Rattle.mesa_engine.specs.mesa_projection_laws.Rows.{Rows}
 use Rattle.mesa_close_turns.specs.mesa_publishing.Grown.{HasBecome}
 use Rattle.mesa_close_turns.specs.mesa_publishing.Recasts.{HasItsRange, stock_of_recast}
 use Rattle.mesa_tasks.specs.Recasts.{AreRangesOf, IsRecastTask, recast_table}

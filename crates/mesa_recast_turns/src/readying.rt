@@ -1,18 +1,18 @@
 // What a recast takes of memory.
 ghost use Rattle.std.specs.Prelude.{◌≡◌, ◌+◌, ◌<◌, ◌^◌, ℕ, Some, Ok, IfOk, OnErr, length};
 ghost use Rattle.mesa_plans.specs.Ranges.{HoldsAll};
-ghost use Rattle.mesa_engine.specs.mesa_image.Shape.{IsCatalog};
+ghost use Rattle.mesa_engine.specs.mesa_image_spec.Shape.{IsCatalog};
 ghost use Rattle.mesa_disk.specs.mesa_key.Spelling.{AreBytes};
-ghost use Rattle.mesa_engine.specs.mesa_engine_state.EngineState.{books_of, most_files, next_id};
-ghost use Rattle.mesa_engine.specs.mesa_engine_state.Recorded.{removed_by};
-ghost use Rattle.mesa_engine.specs.mesa_engine_state.mesa_image.Countable.{AreCounted};
-ghost use Rattle.mesa_engine.specs.mesa_engine_state.mesa_image.Ids.{dropped_ids, named};
-ghost use Rattle.mesa_engine.specs.mesa_engine_state.mesa_image.Recordable.{AreRecordable};
+ghost use Rattle.mesa_engine.specs.mesa_engine_spec.EngineState.{books_of, most_files, next_id};
+ghost use Rattle.mesa_engine.specs.mesa_engine_spec.Recorded.{removed_by};
+ghost use Rattle.mesa_engine.specs.mesa_engine_spec.mesa_image_spec.Countable.{AreCounted};
+ghost use Rattle.mesa_engine.specs.mesa_engine_spec.mesa_image_spec.Ids.{dropped_ids, named};
+ghost use Rattle.mesa_engine.specs.mesa_engine_spec.mesa_image_spec.Recordable.{AreRecordable};
 ghost use Rattle.mesa_model.specs.Tables.{recast_reply as reply_for};
 ghost use Rattle.mesa_model.specs.Warehouse.{table_at};
 ghost use Rattle.mesa_close_turns.specs.mesa_record.Reading.{record_at};
 ghost use Rattle.mesa_plans.specs.mesa_schema.Recasts.{recast_checked};
-ghost use Rattle.mesa_engine.specs.mesa_projection.Rows.{no_rows};
+ghost use Rattle.mesa_engine.specs.mesa_projection_laws.Rows.{no_rows};
 ghost use Rattle.mesa_close_turns.specs.mesa_publishing.Grown.{HasSameColumns};
 ghost use Rattle.mesa_close_turns.specs.mesa_publishing.Recasts.{IsRecastIn, stock_of_recast};
 ghost use Rattle.mesa_tasks.specs.Recasts.{IsRecastTask, IsRecasted, recast_in, recast_table};

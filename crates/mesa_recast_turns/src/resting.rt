@@ -3,11 +3,11 @@ ghost use Rattle.std.specs.Prelude.{◌≡◌, ◌≢◌, ◌⊎◌, ◌↔◌, 
 ghost use Rattle.mesa_close_turns.specs.mesa_copy.Copying.{IsRecastBounded};
 ghost use Rattle.mesa_delta.specs.declared.error.FileError.TheVariants as file_error;
 ghost use Rattle.mesa_plans.specs.Ranges.{HoldsAll};
-ghost use Rattle.mesa_engine.specs.mesa_image.Catalog.{stock_at};
-ghost use Rattle.mesa_engine.specs.mesa_engine_state.Written.{written_at};
-ghost use Rattle.mesa_engine.specs.mesa_engine_state.mesa_invariant.Turns.{NoneFell, SomeRose};
+ghost use Rattle.mesa_engine.specs.mesa_image_spec.Catalog.{stock_at};
+ghost use Rattle.mesa_engine.specs.mesa_engine_spec.Written.{written_at};
+ghost use Rattle.mesa_engine.specs.mesa_engine_spec.mesa_invariant_spec.Turns.{NoneFell, SomeRose};
 ghost use Rattle.mesa_plans.specs.mesa_schema.Changes.{epoch_of};
-ghost use Rattle.mesa_engine.specs.mesa_projection.Rows.{Rows};
+ghost use Rattle.mesa_engine.specs.mesa_projection_laws.Rows.{Rows};
 ghost use Rattle.mesa_close_turns.specs.mesa_publishing.Grown.{HasBecome};
 ghost use Rattle.mesa_close_turns.specs.mesa_publishing.Recasts.{HasItsRanges, stock_of_recast};
 ghost use Rattle.mesa_tasks.specs.Recasts.{IsRecastTask, IsRecasted, IsRecastedSoFar, recast_table};

@@ -13,16 +13,16 @@ use Rattle.mesa_trash.specs.Holding.{Among}
 use Rattle.mesa_trash.specs.Filed.{AreFresh, AreNamedOrWait, FilesAdopted}
 use Rattle.mesa_trash.proofs.Filing.{filed_first}
 use Rattle.mesa_record.specs.Reading.{record_at}
-use Rattle.mesa_image.specs.Catalog.{Catalog, applied}
-use Rattle.mesa_image.specs.Fitting.{fits, max_runs, shelved}
-use Rattle.mesa_image.specs.Journaled.{catalog}
-use Rattle.mesa_image.proofs.Wholes.{catalog_whole}
+use Rattle.mesa_image_spec.specs.Catalog.{Catalog, applied}
+use Rattle.mesa_image_spec.specs.Fitting.{fits, max_runs, shelved}
+use Rattle.mesa_image_spec.specs.Journaled.{catalog}
+use Rattle.mesa_image_spec.proofs.Wholes.{catalog_whole}
 use Rattle.std.specs.List.{AllByRecursion}
-use Rattle.mesa_image.specs.Contents.{Rows, kept_of}
+use Rattle.mesa_image_spec.specs.Contents.{Rows, kept_of}
 use Rattle.mesa_commit.specs.Images.{Has}
-use Rattle.mesa_image.specs.Sound.{AreStocked, StandsFor, wants}
-use Rattle.mesa_image.specs.Held.{IsHeld, IsStep, StandsForEither}
-use Rattle.mesa_image.specs.Ids.{HasOwnIds, named, times}
+use Rattle.mesa_image_spec.specs.Sound.{AreStocked, StandsFor, wants}
+use Rattle.mesa_image_spec.specs.Held.{IsHeld, IsStep, StandsForEither}
+use Rattle.mesa_image_spec.specs.Ids.{HasOwnIds, named, times}
 use Rattle.mesa_store.specs.Store.{IsFound, Writes}
 use Rattle.mesa_recover.specs.declared.error.OpenError.{OpenError}
 use Rattle.mesa_recover.specs.declared.error.OpenError.TheVariants as open_error

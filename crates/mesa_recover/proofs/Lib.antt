@@ -1,4 +1,4 @@
-pub use Rattle.mesa_image.proofs as mesa_image
+pub use Rattle.mesa_image_spec.proofs as mesa_image_spec
 pub mod Tails
 pub mod Firsts
 pub mod Reasons

@@ -17,9 +17,9 @@ use Rattle.mesa_journal.specs.declared.reading.Body.{Body}
 use Rattle.mesa_journal.specs.declared.reading.JournalRead.{JournalRead}
 use Rattle.mesa_journal.specs.declared.reading.JournalError.{JournalError}
 use Rattle.mesa_journal.specs.declared.reading.JournalError.TheVariants as journal
-use Rattle.mesa_image.specs.Catalog.{Catalog}
-use Rattle.mesa_image.specs.Fitting.{shelved}
-use Rattle.mesa_image.specs.Journaled.{catalog}
+use Rattle.mesa_image_spec.specs.Catalog.{Catalog}
+use Rattle.mesa_image_spec.specs.Fitting.{shelved}
+use Rattle.mesa_image_spec.specs.Journaled.{catalog}
 use Rattle.mesa_table.specs.declared.recorded.Recorded.{Recorded}
 use Rattle.mesa_table.specs.Files.{AreRecorded, recorded_of}
 use Rattle.mesa_recover.specs.declared.error.OpenError.{OpenError}

@@ -9,13 +9,13 @@ use Rattle.mesa_disk.specs.Story.{Story}
 use Rattle.mesa_journal.specs.Areas.{Leads, number_of, other_of}
 use Rattle.mesa_record.specs.declared.record.Record.TheVariants as record_of
 use Rattle.mesa_record.specs.Rules.{keeps_rules}
-use Rattle.mesa_image.specs.Catalog.{Catalog}
-use Rattle.mesa_image.specs.Checkpoint.{checkpoint_body, checkpoint_of}
-use Rattle.mesa_image.specs.Contents.{Rows}
-use Rattle.mesa_image.specs.Journaled.{catalog}
-use Rattle.mesa_image.proofs.Recordable.{checkpoint_recordable}
-use Rattle.mesa_image.proofs.Numbering.{carries_on}
-use Rattle.mesa_image.proofs.Wholes.{catalog_whole}
+use Rattle.mesa_image_spec.specs.Catalog.{Catalog}
+use Rattle.mesa_image_spec.specs.Checkpoint.{checkpoint_body, checkpoint_of}
+use Rattle.mesa_image_spec.specs.Contents.{Rows}
+use Rattle.mesa_image_spec.specs.Journaled.{catalog}
+use Rattle.mesa_image_spec.proofs.Recordable.{checkpoint_recordable}
+use Rattle.mesa_image_spec.proofs.Numbering.{carries_on}
+use Rattle.mesa_image_spec.proofs.Wholes.{catalog_whole}
 use Rattle.mesa_store.specs.Store.{IsFound, StatesIfAny, area_after}
 use Rattle.mesa_recover.specs.Anew.{IsStatedAnew, StatesAnewBy}
 

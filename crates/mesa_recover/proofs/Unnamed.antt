@@ -14,10 +14,10 @@ use Rattle.mesa_disk.proofs.Rounds.{not_equal}
 use Rattle.mesa_commit.specs.Turn.{MovesOnly}
 use Rattle.mesa_trash.specs.Holding.{Among}
 use Rattle.mesa_trash.specs.Filed.{AreNamedOrWait}
-use Rattle.mesa_image.specs.Catalog.{Catalog}
-use Rattle.mesa_image.specs.Fitting.{Shelved, has_number, shelved, shelved_id}
-use Rattle.mesa_image.specs.Held.{IsUnnamed}
-use Rattle.mesa_image.specs.Ids.{named}
+use Rattle.mesa_image_spec.specs.Catalog.{Catalog}
+use Rattle.mesa_image_spec.specs.Fitting.{Shelved, has_number, shelved, shelved_id}
+use Rattle.mesa_image_spec.specs.Held.{IsUnnamed}
+use Rattle.mesa_image_spec.specs.Ids.{named}
 use Rattle.mesa_table.specs.declared.recorded.Recorded.{Recorded}
 use Rattle.mesa_table.specs.Files.{AreRecorded, RiseFrom, recorded_of, recorded_id}
 use Rattle.mesa_recover.specs.Strays.{AreStrays}

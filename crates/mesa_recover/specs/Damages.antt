@@ -14,10 +14,10 @@ use Rattle.mesa_record.specs.declared.record.Record.{Record}
 use Rattle.mesa_record.specs.declared.error.RecordError.{RecordError}
 use Rattle.mesa_record.specs.declared.error.RecordError.TheVariants as fault
 use Rattle.mesa_record.specs.Reading.{record_at}
-use Rattle.mesa_image.specs.mesa_delta.Damages.{IsWrongLength, IsWrongDigest}
-use Rattle.mesa_image.specs.Catalog.{Catalog}
-use Rattle.mesa_image.specs.Fitting.{fits}
-use Rattle.mesa_image.specs.Journaled.{catalog, first_body}
+use Rattle.mesa_image_spec.specs.mesa_delta.Damages.{IsWrongLength, IsWrongDigest}
+use Rattle.mesa_image_spec.specs.Catalog.{Catalog}
+use Rattle.mesa_image_spec.specs.Fitting.{fits}
+use Rattle.mesa_image_spec.specs.Journaled.{catalog, first_body}
 use Rattle.mesa_table.specs.declared.recorded.Recorded.{Recorded}
 use Rattle.mesa_table.specs.Files.{AreRecorded}
 

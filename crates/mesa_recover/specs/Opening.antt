@@ -7,15 +7,15 @@ use Rattle.mesa_disk.specs.Image.{Image, area_of}
 use Rattle.mesa_disk.specs.Story.{Story}
 use Rattle.mesa_disk.specs.declared.area.Area.{Area}
 use Rattle.mesa_journal.specs.Areas.{HasJournal, holds_body, number_of, other_of}
-use Rattle.mesa_image.specs.Catalog.{Catalog}
+use Rattle.mesa_image_spec.specs.Catalog.{Catalog}
 use Rattle.mesa_record.specs.Reading.{record_at}
-use Rattle.mesa_image.specs.Fitting.{fits, shelved}
-use Rattle.mesa_image.specs.Journaled.{catalog}
-use Rattle.mesa_image.specs.Contents.{Rows, kept_of}
+use Rattle.mesa_image_spec.specs.Fitting.{fits, shelved}
+use Rattle.mesa_image_spec.specs.Journaled.{catalog}
+use Rattle.mesa_image_spec.specs.Contents.{Rows, kept_of}
 use Rattle.mesa_record.specs.declared.record.Record.{Record}
 use Rattle.mesa_record.specs.declared.record.Record.TheVariants as record_of
-use Rattle.mesa_image.specs.Sound.{IsSoundAs, StandsFor}
-use Rattle.mesa_image.specs.Held.{IsHeld, IsUnnamed}
+use Rattle.mesa_image_spec.specs.Sound.{IsSoundAs, StandsFor}
+use Rattle.mesa_image_spec.specs.Held.{IsHeld, IsUnnamed}
 use Rattle.mesa_table.specs.Files.{recorded_of}
 use Rattle.mesa_recover.specs.declared.error.OpenError.{OpenError}
 use Rattle.mesa_recover.specs.declared.error.OpenError.TheVariants as open_error

@@ -3,8 +3,8 @@ use Rattle.std.specs.Prelude.{◌≡◌, ℕ, List, map, filter, not, Some}
 use Rattle.std.specs.FinMap.{keys}
 use Rattle.mesa_disk.specs.Image.{Image}
 use Rattle.mesa_disk.specs.Story.{Story}
-use Rattle.mesa_image.specs.Catalog.{Catalog}
-use Rattle.mesa_image.specs.Fitting.{has_number}
+use Rattle.mesa_image_spec.specs.Catalog.{Catalog}
+use Rattle.mesa_image_spec.specs.Fitting.{has_number}
 use Rattle.mesa_table.specs.declared.recorded.Recorded.{Recorded}
 use Rattle.mesa_table.specs.Files.{AreRecorded, recorded_id}
 

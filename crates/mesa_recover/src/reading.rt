@@ -4,7 +4,7 @@ ghost use Rattle.std.specs.List.{AllByRecursion};
 ghost use Rattle.mesa_disk.specs.mesa_file.declared.damage.Damage.{Damage as AnyDamage};
 ghost use Rattle.mesa_disk.specs.Image.{Image};
 ghost use Rattle.mesa_disk.specs.Story.{Unmoved};
-ghost use Rattle.mesa_image.specs.Fitting.{shelved};
+ghost use Rattle.mesa_image_spec.specs.Fitting.{shelved};
 ghost use Rattle.mesa_table.specs.Files.{AreRecorded, recorded_of};
 ghost use Rattle.mesa_table.specs.declared.recorded.Recorded.{Recorded as AnyRecorded};
 ghost use Rattle.mesa_recover.specs.declared.error.OpenError.TheVariants as open_error;

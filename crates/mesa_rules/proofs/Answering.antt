@@ -25,7 +25,7 @@ use Rattle.mesa_model.specs.Query.{Answer, answer_rows, query_answer}
 use Rattle.mesa_model.specs.Refusals.{no_such_table, query_refusal}
 use Rattle.mesa_model.specs.Relations.{Relation, relation_columns, relation_content, relation_from, relation_of}
 use Rattle.mesa_model.specs.Warehouse.{Store, Table, Warehouse, no_table, table_at}
-use Rattle.mesa_catalog.specs.mesa_image.Catalog.{Stock, Catalog, no_stock, stock_at}
+use Rattle.mesa_catalog.specs.mesa_image_spec.Catalog.{Stock, Catalog, no_stock, stock_at}
 use Rattle.mesa_catalog.specs.mesa_table.declared.relation.Relation.{Relation as Place}
 use Rattle.mesa_catalog.specs.Lookups.{known_as, relation_from as place_from, relation_of as place_named}
 use Rattle.mesa_catalog.specs.mesa_table.Lookups.{view_names}

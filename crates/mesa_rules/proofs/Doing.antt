@@ -23,8 +23,8 @@ use Rattle.mesa_model.specs.Relations.{table_number}
 use Rattle.mesa_model.specs.Tables.{alter_table, change_asked, changed_name, columns_asked, make_table, make_view}
 use Rattle.mesa_model.specs.Versions.{expire_all, expire_table, store_from, table_from, version_checked}
 use Rattle.mesa_model.specs.Warehouse.{Warehouse, max_tables, table_at, with_table}
-use Rattle.mesa_catalog.specs.mesa_image.Catalog.{Stock, Catalog, no_stock, stock_at}
-use Rattle.mesa_catalog.specs.mesa_image.Fitting.{names_in}
+use Rattle.mesa_catalog.specs.mesa_image_spec.Catalog.{Stock, Catalog, no_stock, stock_at}
+use Rattle.mesa_catalog.specs.mesa_image_spec.Fitting.{names_in}
 use Rattle.mesa_catalog.specs.Lookups.{relation_of}
 use Rattle.mesa_catalog.proofs.Relations.{known_name}
 use Rattle.mesa_binding.specs.declared.failure.Failure.{Failure}

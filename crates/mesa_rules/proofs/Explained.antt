@@ -19,8 +19,8 @@ use Rattle.mesa_model.specs.Refusals.{no_such_table, query_refusal}
 use Rattle.mesa_model.specs.Relations.{relation_columns, relation_of}
 use Rattle.mesa_model.specs.Versions.{version_asked}
 use Rattle.mesa_model.specs.Warehouse.{Table, Warehouse, table_at}
-use Rattle.mesa_catalog.specs.mesa_history.Machine.{Machine, explained, ranges_at}
-use Rattle.mesa_catalog.specs.mesa_image.Catalog.{Catalog, no_stock, ranges_of, stock_at}
+use Rattle.mesa_catalog.specs.mesa_history_spec.Machine.{Machine, explained, ranges_at}
+use Rattle.mesa_catalog.specs.mesa_image_spec.Catalog.{Catalog, no_stock, ranges_of, stock_at}
 use Rattle.mesa_catalog.specs.mesa_table.declared.relation.Relation.{Relation as Place}
 use Rattle.mesa_catalog.specs.Lookups.{relation_of as place_named}
 use Rattle.mesa_binding.specs.declared.failure.Failure.{Failure}

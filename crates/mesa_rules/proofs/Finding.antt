@@ -5,7 +5,7 @@ use Rattle.std.specs.Option.{option_or}
 use Rattle.std.proofs.lemmas.List.{at_drop_more, at_drop_all}
 use Rattle.mesa_list.specs.Bytes.{same_bytes}
 use Rattle.mesa_schema.specs.Columns.{place_of}
-use Rattle.mesa_catalog.specs.mesa_image.Catalog.{Catalog, no_stock, stock_at}
+use Rattle.mesa_catalog.specs.mesa_image_spec.Catalog.{Catalog, no_stock, stock_at}
 use Rattle.mesa_catalog.specs.mesa_table.declared.relation.Relation.{Relation}
 use Rattle.mesa_catalog.specs.mesa_table.Lookups.{relation_in, view_names}
 use Rattle.mesa_catalog.specs.Lookups.{relation_from}

@@ -26,8 +26,8 @@ use Rattle.mesa_model.specs.declared.replies.Refusal.{Refusal}
 use Rattle.mesa_model.specs.declared.replies.SchemaFault.TheVariants as fault
 use Rattle.mesa_model.specs.Refusals.{bad_schema, schema_refusal, view_refusal}
 use Rattle.mesa_model.specs.Tables.{names_are_good}
-use Rattle.mesa_catalog.specs.mesa_image.Catalog.{Catalog, stock_at}
-use Rattle.mesa_catalog.specs.mesa_image.Fitting.{brings_new_files, fits, kind_fits, names_in}
+use Rattle.mesa_catalog.specs.mesa_image_spec.Catalog.{Catalog, stock_at}
+use Rattle.mesa_catalog.specs.mesa_image_spec.Fitting.{brings_new_files, fits, kind_fits, names_in}
 use Rattle.mesa_catalog.proofs.mesa_table.Counts.{chosen_count}
 use Rattle.std.proofs.lemmas.List.{length-map}
 use Rattle.mesa_binding.specs.Asked.{columns_checked, more_views_checked}

@@ -21,8 +21,8 @@ use Rattle.mesa_model.specs.Pins.{make_pin, next_token, with_pin}
 use Rattle.mesa_model.specs.Refusals.{refuse_closed}
 use Rattle.mesa_model.specs.Versions.{common_oldest, oldest_among, version_asked}
 use Rattle.mesa_model.specs.Warehouse.{max_pins, Table, Warehouse, no_table, table_at}
-use Rattle.mesa_catalog.specs.mesa_image.Catalog.{Stock, Catalog, no_stock, stock_at}
-use Rattle.mesa_catalog.specs.mesa_image.Fitting.{names_in}
+use Rattle.mesa_catalog.specs.mesa_image_spec.Catalog.{Stock, Catalog, no_stock, stock_at}
+use Rattle.mesa_catalog.specs.mesa_image_spec.Fitting.{names_in}
 use Rattle.mesa_catalog.specs.Lookups.{known_as, relation_of}
 use Rattle.mesa_catalog.proofs.Relations.{known_name}
 use Rattle.mesa_rules.specs.Found.{of_catalog, without_rows}

@@ -11,7 +11,7 @@ use Rattle.mesa_model.specs.Query.{Answer, answer_rows, query_answer, store_aske
 use Rattle.mesa_model.specs.Relations.{Relation, relation_columns, relation_content}
 use Rattle.mesa_model.specs.Versions.{version_asked}
 use Rattle.mesa_model.specs.Warehouse.{Store, Table, Warehouse, table_at}
-use Rattle.mesa_catalog.specs.mesa_image.Catalog.{Stock, Catalog, stock_at}
+use Rattle.mesa_catalog.specs.mesa_image_spec.Catalog.{Stock, Catalog, stock_at}
 use Rattle.mesa_catalog.specs.mesa_table.declared.relation.Relation.{Relation as Place}
 use Rattle.mesa_catalog.specs.Lookups.{known_as}
 use Rattle.mesa_binding.specs.Built.{IsBuiltOf}

@@ -7,7 +7,7 @@ use Rattle.mesa_model.specs.declared.commands.RecastWords.{RecastWords}
 use Rattle.mesa_model.specs.declared.replies.Refusal.{Refusal}
 use Rattle.mesa_model.specs.Refusals.{no_such_table, recast_refusal}
 use Rattle.mesa_model.specs.Tables.{recast_asked}
-use Rattle.mesa_catalog.specs.mesa_image.Catalog.{Catalog, stock_at}
+use Rattle.mesa_catalog.specs.mesa_image_spec.Catalog.{Catalog, stock_at}
 use Rattle.mesa_rules.specs.Seen.{number_of}
 
 -- what the rules say of a recast, by its table's name and columns alone

@@ -4,8 +4,8 @@ use Rattle.mesa_record.specs.Rules.{keeps_rules}
 use Rattle.mesa_model.specs.declared.replies.Refusal.{Refusal}
 use Rattle.mesa_model.specs.declared.replies.Reply.{Reply}
 use Rattle.mesa_model.specs.Warehouse.{Warehouse}
-use Rattle.mesa_catalog.specs.mesa_image.Catalog.{Catalog}
-use Rattle.mesa_catalog.specs.mesa_image.Fitting.{fits}
+use Rattle.mesa_catalog.specs.mesa_image_spec.Catalog.{Catalog}
+use Rattle.mesa_catalog.specs.mesa_image_spec.Fitting.{fits}
 use Rattle.mesa_binding.specs.declared.failure.Failure.{Failure}
 use Rattle.mesa_binding.specs.Told.{IsDue}
 use Rattle.mesa_rules.specs.declared.ruled.Ruled.{Ruled}

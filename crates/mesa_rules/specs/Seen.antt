@@ -3,7 +3,7 @@ use Rattle.std.specs.Prelude.{◌≡◌, ℕ, List, [], ◌∷◌, map, max, Opt
 use Rattle.mesa_schema.specs.Columns.{place_of}
 use Rattle.mesa_batch.specs.Glance.{Known}
 use Rattle.mesa_model.specs.Warehouse.{Table, Store, Warehouse}
-use Rattle.mesa_catalog.specs.mesa_image.Catalog.{Stock, Catalog}
+use Rattle.mesa_catalog.specs.mesa_image_spec.Catalog.{Stock, Catalog}
 use Rattle.mesa_catalog.specs.Lookups.{known_as}
 
 -- a table's name and its columns through its life, without what it holds

@@ -2,9 +2,9 @@
 ghost use Rattle.std.specs.Prelude.{◌≡◌, ◌<◌, map, Ok, IfOk, IfErr, IfSome, length};
 ghost use Rattle.mesa_model.specs.Orders.{order_asked as order_of};
 ghost use Rattle.mesa_model.specs.Warehouse.{Warehouse};
-ghost use Rattle.mesa_catalog.specs.mesa_history.Machine.{Machine, explained};
-ghost use Rattle.mesa_catalog.specs.mesa_image.Catalog.{ranges_of, stock_at};
-ghost use Rattle.mesa_catalog.specs.mesa_image.Shape.{IsCatalog};
+ghost use Rattle.mesa_catalog.specs.mesa_history_spec.Machine.{Machine, explained};
+ghost use Rattle.mesa_catalog.specs.mesa_image_spec.Catalog.{ranges_of, stock_at};
+ghost use Rattle.mesa_catalog.specs.mesa_image_spec.Shape.{IsCatalog};
 ghost use Rattle.mesa_binding.specs.Told.{IsDue};
 ghost use Rattle.mesa_rules.specs.Found.{relation_with, without_rows};
 ghost use Rattle.mesa_rules.specs.Seen.{HasCatalog};

@@ -1,7 +1,7 @@
 // Looking tables and views up by their names.
 ghost use Rattle.std.specs.Prelude.{◌≡◌, ◌<◌, IfSome, length};
 ghost use Rattle.mesa_schema.specs.Columns.{place_of};
-ghost use Rattle.mesa_catalog.specs.mesa_image.Catalog.{stock_at};
+ghost use Rattle.mesa_catalog.specs.mesa_image_spec.Catalog.{stock_at};
 ghost use Rattle.mesa_catalog.specs.Lookups.{relation_of};
 ghost use Rattle.mesa_catalog.specs.mesa_table.Lookups.{view_names};
 ghost use Rattle.mesa_rules.specs.Seen.{number_of};

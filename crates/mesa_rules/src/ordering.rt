@@ -2,7 +2,7 @@
 ghost use Rattle.std.specs.Prelude.{◌≡◌, ◌<◌, IfOk, IfSome, IsTrue, length};
 ghost use Rattle.mesa_filter.specs.Filter.{are_within};
 ghost use Rattle.mesa_filter.specs.Query.{IsQueryOf};
-ghost use Rattle.mesa_catalog.specs.mesa_image.Catalog.{stock_at};
+ghost use Rattle.mesa_catalog.specs.mesa_image_spec.Catalog.{stock_at};
 ghost use Rattle.mesa_rules.specs.Found.{columns_at};
 ghost use Rattle.mesa_rules.specs.Ordered.{as_read};
 

@@ -4,7 +4,7 @@ ghost use Rattle.mesa_filter.specs.Asked.{asked_of};
 ghost use Rattle.mesa_filter.specs.Query.{IsQueryOf};
 ghost use Rattle.mesa_model.specs.Query.{query_answer};
 ghost use Rattle.mesa_model.specs.Warehouse.{Warehouse};
-ghost use Rattle.mesa_catalog.specs.mesa_image.Catalog.{stock_at};
+ghost use Rattle.mesa_catalog.specs.mesa_image_spec.Catalog.{stock_at};
 ghost use Rattle.mesa_catalog.specs.Lookups.{relation_of};
 ghost use Rattle.mesa_binding.specs.Told.{IsDue};
 ghost use Rattle.mesa_rules.specs.Found.{IsAnswered, IsFound, Sees, columns_at, version_in};

@@ -2,7 +2,7 @@
 ghost use Rattle.std.specs.Prelude.{◌≡◌, ◌<◌, Ok, Some, IfOk, IfErr, length};
 ghost use Rattle.mesa_schema.specs.Recasts.{recast_checked};
 ghost use Rattle.mesa_model.specs.Tables.{recast_asked as asked_of};
-ghost use Rattle.mesa_catalog.specs.mesa_image.Catalog.{stock_at};
+ghost use Rattle.mesa_catalog.specs.mesa_image_spec.Catalog.{stock_at};
 ghost use Rattle.mesa_binding.specs.Told.{IsDue};
 ghost use Rattle.mesa_rules.specs.Recastings.{recast_due};
 ghost use Rattle.mesa_rules.specs.Seen.{number_of};

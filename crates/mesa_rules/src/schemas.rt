@@ -8,7 +8,7 @@ ghost use Rattle.mesa_record.specs.declared.record.Record.TheVariants as record_
 ghost use Rattle.mesa_model.specs.declared.replies.Reply.TheVariants as reply;
 ghost use Rattle.mesa_model.specs.Refusals.{change_refusal};
 ghost use Rattle.mesa_model.specs.Tables.{alter_table, change_asked as asked_of, changed_name as name_of, columns_asked, make_table, make_view};
-ghost use Rattle.mesa_catalog.specs.mesa_image.Catalog.{stock_at};
+ghost use Rattle.mesa_catalog.specs.mesa_image_spec.Catalog.{stock_at};
 ghost use Rattle.mesa_binding.specs.Told.{IsDue};
 ghost use Rattle.mesa_rules.specs.Ruled.{IsRefused, IsRuled};
 ghost use Rattle.mesa_rules.specs.Seen.{number_of};

@@ -6,7 +6,7 @@ use Rattle.mesa_turn.specs.Passes.{Joins, Known}
 use Rattle.mesa_turn.proofs.Names.{has_itself}
 use Rattle.mesa_model.specs.declared.commands.Script.{Script}
 use Rattle.mesa_model.specs.Entry.{history_of}
-use Rattle.mesa_core.specs.mesa_history.Run.{State}
+use Rattle.mesa_core.specs.mesa_history_spec.Run.{State}
 use Rattle.mesa_session_laws.specs.Answers.{HasCounted, HaveCounted}
 use Rattle.mesa_session_laws.specs.Passes.{HaveEnded}
 use Rattle.mesa_session_laws.proofs.Answering.{answered_first, timely_before}

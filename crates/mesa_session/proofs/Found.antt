@@ -17,14 +17,14 @@ use Rattle.mesa_model.specs.declared.entries.Kind.TheVariants as kind
 use Rattle.mesa_model.specs.Entry.{IsShort, entry_of, history_of, number_of, numbers_of}
 use Rattle.mesa_model.specs.Query.{Answer}
 use Rattle.mesa_model.proofs.Numbers.{history_told}
-use Rattle.mesa_core.specs.mesa_history.Run.{State, Finished, place_of, begins}
-use Rattle.mesa_core.specs.mesa_history.Turns.{place_then}
-use Rattle.mesa_core.specs.mesa_history.Legal.{AllFit}
-use Rattle.mesa_core.proofs.mesa_history.Due.{fit_below}
-use Rattle.mesa_engine.specs.mesa_projection.Rows.{Rows, no_rows}
-use Rattle.mesa_engine.specs.mesa_invariant.Queries.{IsOpenFrom}
-use Rattle.mesa_engine.specs.mesa_invariant.Turns.{Shown, IsTurn, IsSeen}
-use Rattle.mesa_engine.specs.mesa_invariant.Invariant.{run_at}
+use Rattle.mesa_core.specs.mesa_history_spec.Run.{State, Finished, place_of, begins}
+use Rattle.mesa_core.specs.mesa_history_spec.Turns.{place_then}
+use Rattle.mesa_core.specs.mesa_history_spec.Legal.{AllFit}
+use Rattle.mesa_core.proofs.mesa_history_spec.Due.{fit_below}
+use Rattle.mesa_engine.specs.mesa_projection_laws.Rows.{Rows, no_rows}
+use Rattle.mesa_engine.specs.mesa_invariant_spec.Queries.{IsOpenFrom}
+use Rattle.mesa_engine.specs.mesa_invariant_spec.Turns.{Shown, IsTurn, IsSeen}
+use Rattle.mesa_engine.specs.mesa_invariant_spec.Invariant.{run_at}
 use Rattle.mesa_tasks.specs.declared.prepared.LoadError.{LoadError}
 use Rattle.mesa_tasks.specs.declared.prepared.Prepared.{Prepared}
 use Rattle.mesa_tasks.specs.declared.querying.Pinned.{Pinned}

@@ -9,7 +9,7 @@ use Rattle.mesa_core.specs.mesa_recast_turns.Rested.{IsLonger}
 use Rattle.mesa_delta.specs.declared.error.FileError.{FileError}
 use Rattle.mesa_delta.specs.declared.error.FileError.TheVariants as file
 use Rattle.mesa_disk.specs.mesa_file.declared.damage.Damage.{Damage}
-use Rattle.mesa_core.specs.mesa_history.Machine.{Recasts}
+use Rattle.mesa_core.specs.mesa_history_spec.Machine.{Recasts}
 use Rattle.mesa_model.specs.mesa_schema.Changes.{Lineage, columns_of}
 use Rattle.mesa_session_laws.specs.Recasts.{CanBeRegrouped, HasRegrouped, IsUnmade, KnownRecast, known_recast}
 use Rattle.mesa_tasks.specs.Errors.{Differs}

@@ -7,10 +7,10 @@ use Rattle.mesa_model.specs.declared.commands.Command.{Command}
 use Rattle.mesa_model.specs.declared.commands.Script.{Script}
 use Rattle.mesa_model.specs.declared.entries.Kind.{Kind}
 use Rattle.mesa_model.specs.Entry.{numbers_of}
-use Rattle.mesa_core.specs.mesa_history.Run.{State, Stage, place_of}
-use Rattle.mesa_core.specs.mesa_history.Turns.{place_then}
-use Rattle.mesa_engine.specs.mesa_invariant.Turns.{Shown, Asks, IsTurn, IsSeen, Takes}
-use Rattle.mesa_engine.specs.mesa_invariant.Invariant.{run_at}
+use Rattle.mesa_core.specs.mesa_history_spec.Run.{State, Stage, place_of}
+use Rattle.mesa_core.specs.mesa_history_spec.Turns.{place_then}
+use Rattle.mesa_engine.specs.mesa_invariant_spec.Turns.{Shown, Asks, IsTurn, IsSeen, Takes}
+use Rattle.mesa_engine.specs.mesa_invariant_spec.Invariant.{run_at}
 use Rattle.mesa_core.specs.mesa_session_laws.Passes.{HasSort, Holds, Mine, at_stage}
 use Rattle.mesa_core.proofs.mesa_session_laws.Turning.{Step, asked, one_more, step_mine}
 use Rattle.mesa_session.proofs.Found.{room_left}

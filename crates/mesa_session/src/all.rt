@@ -1,9 +1,9 @@
 // All sessions of a script: the prologue alone, and then the others at once.
 ghost use Rattle.std.specs.Prelude.{◌≡◌, ◌<◌, ◌≤◌, ◌+◌, ◌-◌, ◌*◌, ℕ, [], ◌∷◌, IsTrue, IfSome, is_some, length, drop};
 ghost use Rattle.std.specs.Thread.{IsSync};
-ghost use Rattle.mesa_core.specs.mesa_history.Run.{First, commands_of};
+ghost use Rattle.mesa_core.specs.mesa_history_spec.Run.{First, commands_of};
 ghost use Rattle.mesa_model.specs.Entry.{history_of};
-ghost use Rattle.mesa_engine.specs.mesa_projection.Rows.{no_rows};
+ghost use Rattle.mesa_engine.specs.mesa_projection_laws.Rows.{no_rows};
 ghost use Rattle.mesa_turn.specs.History.{has};
 ghost use Rattle.mesa_turn.specs.Passes.{IsExact, Joins};
 ghost use Rattle.mesa_session_laws.specs.Answers.{HasCounted, HaveCounted, answered};
@@ -11,7 +11,7 @@ ghost use Rattle.mesa_session_laws.specs.Passes.{HasEnded, HaveEnded, Mine, Wait
 
 use crate::{Gate, Vault, run_session};
 use mesa_disk::{Bench, Disk, Made};
-use mesa_engine_state::Naming;
+use mesa_engine_spec::Naming;
 use mesa_io::Sink;
 use mesa_model::Script;
 use mesa_turn::{Pass, TurnLock};

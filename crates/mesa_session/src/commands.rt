@@ -1,11 +1,11 @@
 // The turns of each command.
 ghost use Rattle.std.specs.Prelude.{◌≡◌, ◌<◌, ◌≤◌, not, Some, length};
-ghost use Rattle.mesa_core.specs.mesa_history.Legal.{is_query};
-ghost use Rattle.mesa_core.specs.mesa_history.Run.{First, Finished, command_at};
-ghost use Rattle.mesa_core.specs.mesa_history.Turns.{place_then};
+ghost use Rattle.mesa_core.specs.mesa_history_spec.Legal.{is_query};
+ghost use Rattle.mesa_core.specs.mesa_history_spec.Run.{First, Finished, command_at};
+ghost use Rattle.mesa_core.specs.mesa_history_spec.Turns.{place_then};
 ghost use Rattle.mesa_model.specs.declared.commands.Command.TheVariants as command;
-ghost use Rattle.mesa_engine.specs.mesa_projection.Rows.{no_rows};
-ghost use Rattle.mesa_engine.specs.mesa_invariant.Turns.{is_merge, is_recast};
+ghost use Rattle.mesa_engine.specs.mesa_projection_laws.Rows.{no_rows};
+ghost use Rattle.mesa_engine.specs.mesa_invariant_spec.Turns.{is_merge, is_recast};
 ghost use Rattle.mesa_core.specs.mesa_session_laws.Answers.{Answers};
 ghost use Rattle.mesa_core.specs.mesa_session_laws.Passes.{HasSort, Mine, Took, at_stage};
 ghost use Rattle.mesa_session.specs.Drafts.{AreOf, GoOn};
@@ -21,7 +21,7 @@ use mesa_batch::LoadRows;
 use mesa_core::Vault;
 use mesa_disk::{Bench, Disk, Made};
 use mesa_engine::Who;
-use mesa_engine_state::Naming;
+use mesa_engine_spec::Naming;
 use mesa_io::Sink;
 use mesa_model::Command;
 use mesa_tasks::Serials;

@@ -12,7 +12,7 @@ ghost use Rattle.mesa_tasks.specs.declared.merging.CompactError.TheVariants as c
 ghost use Rattle.mesa_delta.specs.declared.error.FileError.TheVariants as file_error;
 ghost use Rattle.mesa_core.specs.Handing.{AllAreRested, IsRecastGranted, IsRecastHeld};
 ghost use Rattle.mesa_core.specs.mesa_recast_turns.Rested.{HasUnpaid};
-ghost use Rattle.mesa_engine.specs.mesa_projection.Rows.{no_rows};
+ghost use Rattle.mesa_engine.specs.mesa_projection_laws.Rows.{no_rows};
 ghost use Rattle.mesa_compact.specs.Tasks.{AreNumbered};
 ghost use Rattle.mesa_session_laws.specs.Drafts.{owed_by_work};
 ghost use Rattle.mesa_session_laws.specs.Pins.{CanBeAnswered, HasAnswered, heading_in, known_pin};
@@ -24,7 +24,7 @@ use mesa_copy::{regroup_more, regroup_task};
 use mesa_core::Vault;
 use mesa_delta::FileError;
 use mesa_disk::{Bench, Disk, FileReader, Made};
-use mesa_engine_state::Naming;
+use mesa_engine_spec::Naming;
 use mesa_filter::Query;
 use mesa_io::Sink;
 use mesa_key::reads_back;

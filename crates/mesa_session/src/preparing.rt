@@ -2,7 +2,7 @@
 ghost use Rattle.std.specs.Prelude.{◌≡◌, ◌≤◌, ◌<◌, ◌+◌, ◌^◌, ℕ, List, Err, IfOk, IfNone, IfSome, OnErr};
 ghost use Rattle.mesa_disk.specs.mesa_fault.Causes.{last};
 ghost use Rattle.mesa_model.specs.declared.entries.Entry.{Entry as AnyEntry};
-ghost use Rattle.mesa_engine.specs.mesa_projection.Rows.{no_rows};
+ghost use Rattle.mesa_engine.specs.mesa_projection_laws.Rows.{no_rows};
 ghost use Rattle.mesa_tasks.specs.declared.prepared.LoadError.TheVariants as load;
 ghost use Rattle.mesa_tasks.specs.Batches.{HasPrepared, batch_ids};
 ghost use Rattle.mesa_tasks.specs.Serials.{AreNext, after_drafts};
@@ -15,7 +15,7 @@ ghost use Rattle.mesa_session.specs.Loads.{StaysPrepared};
 use mesa_batch::{Glance, LoadRows};
 use mesa_core::Vault;
 use mesa_disk::{Bench, Disk, Made};
-use mesa_engine_state::Naming;
+use mesa_engine_spec::Naming;
 use mesa_io::Sink;
 use mesa_load::prepare;
 use mesa_session_laws::sights_last;

@@ -1,15 +1,15 @@
 // All turns of a script.
 ghost use Rattle.std.specs.Prelude.{◌≡◌, ◌<◌, ◌≤◌, ◌^◌, ℕ, [], not, IfErr, IfOk, length};
-ghost use Rattle.mesa_core.specs.mesa_history.Legal.{IsLegal};
-ghost use Rattle.mesa_core.specs.mesa_history.Run.{commands_of};
-ghost use Rattle.mesa_engine.specs.mesa_projection.Rows.{no_rows};
+ghost use Rattle.mesa_core.specs.mesa_history_spec.Legal.{IsLegal};
+ghost use Rattle.mesa_core.specs.mesa_history_spec.Run.{commands_of};
+ghost use Rattle.mesa_engine.specs.mesa_projection_laws.Rows.{no_rows};
 ghost use Rattle.mesa_session_laws.specs.Answers.{HaveCounted};
 ghost use Rattle.mesa_session_laws.specs.Passes.{turns_of};
 
 use crate::all::run_all;
 use crate::{Gate, Vault};
 use mesa_disk::{Bench, Disk, Made};
-use mesa_engine_state::Naming;
+use mesa_engine_spec::Naming;
 use mesa_io::Sink;
 use mesa_model::Script;
 use mesa_turn::TurnLock;

@@ -1,7 +1,7 @@
 // A session's run.
 ghost use Rattle.std.specs.Prelude.{◌≡◌, ◌<◌, ◌≤◌, ◌*◌, length};
-ghost use Rattle.mesa_core.specs.mesa_history.Run.{First, commands_of as commands_in};
-ghost use Rattle.mesa_engine.specs.mesa_projection.Rows.{no_rows};
+ghost use Rattle.mesa_core.specs.mesa_history_spec.Run.{First, commands_of as commands_in};
+ghost use Rattle.mesa_engine.specs.mesa_projection_laws.Rows.{no_rows};
 ghost use Rattle.mesa_core.specs.mesa_session_laws.Answers.{Answers};
 ghost use Rattle.mesa_core.specs.mesa_session_laws.Passes.{Gains, HasEnded, Mine, Took, at_stage};
 
@@ -10,7 +10,7 @@ use crate::gate::{Gate, Point};
 use mesa_core::Vault;
 use mesa_disk::{Bench, Disk, Made};
 use mesa_engine::Who;
-use mesa_engine_state::Naming;
+use mesa_engine_spec::Naming;
 use mesa_io::Sink;
 use mesa_model::{Command, Script};
 use mesa_tasks::Serials;

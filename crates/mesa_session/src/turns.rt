@@ -1,14 +1,14 @@
 // One turn of each sort.
 ghost use Rattle.std.specs.Prelude.{◌≡◌, ◌<◌, ◌≤◌, ◌^◌, ℕ, not, true, IfNone, IfOk, IfSome, OnSome, Some, is_ok, length};
-ghost use Rattle.mesa_core.specs.mesa_history.Legal.{is_query};
-ghost use Rattle.mesa_core.specs.mesa_history.Run.{First, Looked, Granted, Renewed, Finished, command_at};
-ghost use Rattle.mesa_core.specs.mesa_history.Turns.{place_then};
+ghost use Rattle.mesa_core.specs.mesa_history_spec.Legal.{is_query};
+ghost use Rattle.mesa_core.specs.mesa_history_spec.Run.{First, Looked, Granted, Renewed, Finished, command_at};
+ghost use Rattle.mesa_core.specs.mesa_history_spec.Turns.{place_then};
 ghost use Rattle.mesa_model.specs.declared.commands.Command.TheVariants as command;
 ghost use Rattle.mesa_model.specs.Entry.{history_of};
 ghost use Rattle.mesa_core.specs.Handing.{IsGranted, IsRecastGranted, Tells};
-ghost use Rattle.mesa_engine.specs.mesa_projection.Rows.{no_rows};
-ghost use Rattle.mesa_engine.specs.mesa_invariant.Turns.{is_load, is_merge, is_recast, is_simple};
-ghost use Rattle.mesa_engine.specs.mesa_invariant.Works.{closing_stage, stage_if};
+ghost use Rattle.mesa_engine.specs.mesa_projection_laws.Rows.{no_rows};
+ghost use Rattle.mesa_engine.specs.mesa_invariant_spec.Turns.{is_load, is_merge, is_recast, is_simple};
+ghost use Rattle.mesa_engine.specs.mesa_invariant_spec.Works.{closing_stage, stage_if};
 ghost use Rattle.mesa_core.specs.mesa_session_laws.Answers.{Answers};
 ghost use Rattle.mesa_core.specs.mesa_session_laws.Passes.{HasSort, Holds, Mine, Took, at_stage};
 ghost use Rattle.mesa_session_laws.specs.Drafts.{owed_by_error, owed_by_load, owed_by_work};
@@ -28,7 +28,7 @@ use mesa_core::Vault;
 use mesa_delta::FileError;
 use mesa_disk::{Bench, Disk, Made};
 use mesa_engine::Who;
-use mesa_engine_state::Naming;
+use mesa_engine_spec::Naming;
 use mesa_io::Sink;
 use mesa_script::Rendered;
 use mesa_tasks::{

@@ -19,13 +19,13 @@ use Rattle.mesa_model.specs.declared.entries.Outcome.TheVariants as outcome
 use Rattle.mesa_model.specs.Entry.{entry_of, history_of, numbers_of}
 use Rattle.mesa_model.proofs.Numbers.{history_told}
 use Rattle.mesa_model.specs.Warehouse.{Store}
-use Rattle.mesa_history.specs.Counting.{answers_bench, count_in, is_bench_fault, one_if}
-use Rattle.mesa_history.specs.Legal.{AllFit, Fits, builds_files_in, is_query, is_same_moment, is_unwritten, is_work, outcome_fits, outcome_fits_in, same_kind, would_write}
-use Rattle.mesa_history.specs.Replay.{closes, go, runs}
-use Rattle.mesa_history.specs.Run.{Run, State, begins, command_at, command_of}
-use Rattle.mesa_history.proofs.Counting.{count_more}
-use Rattle.mesa_invariant.specs.Turns.{AnswersDraft, Shown, entry, is_load, is_simple}
-use Rattle.mesa_invariant.specs.Invariant.{run_at}
+use Rattle.mesa_history_spec.specs.Counting.{answers_bench, count_in, is_bench_fault, one_if}
+use Rattle.mesa_history_spec.specs.Legal.{AllFit, Fits, builds_files_in, is_query, is_same_moment, is_unwritten, is_work, outcome_fits, outcome_fits_in, same_kind, would_write}
+use Rattle.mesa_history_spec.specs.Replay.{closes, go, runs}
+use Rattle.mesa_history_spec.specs.Run.{Run, State, begins, command_at, command_of}
+use Rattle.mesa_history_spec.proofs.Counting.{count_more}
+use Rattle.mesa_invariant_spec.specs.Turns.{AnswersDraft, Shown, entry, is_load, is_simple}
+use Rattle.mesa_invariant_spec.specs.Invariant.{run_at}
 use Rattle.mesa_session_laws.specs.Answers.{Answers, AreTimely, Owes, answered, answered_in}
 use Rattle.mesa_session_laws.proofs.Behind.{Others, all_behind, found_behind, none_others, within_one}
 use Rattle.mesa_session_laws.proofs.Turning.{Step, step_seen}

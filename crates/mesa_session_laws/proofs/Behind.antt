@@ -11,10 +11,10 @@ use Rattle.mesa_turn.proofs.Laws.{none_behind, others_found, others_first, other
 use Rattle.mesa_model.specs.declared.commands.Script.{Script}
 use Rattle.mesa_model.specs.declared.entries.Entry.{Entry}
 use Rattle.mesa_model.specs.Entry.{entry_of, history_of}
-use Rattle.mesa_history.specs.Run.{State, Run, place_of, begins}
-use Rattle.mesa_history.specs.Replay.{runs}
-use Rattle.mesa_history.proofs.More.{runs-append}
-use Rattle.mesa_history.proofs.Places.{others_keep}
+use Rattle.mesa_history_spec.specs.Run.{State, Run, place_of, begins}
+use Rattle.mesa_history_spec.specs.Replay.{runs}
+use Rattle.mesa_history_spec.proofs.More.{runs-append}
+use Rattle.mesa_history_spec.proofs.Places.{others_keep}
 use Rattle.mesa_session_laws.specs.Passes.{run_seen}
 
 -- no entry of these numbers is a session's

@@ -8,10 +8,10 @@ use Rattle.mesa_turn.specs.Passes.{Known, Joins}
 use Rattle.mesa_model.specs.declared.commands.Script.{Script}
 use Rattle.mesa_model.specs.declared.entries.Entry.{Entry}
 use Rattle.mesa_model.specs.Entry.{history_of}
-use Rattle.mesa_history.specs.Counting.{count_in}
-use Rattle.mesa_history.specs.Legal.{AllFit}
-use Rattle.mesa_history.specs.Run.{State, begins}
-use Rattle.mesa_history.proofs.Due.{fit_below}
+use Rattle.mesa_history_spec.specs.Counting.{count_in}
+use Rattle.mesa_history_spec.specs.Legal.{AllFit}
+use Rattle.mesa_history_spec.specs.Run.{State, begins}
+use Rattle.mesa_history_spec.proofs.Due.{fit_below}
 use Rattle.mesa_session_laws.specs.Answers.{Answers, HasCounted, HaveCounted, answered, answered_in}
 use Rattle.mesa_session_laws.specs.Passes.{HaveEnded}
 use Rattle.mesa_session_laws.proofs.Answering.{answered_behind, answered_first, answered_second, none_answered, timely_before}

@@ -11,10 +11,10 @@ use Rattle.mesa_model.specs.declared.commands.Command.{Command}
 use Rattle.mesa_model.specs.declared.commands.Script.{Script}
 use Rattle.mesa_model.specs.declared.entries.Entry.{Entry}
 use Rattle.mesa_model.specs.Entry.{entry_of, history_of}
-use Rattle.mesa_history.specs.Run.{State, First, Place, place_of, command_at, begins}
-use Rattle.mesa_history.specs.Replay.{runs}
-use Rattle.mesa_history.specs.Legal.{AllFit, is_cut_off_at}
-use Rattle.mesa_history.proofs.Due.{fit_below}
+use Rattle.mesa_history_spec.specs.Run.{State, First, Place, place_of, command_at, begins}
+use Rattle.mesa_history_spec.specs.Replay.{runs}
+use Rattle.mesa_history_spec.specs.Legal.{AllFit, is_cut_off_at}
+use Rattle.mesa_history_spec.proofs.Due.{fit_below}
 use Rattle.mesa_session_laws.specs.Passes.{run_seen, at_stage, Mine, Took, Gains, HasEnded, Waits, HaveEnded, turns_of}
 use Rattle.mesa_session_laws.proofs.Behind.{Others, behind_others, place_keeps, place_first, place_second}
 

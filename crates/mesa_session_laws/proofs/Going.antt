@@ -15,12 +15,12 @@ use Rattle.mesa_model.specs.Load.{tables_loaded, with_batch}
 use Rattle.mesa_model.specs.Tables.{columns_asked, new_table, table_changed, table_recast}
 use Rattle.mesa_model.specs.Versions.{store_from, table_from}
 use Rattle.mesa_model.specs.Warehouse.{Store, Table, Warehouse, no_table, table_at, with_table, with_tables}
-use Rattle.mesa_history.specs.Replay.{go, runs}
-use Rattle.mesa_history.specs.Run.{Run}
-use Rattle.mesa_publishing.proofs.mesa_plans.mesa_image.ShapedTables.{length_set}
-use Rattle.mesa_laws.proofs.Lineages.{change_default, lineage_viewed}
-use Rattle.mesa_laws.proofs.Moves.{Moves, viewed}
-use Rattle.mesa_laws.proofs.Turns.{go_moves}
+use Rattle.mesa_history_spec.specs.Replay.{go, runs}
+use Rattle.mesa_history_spec.specs.Run.{Run}
+use Rattle.mesa_publishing.proofs.mesa_plans.mesa_image_spec.ShapedTables.{length_set}
+use Rattle.mesa_history_laws.proofs.Lineages.{change_default, lineage_viewed}
+use Rattle.mesa_history_laws.proofs.Moves.{Moves, viewed}
+use Rattle.mesa_history_laws.proofs.Turns.{go_moves}
 use Rattle.mesa_publishing.specs.Grown.{HasBecome}
 use Rattle.mesa_publishing.proofs.Becoming.{become_changed, become_not, become_recast, become_viewed}
 use Rattle.mesa_session_laws.specs.Known.{lineage_in}

@@ -34,14 +34,14 @@ use Rattle.mesa_model.specs.Versions.{common_oldest, expire_to, table_from, vers
 use Rattle.mesa_model.specs.Pins.{make_pin, pin_of, release_pin}
 use Rattle.mesa_model.specs.Query.{Answer, query_answer}
 use Rattle.mesa_model.specs.Step.{step, done_or_refused, nothing_done}
-use Rattle.mesa_history.specs.Counting.{count_in, one_if}
+use Rattle.mesa_history_spec.specs.Counting.{count_in, one_if}
 use Rattle.mesa_schema.specs.Recasts.{Recast}
-use Rattle.mesa_history.specs.Machine.{Claim, Errand, Merges, Recasts, claim_checked, explained, still_checked}
-use Rattle.mesa_history.specs.Run.{State, Stage, First, Looked, Answered, Granted, Renewed, Finished, CutOff, Run, place_of, begins, command_of}
-use Rattle.mesa_history.specs.Replay.{Turned, decided, decided_query, decided_explain, decide, grants, claim_asked, renews, renew, completes, does, recasts, close, refused_turn, closed_if, closes, standing, turn_of, turn_as, turned, go, runs}
-use Rattle.mesa_history.proofs.Checks.{ok_bind, ok_then}
-use Rattle.mesa_history.proofs.More.{runs-append, state_after}
-use Rattle.mesa_invariant.specs.Sight.{is_of_schemas, tells_of_schemas, changes_schemas, schema_changes}
+use Rattle.mesa_history_spec.specs.Machine.{Claim, Errand, Merges, Recasts, claim_checked, explained, still_checked}
+use Rattle.mesa_history_spec.specs.Run.{State, Stage, First, Looked, Answered, Granted, Renewed, Finished, CutOff, Run, place_of, begins, command_of}
+use Rattle.mesa_history_spec.specs.Replay.{Turned, decided, decided_query, decided_explain, decide, grants, claim_asked, renews, renew, completes, does, recasts, close, refused_turn, closed_if, closes, standing, turn_of, turn_as, turned, go, runs}
+use Rattle.mesa_history_spec.proofs.Checks.{ok_bind, ok_then}
+use Rattle.mesa_history_spec.proofs.More.{runs-append, state_after}
+use Rattle.mesa_invariant_spec.specs.Sight.{is_of_schemas, tells_of_schemas, changes_schemas, schema_changes}
 use Rattle.mesa_session_laws.specs.Sight.{tables_known, SightLasts}
 
 -- what a command did leaves the tables as a load sees them, unless its reply says otherwise

@@ -4,27 +4,27 @@ use Rattle.std.specs.List.{AllByRecursion}
 use Rattle.mesa_schema.specs.Changes.{Lineage, columns_of, epoch_of}
 use Rattle.mesa_model.specs.declared.commands.Script.{Script}
 use Rattle.mesa_model.specs.declared.entries.Entry.{Entry}
-use Rattle.mesa_history.specs.Claims.{HasClaim, HasRanges, is_live}
-use Rattle.mesa_history.specs.Law.{begun_at, writing_by, written_in, written_through}
-use Rattle.mesa_history.specs.Machine.{Claim}
-use Rattle.mesa_history.specs.Replay.{go, runs}
-use Rattle.mesa_history.specs.Run.{Run, State, begins}
-use Rattle.mesa_history.specs.Sources.{Source, Written, range_rows, sources_from}
-use Rattle.mesa_history.proofs.Claims.{begins_hold, runs_hold}
-use Rattle.mesa_laws.proofs.Begun.{claims_keep_begun}
-use Rattle.mesa_history.proofs.More.{runs-append}
+use Rattle.mesa_history_spec.specs.Claims.{HasClaim, HasRanges, is_live}
+use Rattle.mesa_history_spec.specs.Law.{begun_at, writing_by, written_in, written_through}
+use Rattle.mesa_history_spec.specs.Machine.{Claim}
+use Rattle.mesa_history_spec.specs.Replay.{go, runs}
+use Rattle.mesa_history_spec.specs.Run.{Run, State, begins}
+use Rattle.mesa_history_spec.specs.Sources.{Source, Written, range_rows, sources_from}
+use Rattle.mesa_history_spec.proofs.Claims.{begins_hold, runs_hold}
+use Rattle.mesa_history_laws.proofs.Begun.{claims_keep_begun}
+use Rattle.mesa_history_spec.proofs.More.{runs-append}
 use Rattle.mesa_span.specs.declared.works.Work.{Work}
-use Rattle.mesa_publishing.specs.mesa_plans.mesa_image.Moves.{last_of, first_of}
-use Rattle.mesa_laws.proofs.Ranges.{ranges_hold}
-use Rattle.mesa_publishing.specs.mesa_engine_state.Vault.{Origin}
+use Rattle.mesa_publishing.specs.mesa_plans.mesa_image_spec.Moves.{last_of, first_of}
+use Rattle.mesa_history_laws.proofs.Ranges.{ranges_hold}
+use Rattle.mesa_publishing.specs.mesa_engine_spec.Vault.{Origin}
 use Rattle.mesa_publishing.specs.Finished.{GroupOnly, HasRange, sources_in}
 use Rattle.mesa_publishing.specs.Recasts.{HasItsRange, HasItsRanges}
 use Rattle.mesa_tasks.specs.Recasts.{recast_table}
 use Rattle.mesa_tasks.specs.declared.merging.Task.{Task}
 use Rattle.mesa_tasks.specs.declared.recasting.Recast.{Recast}
 use Rattle.mesa_tasks.specs.declared.recasting.RecastRange.{RecastRange}
-use Rattle.mesa_invariant.specs.Invariant.{run_at}
-use Rattle.mesa_publishing.specs.mesa_engine_state.Written.{written_at}
+use Rattle.mesa_invariant_spec.specs.Invariant.{run_at}
+use Rattle.mesa_publishing.specs.mesa_engine_spec.Written.{written_at}
 
 -- ---- what is written behind a history
 

@@ -7,8 +7,8 @@ use Rattle.mesa_schema.specs.Changes.{Lineage, columns_of}
 use Rattle.mesa_schema.specs.Columns.{Columns}
 use Rattle.mesa_schema.specs.Views.{view_columns, view_rows}
 use Rattle.mesa_span.specs.declared.works.Work.{Work}
-use Rattle.mesa_history.specs.Sources.{Source, Written, range_rows, sources_from}
-use Rattle.mesa_publishing.specs.mesa_plans.mesa_image.Moves.{first_of, last_of}
+use Rattle.mesa_history_spec.specs.Sources.{Source, Written, range_rows, sources_from}
+use Rattle.mesa_publishing.specs.mesa_plans.mesa_image_spec.Moves.{first_of, last_of}
 use Rattle.mesa_session_laws.specs.Works.{KnownTask, known_task}
 use Rattle.mesa_copy.specs.mesa_compact.Tasks.{KnownView, known_view}
 use Rattle.mesa_session_laws.proofs.Known.{cons_none, first_same, merge_stays, only_stays, rest_same}

@@ -5,9 +5,9 @@ use Rattle.std.specs.List.{AllByRecursion}
 use Rattle.mesa_schema.specs.Changes.{Lineage, columns_of, epoch_of}
 use Rattle.mesa_delta.specs.declared.input.Input.{Input}
 use Rattle.mesa_publishing.specs.mesa_plans.Ranges.{HasInput, HoldsAll, HoldsAt, Ranged, ranged}
-use Rattle.mesa_publishing.specs.mesa_plans.mesa_table.mesa_image.Catalog.{Stock}
-use Rattle.mesa_publishing.specs.mesa_plans.mesa_image.mesa_record.declared.record.Files.{Files}
-use Rattle.mesa_history.specs.Sources.{Source, Written, range_rows, sources_from}
+use Rattle.mesa_publishing.specs.mesa_plans.mesa_table.mesa_image_spec.Catalog.{Stock}
+use Rattle.mesa_publishing.specs.mesa_plans.mesa_image_spec.mesa_record.declared.record.Files.{Files}
+use Rattle.mesa_history_spec.specs.Sources.{Source, Written, range_rows, sources_from}
 use Rattle.mesa_session_laws.specs.Recasts.{KnownRecast, known_recast}
 use Rattle.mesa_publishing.proofs.mesa_copy.Same.{bounded_same}
 use Rattle.mesa_copy.specs.Copying.{AreRangesBounded, IsRecastBounded, KnownRange, known_range, known_ranges}

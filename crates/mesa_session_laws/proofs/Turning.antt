@@ -15,13 +15,13 @@ use Rattle.mesa_model.specs.declared.entries.Entry.{Entry}
 use Rattle.mesa_model.specs.declared.entries.Kind.{Kind}
 use Rattle.mesa_model.specs.Entry.{IsShort, entry_of, history_of, number_of, numbers_of}
 use Rattle.mesa_model.proofs.Numbers.{session_told, history_told}
-use Rattle.mesa_history.specs.Run.{State, Stage, Place, Run, place_of, begins}
-use Rattle.mesa_history.specs.Legal.{AllFit}
-use Rattle.mesa_history.proofs.Due.{fit_below}
-use Rattle.mesa_history.proofs.More.{runs_more}
-use Rattle.mesa_history.proofs.Turns.{prologue_is}
-use Rattle.mesa_invariant.specs.Turns.{Shown, entry, IsTurn, IsSeen, Asks}
-use Rattle.mesa_invariant.specs.Invariant.{run_at}
+use Rattle.mesa_history_spec.specs.Run.{State, Stage, Place, Run, place_of, begins}
+use Rattle.mesa_history_spec.specs.Legal.{AllFit}
+use Rattle.mesa_history_spec.proofs.Due.{fit_below}
+use Rattle.mesa_history_spec.proofs.More.{runs_more}
+use Rattle.mesa_history_spec.proofs.Turns.{prologue_is}
+use Rattle.mesa_invariant_spec.specs.Turns.{Shown, entry, IsTurn, IsSeen, Asks}
+use Rattle.mesa_invariant_spec.specs.Invariant.{run_at}
 use Rattle.mesa_session_laws.specs.Passes.{run_seen, at_stage, HasSort, Holds, Mine, Took}
 use Rattle.mesa_session_laws.proofs.Behind.{all_behind, comes_in_time, place_found, whole_found, within_one}
 

@@ -6,8 +6,8 @@ use Rattle.mesa_turn.specs.Passes.{Known}
 use Rattle.mesa_model.specs.declared.commands.Script.{Script}
 use Rattle.mesa_model.specs.declared.entries.Entry.{Entry}
 use Rattle.mesa_model.specs.Entry.{history_of}
-use Rattle.mesa_history.specs.Counting.{count_in, is_bench_fault}
-use Rattle.mesa_history.specs.Run.{State, begins}
+use Rattle.mesa_history_spec.specs.Counting.{count_in, is_bench_fault}
+use Rattle.mesa_history_spec.specs.Run.{State, begins}
 
 -- how many entries of a history answer a fault of a file that a session was building
 abbrev pub answered_in : Script → State → ℕ → List Entry → ℕ

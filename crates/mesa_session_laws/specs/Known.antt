@@ -11,7 +11,7 @@ use Rattle.mesa_session_laws.specs.Works.{KnownTask, known_task}
 use Rattle.mesa_copy.specs.mesa_compact.Tasks.{KnownView}
 use Rattle.mesa_publishing.specs.Finished.{HasRange}
 use Rattle.mesa_publishing.specs.Recasts.{HasItsRanges}
-use Rattle.mesa_tasks.specs.mesa_history.Sources.{Written}
+use Rattle.mesa_tasks.specs.mesa_history_spec.Sources.{Written}
 use Rattle.mesa_tasks.specs.declared.recasting.Recast.{Recast}
 use Rattle.mesa_tasks.specs.declared.merging.Task.{Task}
 

@@ -2,7 +2,7 @@ pub use Rattle.mesa_copy.specs.mesa_compact as mesa_compact
 pub use Rattle.mesa_copy.specs.mesa_compact.mesa_merge as mesa_merge
 pub use Rattle.mesa_copy.specs as mesa_copy
 pub use Rattle.mesa_query.specs as mesa_query
-pub use Rattle.mesa_invariant.specs as mesa_invariant
+pub use Rattle.mesa_invariant_spec.specs as mesa_invariant_spec
 pub use Rattle.mesa_publishing.specs.mesa_plans as mesa_plans
 pub use Rattle.mesa_publishing.specs as mesa_publishing
 pub mod Passes

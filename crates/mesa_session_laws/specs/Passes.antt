@@ -6,9 +6,9 @@ use Rattle.mesa_turn.specs.Passes.{Known, IsExact}
 use Rattle.mesa_model.specs.declared.commands.Command.{Command}
 use Rattle.mesa_model.specs.declared.commands.Script.{Script}
 use Rattle.mesa_model.specs.Entry.{history_of}
-use Rattle.mesa_history.specs.Run.{State, Stage, Place, Run, place_of, command_at, begins}
-use Rattle.mesa_history.specs.Legal.{AllFit, has_ended}
-use Rattle.mesa_invariant.specs.Invariant.{run_at}
+use Rattle.mesa_history_spec.specs.Run.{State, Stage, Place, Run, place_of, command_at, begins}
+use Rattle.mesa_history_spec.specs.Legal.{AllFit, has_ended}
+use Rattle.mesa_invariant_spec.specs.Invariant.{run_at}
 
 -- what stands after the turns that a pass has seen
 abbrev pub run_seen : Script → State → List ℕ → Run

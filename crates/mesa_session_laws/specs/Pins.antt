@@ -13,10 +13,10 @@ use Rattle.mesa_model.specs.declared.replies.Page.{Page}
 use Rattle.mesa_model.specs.Query.{Answer, Heading}
 use Rattle.mesa_script.specs.declared.rendered.Rendered.{Rendered}
 use Rattle.mesa_script.specs.Rows.{rendered}
-use Rattle.mesa_history.specs.Run.{State, Finished}
-use Rattle.mesa_projection.specs.Rows.{Rows, no_rows}
-use Rattle.mesa_invariant.specs.Queries.{IsOpen}
-use Rattle.mesa_invariant.specs.Turns.{Shown, IsTurn, IsSeen, Takes}
+use Rattle.mesa_history_spec.specs.Run.{State, Finished}
+use Rattle.mesa_projection_laws.specs.Rows.{Rows, no_rows}
+use Rattle.mesa_invariant_spec.specs.Queries.{IsOpen}
+use Rattle.mesa_invariant_spec.specs.Turns.{Shown, IsTurn, IsSeen, Takes}
 use Rattle.mesa_copy.specs.mesa_compact.mesa_answer.Answering.{KeepsSums}
 use Rattle.mesa_delta.specs.declared.error.FileError.{FileError}
 use Rattle.mesa_copy.specs.mesa_compact.mesa_merge.Inputs.{Known, AreTold, knowns_of}

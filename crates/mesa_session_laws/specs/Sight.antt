@@ -4,9 +4,9 @@ use Rattle.mesa_batch.specs.Glance.{Known, Sight}
 use Rattle.mesa_model.specs.declared.commands.Script.{Script}
 use Rattle.mesa_model.specs.declared.entries.Entry.{Entry}
 use Rattle.mesa_model.specs.Warehouse.{Store, Table}
-use Rattle.mesa_history.specs.Run.{State, begins}
-use Rattle.mesa_invariant.specs.Sight.{schema_changes}
-use Rattle.mesa_invariant.specs.Invariant.{run_at}
+use Rattle.mesa_history_spec.specs.Run.{State, begins}
+use Rattle.mesa_invariant_spec.specs.Sight.{schema_changes}
+use Rattle.mesa_invariant_spec.specs.Invariant.{run_at}
 
 -- each table's name, and its columns and views through its life
 abbrev pub tables_known : Store → List Known

@@ -7,22 +7,22 @@ use Rattle.mesa_disk.specs.declared.area.Area.{Area}
 use Rattle.mesa_model.specs.Warehouse.{Table}
 use Rattle.mesa_model.specs.declared.commands.Command.{Command}
 use Rattle.mesa_model.specs.declared.commands.Script.{Script}
-use Rattle.mesa_check.specs.mesa_history.Claims.{HasRanges}
-use Rattle.mesa_check.specs.mesa_history.Found.{Found, kept_in}
-use Rattle.mesa_check.specs.mesa_history.Replay.{runs}
-use Rattle.mesa_check.specs.mesa_history.Run.{begins}
-use Rattle.mesa_look.specs.mesa_projection.Bare.{bare_table}
-use Rattle.mesa_look.specs.mesa_projection.Rows.{Rows}
-use Rattle.mesa_engine_state.specs.mesa_trash.Filed.{AreFresh}
-use Rattle.mesa_engine_state.specs.mesa_trash.Holding.{Among}
-use Rattle.mesa_engine_state.specs.mesa_invariant.Books.{AreBooksOf}
-use Rattle.mesa_check.specs.mesa_catalog.mesa_image.Catalog.{Stock, Catalog, ranges_of}
-use Rattle.mesa_check.specs.mesa_catalog.mesa_image.Contents.{kept_of, table_of}
-use Rattle.mesa_check.specs.mesa_catalog.mesa_image.Sound.{StandsFor}
-use Rattle.mesa_check.specs.mesa_catalog.mesa_image.Ids.{named}
-use Rattle.mesa_check.proofs.mesa_catalog.mesa_image.AllSourced.{all_found}
-use Rattle.mesa_engine_state.specs.EngineState.{books_of, first_id, projection_of}
-use Rattle.mesa_engine_state.specs.Vault.{IsReady, Starts}
+use Rattle.mesa_check.specs.mesa_history_spec.Claims.{HasRanges}
+use Rattle.mesa_check.specs.mesa_history_spec.Found.{Found, kept_in}
+use Rattle.mesa_check.specs.mesa_history_spec.Replay.{runs}
+use Rattle.mesa_check.specs.mesa_history_spec.Run.{begins}
+use Rattle.mesa_store_digest.specs.mesa_projection_laws.Bare.{bare_table}
+use Rattle.mesa_store_digest.specs.mesa_projection_laws.Rows.{Rows}
+use Rattle.mesa_engine_spec.specs.mesa_trash.Filed.{AreFresh}
+use Rattle.mesa_engine_spec.specs.mesa_trash.Holding.{Among}
+use Rattle.mesa_engine_spec.specs.mesa_invariant_spec.Books.{AreBooksOf}
+use Rattle.mesa_check.specs.mesa_catalog.mesa_image_spec.Catalog.{Stock, Catalog, ranges_of}
+use Rattle.mesa_check.specs.mesa_catalog.mesa_image_spec.Contents.{kept_of, table_of}
+use Rattle.mesa_check.specs.mesa_catalog.mesa_image_spec.Sound.{StandsFor}
+use Rattle.mesa_check.specs.mesa_catalog.mesa_image_spec.Ids.{named}
+use Rattle.mesa_check.proofs.mesa_catalog.mesa_image_spec.AllSourced.{all_found}
+use Rattle.mesa_engine_spec.specs.EngineState.{books_of, first_id, projection_of}
+use Rattle.mesa_engine_spec.specs.Vault.{IsReady, Starts}
 use Rattle.mesa_session.specs.mesa_metadata.Memory.{opened_state}
 use Rattle.mesa_session.specs.mesa_engine.Beginning.{IsBegun}
 use Rattle.mesa_session.specs.mesa_engine.Engine.{most_turns, starts_of}

@@ -4,11 +4,11 @@ use Rattle.mesa_disk.specs.mesa_fault.Causes.{Rose}
 use Rattle.mesa_disk.specs.Story.{Story, Unmoved}
 use Rattle.mesa_disk.specs.declared.area.Area.{Area}
 use Rattle.mesa_delta.specs.declared.error.FileError.TheVariants as file_error
-use Rattle.mesa_look.specs.Latest.{HasLookReason}
-use Rattle.mesa_look.specs.declared.error.LookError.{LookError}
-use Rattle.mesa_look.specs.declared.error.LookError.TheVariants as look
-use Rattle.mesa_look.specs.Looked.{IsDigestOf}
-use Rattle.mesa_check.specs.mesa_catalog.mesa_image.Catalog.{Catalog}
+use Rattle.mesa_store_digest.specs.Latest.{HasLookReason}
+use Rattle.mesa_store_digest.specs.declared.error.LookError.{LookError}
+use Rattle.mesa_store_digest.specs.declared.error.LookError.TheVariants as look
+use Rattle.mesa_store_digest.specs.Looked.{IsDigestOf}
+use Rattle.mesa_check.specs.mesa_catalog.mesa_image_spec.Catalog.{Catalog}
 use Rattle.mesa_exit.specs.mesa_exit_spec.mesa_recover.declared.error.OpenError.{OpenError}
 use Rattle.mesa_exit.specs.mesa_exit_spec.mesa_recover.declared.error.OpenError.TheVariants as open_error
 use Rattle.mesa_exit.specs.mesa_exit_spec.mesa_recover.Opening.{HasReason, IsRead}

@@ -5,20 +5,20 @@ use Rattle.std.specs.Prelude.{Result, Ok, Err, IfOk, IfErr}
 use Rattle.mesa_disk.specs.mesa_fault.Causes.{last}
 use Rattle.mesa_disk.specs.Image.{Image}
 use Rattle.mesa_disk.specs.Story.{Story, Unmoved}
-use Rattle.mesa_engine_state.specs.mesa_trash.Filed.{FilesAdopted}
-use Rattle.mesa_look.specs.mesa_projection.Rows.{Rows}
-use Rattle.mesa_check.specs.mesa_catalog.mesa_image.Catalog.{Catalog, applied}
-use Rattle.mesa_check.specs.mesa_catalog.mesa_image.Shape.{IsCatalog}
-use Rattle.mesa_check.specs.mesa_catalog.mesa_image.Fitting.{max_runs}
-use Rattle.mesa_check.specs.mesa_catalog.mesa_image.Countable.{AreCounted}
-use Rattle.mesa_check.specs.mesa_catalog.mesa_image.Ids.{HasOwnIds, named}
-use Rattle.mesa_check.specs.mesa_catalog.mesa_image.Recordable.{AreRecordable}
-use Rattle.mesa_check.proofs.mesa_catalog.mesa_image.Wholes.{catalog_whole}
+use Rattle.mesa_engine_spec.specs.mesa_trash.Filed.{FilesAdopted}
+use Rattle.mesa_store_digest.specs.mesa_projection_laws.Rows.{Rows}
+use Rattle.mesa_check.specs.mesa_catalog.mesa_image_spec.Catalog.{Catalog, applied}
+use Rattle.mesa_check.specs.mesa_catalog.mesa_image_spec.Shape.{IsCatalog}
+use Rattle.mesa_check.specs.mesa_catalog.mesa_image_spec.Fitting.{max_runs}
+use Rattle.mesa_check.specs.mesa_catalog.mesa_image_spec.Countable.{AreCounted}
+use Rattle.mesa_check.specs.mesa_catalog.mesa_image_spec.Ids.{HasOwnIds, named}
+use Rattle.mesa_check.specs.mesa_catalog.mesa_image_spec.Recordable.{AreRecordable}
+use Rattle.mesa_check.proofs.mesa_catalog.mesa_image_spec.Wholes.{catalog_whole}
 use Rattle.mesa_exit.specs.mesa_exit_spec.mesa_recover.declared.error.OpenError.{OpenError}
 use Rattle.mesa_exit.specs.mesa_exit_spec.mesa_recover.declared.error.OpenError.TheVariants as open_error
 use Rattle.mesa_exit.specs.mesa_exit_spec.mesa_recover.Opening.{HasReason, IsHeldAs, IsSoundStart, Keeps, first_id, most_runs, run_record}
 use Rattle.mesa_exit.proofs.mesa_exit_spec.mesa_recover.Beginnings.{runs_few}
-use Rattle.mesa_engine_state.specs.Vault.{IsRead}
+use Rattle.mesa_engine_spec.specs.Vault.{IsRead}
 use Rattle.mesa_check.specs.mesa_catalog.declared.begun.Begun.{Begun}
 use Rattle.mesa_recover.specs.declared.opened.Opened.{Opened}
 use Rattle.mesa_recover.specs.Opened.{IsOpened}

@@ -7,18 +7,18 @@ use Rattle.mesa_disk.specs.mesa_fault.Causes.{last}
 use Rattle.mesa_disk.specs.Story.{Story}
 use Rattle.mesa_model.specs.declared.commands.Script.{Script}
 use Rattle.mesa_model.specs.declared.entries.Entry.{Entry}
-use Rattle.mesa_check.specs.mesa_history.Counting.{answers_bench, count_in, is_bench_fault, is_disk_fault, one_if}
-use Rattle.mesa_check.specs.mesa_history.Legal.{IsLegal}
-use Rattle.mesa_check.specs.mesa_history.Replay.{closes, go, runs}
-use Rattle.mesa_check.specs.mesa_history.Run.{Run, State, begins}
-use Rattle.mesa_look.specs.mesa_projection.Bare.{bare_run, bare_state}
-use Rattle.mesa_look.proofs.mesa_projection.Alike.{go_alike, legal_alike}
+use Rattle.mesa_check.specs.mesa_history_spec.Counting.{answers_bench, count_in, is_bench_fault, is_disk_fault, one_if}
+use Rattle.mesa_check.specs.mesa_history_spec.Legal.{IsLegal}
+use Rattle.mesa_check.specs.mesa_history_spec.Replay.{closes, go, runs}
+use Rattle.mesa_check.specs.mesa_history_spec.Run.{Run, State, begins}
+use Rattle.mesa_store_digest.specs.mesa_projection_laws.Bare.{bare_run, bare_state}
+use Rattle.mesa_store_digest.proofs.mesa_projection_laws.Alike.{go_alike, legal_alike}
 use Rattle.mesa_session.specs.mesa_session_laws.Answers.{AreTimely, HasCounted, HaveCounted}
-use Rattle.mesa_engine_state.specs.mesa_invariant.Printing.{IsPrintedButRows}
-use Rattle.mesa_engine_state.specs.mesa_invariant.Invariant.{HasCounted as HasCountedFaults}
+use Rattle.mesa_engine_spec.specs.mesa_invariant_spec.Printing.{IsPrintedButRows}
+use Rattle.mesa_engine_spec.specs.mesa_invariant_spec.Invariant.{HasCounted as HasCountedFaults}
 use Rattle.mesa_exit.specs.mesa_exit_spec.Counting.{HasBenchCounts}
 use Rattle.mesa_exit.specs.mesa_exit_spec.Run.{RanAnyhow}
-use Rattle.mesa_engine_state.specs.Vault.{IsRead}
+use Rattle.mesa_engine_spec.specs.Vault.{IsRead}
 use Rattle.mesa_session.specs.mesa_engine.Ending.{ReadsState}
 
 -- ---- moments

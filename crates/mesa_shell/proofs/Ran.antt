@@ -6,17 +6,17 @@ use Rattle.mesa_disk.specs.Image.{Image}
 use Rattle.mesa_disk.specs.Story.{Story}
 use Rattle.mesa_model.specs.declared.commands.Script.{Script}
 use Rattle.mesa_model.specs.declared.entries.Entry.{Entry}
-use Rattle.mesa_check.specs.mesa_history.Found.{Found, kept_in}
-use Rattle.mesa_check.specs.mesa_history.Refused.{some_refused}
-use Rattle.mesa_check.specs.mesa_history.Replay.{runs}
-use Rattle.mesa_check.specs.mesa_history.Run.{begins}
-use Rattle.mesa_laws.specs.Printed.{AnswersFromTheFold}
-use Rattle.mesa_laws.proofs.ReachedAnswers.{pages_fold}
-use Rattle.mesa_look.specs.mesa_projection.Rows.{Rows}
-use Rattle.mesa_check.specs.mesa_catalog.mesa_image.Catalog.{Catalog}
-use Rattle.mesa_check.specs.mesa_catalog.mesa_image.Contents.{kept_of}
-use Rattle.mesa_check.specs.mesa_catalog.mesa_image.Sound.{StandsFor}
-use Rattle.mesa_check.proofs.mesa_catalog.mesa_image.Wholes.{catalog_whole}
+use Rattle.mesa_check.specs.mesa_history_spec.Found.{Found, kept_in}
+use Rattle.mesa_check.specs.mesa_history_spec.Refused.{some_refused}
+use Rattle.mesa_check.specs.mesa_history_spec.Replay.{runs}
+use Rattle.mesa_check.specs.mesa_history_spec.Run.{begins}
+use Rattle.mesa_history_laws.specs.Printed.{AnswersFromTheFold}
+use Rattle.mesa_history_laws.proofs.ReachedAnswers.{pages_fold}
+use Rattle.mesa_store_digest.specs.mesa_projection_laws.Rows.{Rows}
+use Rattle.mesa_check.specs.mesa_catalog.mesa_image_spec.Catalog.{Catalog}
+use Rattle.mesa_check.specs.mesa_catalog.mesa_image_spec.Contents.{kept_of}
+use Rattle.mesa_check.specs.mesa_catalog.mesa_image_spec.Sound.{StandsFor}
+use Rattle.mesa_check.proofs.mesa_catalog.mesa_image_spec.Wholes.{catalog_whole}
 use Rattle.mesa_exit.specs.mesa_exit_spec.mesa_recover.Opening.{IsSoundStart, Keeps}
 use Rattle.mesa_check.specs.mesa_catalog.declared.begun.Begun.{Begun}
 use Rattle.mesa_exit.specs.mesa_exit_spec.Counting.{HasBenchCounts}

@@ -2,17 +2,17 @@
 use Rattle.std.proofs.Common.{◌≡◌, ℕ, ◌+◌, ◌++◌, List, [], Bool, true, false, refl, sym, ap, subst, inl, inr, Option, Some, Ok}
 use Rattle.std.specs.Prelude.{if◌then◌else◌}
 use Rattle.std.specs.Io.KnownBytes.{Appends}
-use Rattle.mesa_exit.specs.mesa_exit_spec.mesa_single_session.Alone.{output_alone}
+use Rattle.mesa_exit.specs.mesa_exit_spec.mesa_single_session_laws.Alone.{output_alone}
 use Rattle.mesa_disk.specs.Story.{Story}
 use Rattle.mesa_model.specs.declared.commands.Script.{Script}
-use Rattle.mesa_check.specs.mesa_history.Refused.{some_refused}
-use Rattle.mesa_check.specs.mesa_history.Run.{begins}
+use Rattle.mesa_check.specs.mesa_history_spec.Refused.{some_refused}
+use Rattle.mesa_check.specs.mesa_history_spec.Run.{begins}
 use Rattle.mesa_script.specs.Generated.{generated}
 use Rattle.mesa_script.specs.Script.{script_of}
-use Rattle.mesa_look.specs.mesa_projection.Rows.{Rows}
-use Rattle.mesa_engine_state.specs.mesa_invariant.Printing.{HasAll, HasAllButRows, IsOutputButRows}
-use Rattle.mesa_engine_state.specs.mesa_invariant.mesa_output.Output.{IsOutput}
-use Rattle.mesa_check.specs.mesa_catalog.mesa_image.Catalog.{Catalog}
+use Rattle.mesa_store_digest.specs.mesa_projection_laws.Rows.{Rows}
+use Rattle.mesa_engine_spec.specs.mesa_invariant_spec.Printing.{HasAll, HasAllButRows, IsOutputButRows}
+use Rattle.mesa_engine_spec.specs.mesa_invariant_spec.mesa_output_spec.Output.{IsOutput}
+use Rattle.mesa_check.specs.mesa_catalog.mesa_image_spec.Catalog.{Catalog}
 use Rattle.mesa_generate.specs.Excerpt.{CutsOut, HasPlainNames}
 use Rattle.mesa_exit.specs.mesa_exit_spec.Ports.{ports}
 use Rattle.mesa_exit.specs.mesa_exit_spec.Exits.{gen_line, memory_line, memory_status}

@@ -4,7 +4,7 @@ use Rattle.std.proofs.lemmas.Bool.{cases_lt}
 use Rattle.mesa_disk.specs.mesa_fault.Causes.{last, Rose}
 use Rattle.mesa_disk.specs.Story.{Story, Unmoved}
 use Rattle.mesa_disk.specs.declared.area.Area.{Area}
-use Rattle.mesa_check.specs.mesa_catalog.mesa_image.Catalog.{Catalog}
+use Rattle.mesa_check.specs.mesa_catalog.mesa_image_spec.Catalog.{Catalog}
 use Rattle.mesa_exit.specs.mesa_exit_spec.mesa_check.Faults.{Fault}
 use Rattle.mesa_exit.specs.mesa_exit_spec.mesa_check.Verdict.{IsFirstFault}
 use Rattle.mesa_exit.specs.mesa_exit_spec.mesa_recover.declared.error.OpenError.{OpenError}

@@ -4,17 +4,17 @@ use Rattle.mesa_disk.specs.mesa_fault.Causes.{last}
 use Rattle.mesa_disk.specs.Image.{Image}
 use Rattle.mesa_disk.specs.Story.{Story}
 use Rattle.mesa_disk.specs.declared.area.Area.{Area}
-use Rattle.mesa_engine_state.specs.mesa_trash.Filed.{FilesAdopted}
-use Rattle.mesa_look.specs.mesa_projection.Rows.{Rows}
-use Rattle.mesa_check.specs.mesa_catalog.mesa_image.Catalog.{Catalog, applied}
-use Rattle.mesa_check.specs.mesa_catalog.mesa_image.Contents.{kept_of}
-use Rattle.mesa_check.specs.mesa_catalog.mesa_image.Shape.{IsCatalog}
-use Rattle.mesa_check.specs.mesa_catalog.mesa_image.Sound.{StandsFor}
-use Rattle.mesa_check.specs.mesa_catalog.mesa_image.Countable.{AreCounted}
-use Rattle.mesa_check.specs.mesa_catalog.mesa_image.Ids.{HasOwnIds, named}
-use Rattle.mesa_check.specs.mesa_catalog.mesa_image.Recordable.{AreRecordable}
+use Rattle.mesa_engine_spec.specs.mesa_trash.Filed.{FilesAdopted}
+use Rattle.mesa_store_digest.specs.mesa_projection_laws.Rows.{Rows}
+use Rattle.mesa_check.specs.mesa_catalog.mesa_image_spec.Catalog.{Catalog, applied}
+use Rattle.mesa_check.specs.mesa_catalog.mesa_image_spec.Contents.{kept_of}
+use Rattle.mesa_check.specs.mesa_catalog.mesa_image_spec.Shape.{IsCatalog}
+use Rattle.mesa_check.specs.mesa_catalog.mesa_image_spec.Sound.{StandsFor}
+use Rattle.mesa_check.specs.mesa_catalog.mesa_image_spec.Countable.{AreCounted}
+use Rattle.mesa_check.specs.mesa_catalog.mesa_image_spec.Ids.{HasOwnIds, named}
+use Rattle.mesa_check.specs.mesa_catalog.mesa_image_spec.Recordable.{AreRecordable}
 use Rattle.mesa_exit.specs.mesa_exit_spec.mesa_recover.Opening.{IsHeldAs, IsSoundStart, Keeps, ReadsAs, first_id, most_runs, run_record}
-use Rattle.mesa_engine_state.specs.Vault.{IsRead}
+use Rattle.mesa_engine_spec.specs.Vault.{IsRead}
 use Rattle.mesa_check.specs.mesa_catalog.declared.begun.Begun.{Begun}
 use Rattle.mesa_exit.specs.mesa_exit_spec.Start.{AreTold}
 

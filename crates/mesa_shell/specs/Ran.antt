@@ -2,14 +2,14 @@
 use Rattle.std.specs.Prelude.{◌≡◌, ◌+◌, ◌<◌, List, [], length, true, false}
 use Rattle.mesa_disk.specs.mesa_fault.Causes.{last, Rose}
 use Rattle.mesa_model.specs.declared.commands.Script.{Script}
-use Rattle.mesa_check.specs.mesa_history.Refused.{some_refused}
-use Rattle.mesa_check.specs.mesa_history.Run.{begins}
-use Rattle.mesa_look.specs.mesa_projection.Rows.{Rows}
+use Rattle.mesa_check.specs.mesa_history_spec.Refused.{some_refused}
+use Rattle.mesa_check.specs.mesa_history_spec.Run.{begins}
+use Rattle.mesa_store_digest.specs.mesa_projection_laws.Rows.{Rows}
 use Rattle.mesa_check.specs.mesa_catalog.declared.begun.Begun.{Begun}
 use Rattle.mesa_exit.specs.mesa_exit_spec.Counting.{HasBenchCounts}
 use Rattle.mesa_exit.specs.mesa_exit_spec.Ports.{Ports}
-use Rattle.mesa_engine_state.specs.mesa_invariant.Invariant.{AllFound}
-use Rattle.mesa_engine_state.specs.Vault.{IsRead}
+use Rattle.mesa_engine_spec.specs.mesa_invariant_spec.Invariant.{AllFound}
+use Rattle.mesa_engine_spec.specs.Vault.{IsRead}
 use Rattle.mesa_exit.specs.mesa_exit_spec.Run.{RanAnyhow, RanSoundly, outset_from}
 use Rattle.mesa_exit.specs.mesa_exit_spec.Start.{start_of}
 use Rattle.mesa_shell.specs.Begun.{IsSoundBegun}

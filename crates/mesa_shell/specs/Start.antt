@@ -1,9 +1,9 @@
 -- What a run over a store finds when it begins.
-use Rattle.mesa_look.specs.mesa_projection.Rows.{Rows}
-use Rattle.mesa_check.specs.mesa_catalog.mesa_image.Catalog.{Catalog, stock_at}
-use Rattle.mesa_check.specs.mesa_catalog.mesa_image.Sourced.{found_written}
+use Rattle.mesa_store_digest.specs.mesa_projection_laws.Rows.{Rows}
+use Rattle.mesa_check.specs.mesa_catalog.mesa_image_spec.Catalog.{Catalog, stock_at}
+use Rattle.mesa_check.specs.mesa_catalog.mesa_image_spec.Sourced.{found_written}
 use Rattle.mesa_check.specs.mesa_catalog.Lookups.{generation_of}
-use Rattle.mesa_engine_state.specs.Vault.{Origin}
+use Rattle.mesa_engine_spec.specs.Vault.{Origin}
 
 -- the number of a run by its catalogue, what it finds written of each table, and how often tables, views and columns had changed
 abbrev pub origin_of : Catalog → Rows → Origin

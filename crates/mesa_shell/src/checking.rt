@@ -7,7 +7,7 @@ ghost use Rattle.mesa_exit.specs.mesa_exit_spec.mesa_recover.declared.error.Open
 ghost use Rattle.mesa_exit.specs.mesa_exit_spec.mesa_check.Verdict.{IsFirstFault, fault_told};
 ghost use Rattle.mesa_exit.specs.mesa_exit_spec.Ports.{ports};
 ghost use Rattle.mesa_exit.specs.mesa_exit_spec.Unopened.{HasSameCounts};
-ghost use Rattle.mesa_check.specs.mesa_catalog.mesa_image.Catalog.{Catalog};
+ghost use Rattle.mesa_check.specs.mesa_catalog.mesa_image_spec.Catalog.{Catalog};
 
 use mesa_check::{CheckError, Verdict, check};
 use mesa_disk::{Bench, Disk, Made};

@@ -7,8 +7,8 @@ use mesa_delta::FileError;
 use mesa_disk::{Bench, Disk, Made};
 use mesa_exit::{Devices, Done, ended, ended_digest, ended_opening, statuses};
 use mesa_io::Sink;
-use mesa_look::{LookError, look};
 use mesa_recover::{OpenError, read};
+use mesa_store_digest::{LookError, look};
 use std::alloc::Global;
 
 // The lines of a digest that is refused.

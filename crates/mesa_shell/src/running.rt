@@ -3,14 +3,14 @@ ghost use Rattle.std.specs.Prelude.{◌≡◌, ◌+◌, ◌<◌, ◌≤◌, ◌^
 ghost use Rattle.mesa_disk.specs.mesa_fault.Causes.{last, Rose};
 ghost use Rattle.mesa_session.specs.mesa_engine.Beginning.{IsBegun};
 ghost use Rattle.mesa_session.specs.mesa_engine.Engine.{most_turns, starts_of};
-ghost use Rattle.mesa_check.specs.mesa_history.Refused.{some_refused};
-ghost use Rattle.mesa_check.specs.mesa_history.Run.{begins};
-ghost use Rattle.mesa_look.specs.mesa_projection.Rows.{Rows};
+ghost use Rattle.mesa_check.specs.mesa_history_spec.Refused.{some_refused};
+ghost use Rattle.mesa_check.specs.mesa_history_spec.Run.{begins};
+ghost use Rattle.mesa_store_digest.specs.mesa_projection_laws.Rows.{Rows};
 ghost use Rattle.mesa_session.specs.mesa_session_laws.Passes.{turns_of};
 ghost use Rattle.mesa_exit.specs.mesa_exit_spec.Counting.{HasBenchCounts};
 ghost use Rattle.mesa_exit.specs.mesa_exit_spec.Ports.{ports};
-ghost use Rattle.mesa_engine_state.specs.mesa_invariant.Invariant.{AllFound};
-ghost use Rattle.mesa_engine_state.specs.Vault.{IsRead};
+ghost use Rattle.mesa_engine_spec.specs.mesa_invariant_spec.Invariant.{AllFound};
+ghost use Rattle.mesa_engine_spec.specs.Vault.{IsRead};
 ghost use Rattle.mesa_exit.specs.mesa_exit_spec.Run.{RanAnyhow, RanSoundly, outset_from};
 ghost use Rattle.mesa_exit.specs.mesa_exit_spec.Scripts.{IsSmall};
 ghost use Rattle.mesa_exit.specs.mesa_exit_spec.Start.{AreTold};
@@ -18,7 +18,7 @@ ghost use Rattle.mesa_shell.specs.Begun.{IsReadyToRun};
 ghost use Rattle.mesa_shell.specs.Ran.{HasNotRun, RanFrom};
 
 use mesa_disk::{Bench, Disk, Made};
-use mesa_engine_state::Naming;
+use mesa_engine_spec::Naming;
 use mesa_exit::Devices;
 use mesa_io::Sink;
 use mesa_model::{Entry, Script};

@@ -13,11 +13,11 @@ use Rattle.mesa_commit.specs.Images.{Has, Shows, Stands}
 use Rattle.mesa_commit.specs.Restated.{TakesOver, OldOrRestated}
 use Rattle.mesa_commit.proofs.Files.{has_changed}
 use Rattle.mesa_commit.proofs.Calls.{behind_changed}
-use Rattle.mesa_image.specs.Catalog.{Catalog}
-use Rattle.mesa_image.specs.Fitting.{shelved}
-use Rattle.mesa_image.specs.Contents.{Rows, kept_of}
-use Rattle.mesa_image.specs.Sound.{wants, StandsFor}
-use Rattle.mesa_image.specs.Held.{IsHeld}
+use Rattle.mesa_image_spec.specs.Catalog.{Catalog}
+use Rattle.mesa_image_spec.specs.Fitting.{shelved}
+use Rattle.mesa_image_spec.specs.Contents.{Rows, kept_of}
+use Rattle.mesa_image_spec.specs.Sound.{wants, StandsFor}
+use Rattle.mesa_image_spec.specs.Held.{IsHeld}
 use Rattle.mesa_store.specs.Store.{IsFound, Restates, StatesIfAny}
 use Rattle.mesa_store.proofs.Joined.{shows_stands}
 

@@ -9,14 +9,14 @@ use Rattle.mesa_disk.specs.Story.{Story}
 use Rattle.mesa_disk.specs.declared.area.Area.{Area}
 use Rattle.mesa_commit.specs.Images.{ids_of, Shows, Stands}
 use Rattle.mesa_commit.specs.Turn.{AreApart, Brings, OldOrNew}
-use Rattle.mesa_image.specs.mesa_record.declared.record.Record.{Record}
-use Rattle.mesa_image.specs.Catalog.{Catalog, applied}
-use Rattle.mesa_image.specs.Fitting.{Shelved, fits, kind_fits, shelved, brought, shelved_id, are_new_ids, has_number, run_of_id}
-use Rattle.mesa_image.specs.Journaled.{catalog}
-use Rattle.mesa_image.specs.Contents.{Rows, kept_of}
-use Rattle.mesa_image.specs.Sound.{wants, AreStocked, StandsFor}
-use Rattle.mesa_image.specs.Held.{IsHeld, IsUnnamed, StandsForEither}
-use Rattle.mesa_image.proofs.OneMore.{catalog_more}
+use Rattle.mesa_image_spec.specs.mesa_record.declared.record.Record.{Record}
+use Rattle.mesa_image_spec.specs.Catalog.{Catalog, applied}
+use Rattle.mesa_image_spec.specs.Fitting.{Shelved, fits, kind_fits, shelved, brought, shelved_id, are_new_ids, has_number, run_of_id}
+use Rattle.mesa_image_spec.specs.Journaled.{catalog}
+use Rattle.mesa_image_spec.specs.Contents.{Rows, kept_of}
+use Rattle.mesa_image_spec.specs.Sound.{wants, AreStocked, StandsFor}
+use Rattle.mesa_image_spec.specs.Held.{IsHeld, IsUnnamed, StandsForEither}
+use Rattle.mesa_image_spec.proofs.OneMore.{catalog_more}
 use Rattle.mesa_store.specs.Store.{Writes}
 
 -- an image that shows a catalogue's bodies and files stands for what the catalogue stands for

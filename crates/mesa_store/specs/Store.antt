@@ -8,13 +8,13 @@ use Rattle.mesa_disk.specs.declared.area.Area.{Area}
 use Rattle.mesa_journal.specs.Areas.{HasJournal, Leads, other_of}
 use Rattle.mesa_commit.specs.Images.{Has}
 use Rattle.mesa_commit.specs.Turn.{told_files}
-use Rattle.mesa_image.specs.mesa_record.declared.record.Record.{Record}
-use Rattle.mesa_image.specs.Catalog.{Catalog, applied}
-use Rattle.mesa_image.specs.Fitting.{brought, shelved}
-use Rattle.mesa_image.specs.Journaled.{catalog}
-use Rattle.mesa_image.specs.Contents.{Rows, kept_of}
-use Rattle.mesa_image.specs.Sound.{wants, AreStocked, StandsFor}
-use Rattle.mesa_image.specs.Held.{IsHeld, IsStep, IsUnnamed}
+use Rattle.mesa_image_spec.specs.mesa_record.declared.record.Record.{Record}
+use Rattle.mesa_image_spec.specs.Catalog.{Catalog, applied}
+use Rattle.mesa_image_spec.specs.Fitting.{brought, shelved}
+use Rattle.mesa_image_spec.specs.Journaled.{catalog}
+use Rattle.mesa_image_spec.specs.Contents.{Rows, kept_of}
+use Rattle.mesa_image_spec.specs.Sound.{wants, AreStocked, StandsFor}
+use Rattle.mesa_image_spec.specs.Held.{IsHeld, IsStep, IsUnnamed}
 
 -- What a read gives is sound, with these bodies, this catalogue and these rows, and each image that a crash may leave stands for the same.
 pub record IsFound (story : Story) (live : Area) (bodies : List (List ℕ)) (end : ℕ) (c : Catalog) (rows : Rows) : Type 0 where

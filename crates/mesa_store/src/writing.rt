@@ -6,10 +6,10 @@ ghost use Rattle.mesa_disk.specs.Files.{files_of, AreAbsent, AreGone, AreThere, 
 ghost use Rattle.mesa_disk.specs.Story.{Spans, Steps};
 ghost use Rattle.mesa_disk.specs.declared.area.Area.{Area};
 ghost use Rattle.mesa_commit.specs.Turn.{AreApart, MovesOnly, made_ids};
-ghost use Rattle.mesa_image.specs.mesa_record.declared.record.Record.{Record};
-ghost use Rattle.mesa_image.specs.Catalog.{Catalog, applied};
-ghost use Rattle.mesa_image.specs.Contents.{Rows, kept_of};
-ghost use Rattle.mesa_image.specs.Held.{IsHeld, StandsForEither};
+ghost use Rattle.mesa_image_spec.specs.mesa_record.declared.record.Record.{Record};
+ghost use Rattle.mesa_image_spec.specs.Catalog.{Catalog, applied};
+ghost use Rattle.mesa_image_spec.specs.Contents.{Rows, kept_of};
+ghost use Rattle.mesa_image_spec.specs.Held.{IsHeld, StandsForEither};
 ghost use Rattle.mesa_store.specs.Store.{Writes};
 
 use mesa_commit::commit_turn;

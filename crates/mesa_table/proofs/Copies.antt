@@ -5,7 +5,7 @@ use Rattle.std.specs.declared.alloc.Global.{Global}
 use Rattle.std.specs.declared.sync.Arc.{Arc}
 use Rattle.std.proofs.lemmas.List.{length-map}
 use Rattle.mesa_span.specs.Ranges.{start_behind}
-use Rattle.mesa_image.specs.Catalog.{Delta, Ending, empty_delta, end_in}
+use Rattle.mesa_image_spec.specs.Catalog.{Delta, Ending, empty_delta, end_in}
 use Rattle.mesa_table.specs.declared.table.Base.{Base}
 use Rattle.mesa_table.specs.declared.table.Loaded.{Loaded}
 use Rattle.mesa_table.specs.declared.table.Table.{Table}

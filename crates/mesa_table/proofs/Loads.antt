@@ -2,7 +2,7 @@
 use Rattle.std.proofs.Common.{◌≡◌, ℕ, ◌+◌, ◌≤◌, [], ◌∷◌, ◌++◌, refl, sym, ◌∙◌, ap, subst, arith}
 use Rattle.std.specs.Prelude.{Some, None, Vec}
 use Rattle.std.specs.declared.alloc.Global.{Global}
-use Rattle.mesa_image.specs.Catalog.{stock_loaded}
+use Rattle.mesa_image_spec.specs.Catalog.{stock_loaded}
 use Rattle.mesa_table.specs.declared.table.Loaded.{Loaded}
 use Rattle.mesa_table.specs.declared.table.Table.{Table}
 use Rattle.mesa_table.specs.declared.ready.ReadyPart.{ReadyPart}

@@ -9,8 +9,8 @@ use Rattle.std.proofs.lemmas.List.{append-nil, length-replicate, take-append-le}
 use Rattle.mesa_schema.specs.Changes.{Lineage}
 use Rattle.mesa_record.specs.declared.record.Files.{Files}
 use Rattle.mesa_record.specs.declared.record.ViewRef.{ViewRef}
-use Rattle.mesa_image.specs.Catalog.{Delta, empty_delta}
-use Rattle.mesa_image.specs.Fitting.{base_deltas, delta_in, delta_shelved, deltas_of, files_shelved, has_number, shelved_id, stock_shelved, view_shelved}
+use Rattle.mesa_image_spec.specs.Catalog.{Delta, empty_delta}
+use Rattle.mesa_image_spec.specs.Fitting.{base_deltas, delta_in, delta_shelved, deltas_of, files_shelved, has_number, shelved_id, stock_shelved, view_shelved}
 use Rattle.mesa_table.specs.declared.table.Base.{Base}
 use Rattle.mesa_table.specs.declared.table.Loaded.{Loaded}
 use Rattle.mesa_table.specs.declared.table.Table.{Table}

@@ -6,8 +6,8 @@ use Rattle.std.specs.declared.alloc.Global.{Global}
 use Rattle.std.specs.declared.sync.Arc.{Arc}
 use Rattle.std.proofs.lemmas.Bool.Decides.{nat_tests}
 use Rattle.std.proofs.lemmas.Option.{slice_get_past}
-use Rattle.mesa_image.specs.Catalog.{Delta, Ending, empty_delta}
-use Rattle.mesa_image.specs.Fitting.{delta_in}
+use Rattle.mesa_image_spec.specs.Catalog.{Delta, Ending, empty_delta}
+use Rattle.mesa_image_spec.specs.Fitting.{delta_in}
 use Rattle.mesa_table.specs.declared.table.Loaded.{Loaded}
 use Rattle.mesa_table.specs.declared.table.Table.{Table}
 use Rattle.mesa_table.specs.Copied.{value_in}

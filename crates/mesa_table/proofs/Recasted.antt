@@ -15,10 +15,10 @@ use Rattle.mesa_record.specs.declared.record.Files.{Files}
 use Rattle.mesa_record.specs.declared.checkpoint.StatedSingle.{StatedSingle}
 use Rattle.mesa_record.specs.declared.recasting.RecastBase.{RecastBase}
 use Rattle.mesa_record.specs.declared.recasting.Recasting.{Recasting}
-use Rattle.mesa_image.specs.Catalog.{Ending, base_recast, end_in, recast_in, singles_stated, singles_told, start_in}
-use Rattle.mesa_image.specs.Checkpoint.{stating_single, stating_singles, totals_or_none}
-use Rattle.mesa_image.specs.CheckpointFits.{are_singles}
-use Rattle.mesa_image.specs.Fitting.{base_renewed, files_renewed, ranges_renewed, recast_fits, single_renewed, singles_renewed, totals_fit}
+use Rattle.mesa_image_spec.specs.Catalog.{Ending, base_recast, end_in, recast_in, singles_stated, singles_told, start_in}
+use Rattle.mesa_image_spec.specs.Checkpoint.{stating_single, stating_singles, totals_or_none}
+use Rattle.mesa_image_spec.specs.CheckpointFits.{are_singles}
+use Rattle.mesa_image_spec.specs.Fitting.{base_renewed, files_renewed, ranges_renewed, recast_fits, single_renewed, singles_renewed, totals_fit}
 use Rattle.mesa_table.specs.declared.ready.ReadyRecast.{ReadyRecast}
 use Rattle.mesa_table.specs.declared.table.Base.{Base}
 use Rattle.mesa_table.specs.declared.table.Loaded.{Loaded}

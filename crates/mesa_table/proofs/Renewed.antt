@@ -21,9 +21,9 @@ use Rattle.mesa_file.specs.declared.file_ref.FileRef.{FileRef}
 use Rattle.mesa_record.specs.declared.record.Files.{Files}
 use Rattle.mesa_record.specs.declared.record.ViewRef.{ViewRef}
 use Rattle.mesa_record.specs.declared.checkpoint.StatedSingle.{StatedSingle}
-use Rattle.mesa_image.specs.Catalog.{Delta}
-use Rattle.mesa_image.specs.Checkpoint.{stating_single}
-use Rattle.mesa_image.specs.Fitting.{counts_view, files_renewed, is_view_ref, single_renewed, singles_renewed}
+use Rattle.mesa_image_spec.specs.Catalog.{Delta}
+use Rattle.mesa_image_spec.specs.Checkpoint.{stating_single}
+use Rattle.mesa_image_spec.specs.Fitting.{counts_view, files_renewed, is_view_ref, single_renewed, singles_renewed}
 use Rattle.mesa_table.specs.declared.table.Loaded.{Loaded}
 use Rattle.mesa_table.specs.Renewed.{is_sum_at, is_sum_if_any, is_sum_named, renewed_behind}
 use Rattle.mesa_table.specs.Stated.{stating_loaded}

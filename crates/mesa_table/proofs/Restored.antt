@@ -16,9 +16,9 @@ use Rattle.mesa_span.specs.Ranges.{start_behind}
 use Rattle.mesa_record.specs.declared.checkpoint.StatedRange.{StatedRange}
 use Rattle.mesa_record.specs.declared.checkpoint.StatedSingle.{StatedSingle}
 use Rattle.mesa_record.specs.declared.checkpoint.StatedTable.{StatedTable}
-use Rattle.mesa_image.specs.Catalog.{Delta, empty_delta, end_in}
-use Rattle.mesa_image.specs.Checkpoint.{lineage_stated, range_stated, single_stated, singles_stated, stock_stated, to_stated}
-use Rattle.mesa_image.specs.CheckpointFits.{are_singles, are_tens, base_fits, oldest_fits, plain, range_fits, single_fits}
+use Rattle.mesa_image_spec.specs.Catalog.{Delta, empty_delta, end_in}
+use Rattle.mesa_image_spec.specs.Checkpoint.{lineage_stated, range_stated, single_stated, singles_stated, stock_stated, to_stated}
+use Rattle.mesa_image_spec.specs.CheckpointFits.{are_singles, are_tens, base_fits, oldest_fits, plain, range_fits, single_fits}
 use Rattle.mesa_table.specs.declared.table.Base.{Base}
 use Rattle.mesa_table.specs.declared.table.Loaded.{Loaded}
 use Rattle.mesa_table.specs.declared.table.Table.{Table}

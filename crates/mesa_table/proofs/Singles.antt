@@ -3,7 +3,7 @@ use Rattle.std.proofs.Common.{◌≡◌, ℕ, zero, suc, ◌+◌, ◌-◌, ◌�
 use Rattle.std.specs.Prelude.{replicate, filter, nat_lt, flat_map}
 use Rattle.std.proofs.lemmas.Bool.Decides.{nat_tests}
 use Rattle.std.proofs.lemmas.List.{replicate_more, drop-drop, drop_at, drop-append-le, drop-replicate, length-replicate, length-append}
-use Rattle.mesa_image.specs.Catalog.{Delta, empty_delta}
+use Rattle.mesa_image_spec.specs.Catalog.{Delta, empty_delta}
 use Rattle.mesa_table.specs.declared.table.Loaded.{Loaded}
 use Rattle.mesa_table.specs.Meaning.{AreLoaded, singles_from}
 

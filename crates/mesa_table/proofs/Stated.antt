@@ -6,8 +6,8 @@ use Rattle.std.specs.declared.sync.Arc.{Arc}
 use Rattle.std.proofs.lemmas.List.{append-nil, length-take-le, map-append, take_more}
 use Rattle.mesa_span.specs.Ranges.{end_of}
 use Rattle.mesa_record.specs.declared.checkpoint.StatedTable.{StatedTable}
-use Rattle.mesa_image.specs.Catalog.{Delta, empty_delta}
-use Rattle.mesa_image.specs.Checkpoint.{stating_range, stating_singles, stating_table}
+use Rattle.mesa_image_spec.specs.Catalog.{Delta, empty_delta}
+use Rattle.mesa_image_spec.specs.Checkpoint.{stating_range, stating_singles, stating_table}
 use Rattle.mesa_table.specs.declared.table.Loaded.{Loaded}
 use Rattle.mesa_table.specs.declared.table.Table.{Table}
 use Rattle.mesa_table.specs.Meaning.{AreLoaded, IsTable, ending_of, singles_from, start_of_base, stock_of, tens_from}

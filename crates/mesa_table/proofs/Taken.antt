@@ -7,7 +7,7 @@ use Rattle.mesa_schema.specs.declared.changes.Change.{Change}
 use Rattle.mesa_schema.specs.Columns.{Columns}
 use Rattle.mesa_schema.specs.Changes.{Lineage, changed, columns_at, columns_of, epoch_of, max_changes, rule_checked, with_change}
 use Rattle.mesa_schema.proofs.PresentRows.{columns_more}
-use Rattle.mesa_image.specs.CheckpointFits.{changes_pass, plain}
+use Rattle.mesa_image_spec.specs.CheckpointFits.{changes_pass, plain}
 use Rattle.mesa_table.proofs.Restored.{counts_changed, rule_alone}
 
 -- ---- one change of those that are left

@@ -8,8 +8,8 @@ use Rattle.std.proofs.lemmas.Bool.Decides.{nat_tests}
 use Rattle.mesa_span.specs.Ranges.{IsInOrder, Rise, base_before, end_of, ends_of_tens}
 use Rattle.mesa_span.specs.Work.{missing_end}
 use Rattle.mesa_span.proofs.Missing.{walked, walked_to}
-use Rattle.mesa_image.specs.Catalog.{Delta, end_in}
-use Rattle.mesa_image.specs.Fitting.{delta_in}
+use Rattle.mesa_image_spec.specs.Catalog.{Delta, end_in}
+use Rattle.mesa_image_spec.specs.Fitting.{delta_in}
 use Rattle.mesa_table.specs.declared.table.Base.{Base}
 use Rattle.mesa_table.specs.Meaning.{ending_of, start_of_base, tens_from}
 

@@ -3,8 +3,8 @@ use Rattle.std.proofs.Common.{◌≡◌, ℕ, length, map, refl, ◌∙◌, ap, 
 use Rattle.std.specs.Prelude.{◌==◌, ◌&&◌, nat_lt, nat_le, Some, None}
 use Rattle.mesa_span.specs.Ranges.{base_before, end_of, ends_of_tens, start_behind}
 use Rattle.mesa_span.specs.Work.{missing_end}
-use Rattle.mesa_image.specs.Catalog.{end_in, ranges_of, start_in}
-use Rattle.mesa_image.specs.Fitting.{is_number, may_be_base, may_be_cumulative}
+use Rattle.mesa_image_spec.specs.Catalog.{end_in, ranges_of, start_in}
+use Rattle.mesa_image_spec.specs.Fitting.{is_number, may_be_base, may_be_cumulative}
 use Rattle.mesa_table.specs.declared.table.Table.{Table}
 use Rattle.mesa_table.specs.Meaning.{start_of_base, stock_of, tens_from}
 use Rattle.mesa_table.proofs.Tens.{base_ends, next_ten, tens_end}

@@ -2,7 +2,7 @@
 use Rattle.std.specs.Prelude.{ℕ}
 use Rattle.std.specs.declared.alloc.Global.{Global}
 use Rattle.std.specs.declared.sync.Arc.{Arc}
-use Rattle.mesa_image.specs.Catalog.{Delta}
+use Rattle.mesa_image_spec.specs.Catalog.{Delta}
 use Rattle.mesa_table.specs.declared.table.Loaded.{Loaded}
 
 -- the delta behind a pointer

@@ -4,10 +4,10 @@ use Rattle.std.specs.declared.alloc.Global.{Global}
 use Rattle.std.specs.declared.sync.Arc.{Arc}
 use Rattle.mesa_schema.specs.Changes.{Lineage}
 use Rattle.mesa_record.specs.declared.record.ViewRef.{ViewRef}
-use Rattle.mesa_image.specs.Catalog.{Catalog, Delta}
-use Rattle.mesa_image.specs.Fitting.{Shelved, delta_shelved, shelved, view_shelved}
-use Rattle.mesa_image.specs.Sound.{layout_of}
-use Rattle.mesa_image.specs.mesa_delta.Reading.{tail_place}
+use Rattle.mesa_image_spec.specs.Catalog.{Catalog, Delta}
+use Rattle.mesa_image_spec.specs.Fitting.{Shelved, delta_shelved, shelved, view_shelved}
+use Rattle.mesa_image_spec.specs.Sound.{layout_of}
+use Rattle.mesa_image_spec.specs.mesa_delta.Reading.{tail_place}
 use Rattle.mesa_table.specs.declared.recorded.Recorded.{Recorded}
 use Rattle.mesa_table.specs.declared.table.Loaded.{Loaded}
 

@@ -1,4 +1,4 @@
-pub use Rattle.mesa_image.specs as mesa_image
+pub use Rattle.mesa_image_spec.specs as mesa_image_spec
 pub mod Meaning
 pub mod Lookups
 pub mod Readied

@@ -4,7 +4,7 @@ use Rattle.mesa_list.specs.Bytes.{same_bytes}
 use Rattle.mesa_schema.specs.declared.views.View.{View}
 use Rattle.mesa_schema.specs.Columns.{place_of}
 use Rattle.mesa_schema.specs.Changes.{Lineage}
-use Rattle.mesa_image.specs.Catalog.{Stock}
+use Rattle.mesa_image_spec.specs.Catalog.{Stock}
 use Rattle.mesa_table.specs.declared.relation.Relation.{Relation}
 
 -- the names of a table's views, by their numbers

@@ -5,7 +5,7 @@ use Rattle.std.specs.declared.alloc.Global.{Global}
 use Rattle.std.specs.declared.sync.Arc.{Arc}
 use Rattle.mesa_schema.specs.Changes.{Lineage, columns_at, epoch_of}
 use Rattle.mesa_span.specs.Ranges.{start_behind}
-use Rattle.mesa_image.specs.Catalog.{Delta, Ending, Stock, empty_delta}
+use Rattle.mesa_image_spec.specs.Catalog.{Delta, Ending, Stock, empty_delta}
 use Rattle.mesa_table.specs.declared.table.Base.{Base}
 use Rattle.mesa_table.specs.declared.table.Loaded.{Loaded}
 use Rattle.mesa_table.specs.declared.table.Table.{Table}

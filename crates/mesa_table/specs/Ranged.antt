@@ -1,8 +1,8 @@
 -- The delta of a range of versions.
 use Rattle.std.specs.Prelude.{ℕ, ◌-◌, find, nat_le, ◌==◌, ◌&&◌, if◌then◌else◌, Option, Some, None, option_map, slice_get}
 use Rattle.std.specs.Option.{option_or}
-use Rattle.mesa_image.specs.Catalog.{Delta, Ending, Stock, start_in}
-use Rattle.mesa_image.specs.Fitting.{delta_in}
+use Rattle.mesa_image_spec.specs.Catalog.{Delta, Ending, Stock, start_in}
+use Rattle.mesa_image_spec.specs.Fitting.{delta_in}
 
 -- the base, where it has just these versions
 abbrev pub base_at : Option Ending → ℕ → ℕ → Option Delta

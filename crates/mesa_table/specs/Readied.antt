@@ -11,8 +11,8 @@ use Rattle.mesa_record.specs.declared.record.Part.{Part}
 use Rattle.mesa_record.specs.declared.checkpoint.StatedSingle.{StatedSingle}
 use Rattle.mesa_record.specs.declared.recasting.RecastBase.{RecastBase}
 use Rattle.mesa_record.specs.declared.recasting.Recasting.{Recasting}
-use Rattle.mesa_image.specs.Catalog.{Delta, Ending, base_told, part_delta, recast_in}
-use Rattle.mesa_image.specs.Checkpoint.{totals_or_none}
+use Rattle.mesa_image_spec.specs.Catalog.{Delta, Ending, base_told, part_delta, recast_in}
+use Rattle.mesa_image_spec.specs.Checkpoint.{totals_or_none}
 use Rattle.mesa_table.specs.declared.table.Base.{Base}
 use Rattle.mesa_table.specs.declared.table.Loaded.{Loaded}
 use Rattle.mesa_table.specs.declared.table.Table.{Table}

@@ -5,7 +5,7 @@ use Rattle.mesa_schema.specs.Columns.{place_of}
 use Rattle.mesa_schema.specs.Changes.{Lineage}
 use Rattle.mesa_batch.specs.Totals.{is_sum}
 use Rattle.mesa_record.specs.declared.checkpoint.StatedSingle.{StatedSingle}
-use Rattle.mesa_image.specs.Fitting.{singles_renewed}
+use Rattle.mesa_image_spec.specs.Fitting.{singles_renewed}
 
 abbrev pub is_sum_if_any : Option ValueColumn → Bool
 is_sum_if_any None = false

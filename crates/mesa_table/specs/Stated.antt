@@ -6,8 +6,8 @@ use Rattle.mesa_schema.specs.Changes.{Lineage, columns_at, epoch_of}
 use Rattle.mesa_batch.specs.Totals.{sums_in}
 use Rattle.mesa_record.specs.declared.checkpoint.StatedRange.{StatedRange}
 use Rattle.mesa_record.specs.declared.checkpoint.StatedSingle.{StatedSingle}
-use Rattle.mesa_image.specs.Catalog.{Delta}
-use Rattle.mesa_image.specs.Checkpoint.{range_stated, single_stated, stating_single}
+use Rattle.mesa_image_spec.specs.Catalog.{Delta}
+use Rattle.mesa_image_spec.specs.Checkpoint.{range_stated, single_stated, stating_single}
 use Rattle.mesa_table.specs.declared.table.Loaded.{Loaded}
 
 -- what is stated of a version, which is nothing if it brought no rows

@@ -6,7 +6,7 @@ ghost use Rattle.mesa_schema.specs.Changes.{columns_of, epoch_of};
 ghost use Rattle.mesa_schema.specs.Lineages.{IsLineage};
 ghost use Rattle.mesa_schema.specs.Columns.{aggs_of};
 ghost use Rattle.mesa_batch.specs.Totals.{is_sum as adds, over_bound, sum_bound, sums_in};
-ghost use Rattle.mesa_image.specs.Fitting.{files_fit, is_view_ref as fits_view};
+ghost use Rattle.mesa_image_spec.specs.Fitting.{files_fit, is_view_ref as fits_view};
 ghost use Rattle.mesa_table.specs.Meaning.{widths_of};
 
 use mesa_batch::OVER_BOUND;

@@ -14,7 +14,7 @@ pub struct Delta {
 }
 
 impl Model for Delta {
-    ghost use Rattle.mesa_image.specs.Catalog.{Delta as Known};
+    ghost use Rattle.mesa_image_spec.specs.Catalog.{Delta as Known};
 
     ghost Value = { Known };
 

@@ -1,7 +1,7 @@
 // Which merged ranges a table allows. Takes no memory.
 ghost use Rattle.std.specs.Prelude.{◌≡◌, ◌≤◌, ℕ};
-ghost use Rattle.mesa_image.specs.Catalog.{ranges_of};
-ghost use Rattle.mesa_image.specs.Fitting.{may_be_base as is_base_work, may_be_cumulative as is_cumulative_work, files_fit_if_any};
+ghost use Rattle.mesa_image_spec.specs.Catalog.{ranges_of};
+ghost use Rattle.mesa_image_spec.specs.Fitting.{may_be_base as is_base_work, may_be_cumulative as is_cumulative_work, files_fit_if_any};
 ghost use Rattle.mesa_schema.specs.Changes.{epoch_of};
 ghost use Rattle.mesa_table.specs.Meaning.{IsTable, stock_of, widths_of};
 

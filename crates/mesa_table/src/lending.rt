@@ -1,8 +1,8 @@
 // The delta of a range of versions. Takes no memory.
 ghost use Rattle.std.specs.Prelude.{◌≡◌, ◌-◌, ◌≤◌, ◌<◌, ◌^◌, ℕ, Some, find, option_map, slice_get, ◌==◌};
 ghost use Rattle.std.specs.Option.{option_copied};
-ghost use Rattle.mesa_image.specs.Catalog.{Ending as EndingOf, empty_delta};
-ghost use Rattle.mesa_image.specs.Fitting.{delta_in};
+ghost use Rattle.mesa_image_spec.specs.Catalog.{Ending as EndingOf, empty_delta};
+ghost use Rattle.mesa_image_spec.specs.Fitting.{delta_in};
 ghost use Rattle.mesa_table.specs.Meaning.{AreLoaded, IsTable, delta_or_empty, ending_of, singles_from, stock_of, tens_from};
 ghost use Rattle.mesa_table.specs.Ranged.{base_at, cumulative_at, delta_at, single_at};
 
@@ -17,7 +17,7 @@ pub struct NoRows {
 }
 
 impl Model for NoRows {
-    ghost use Rattle.mesa_image.specs.Catalog.{Delta as Known, empty_delta};
+    ghost use Rattle.mesa_image_spec.specs.Catalog.{Delta as Known, empty_delta};
     ghost use Rattle.std.specs.Prelude.{◌≡◌};
 
     ghost Value = { Known };

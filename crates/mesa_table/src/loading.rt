@@ -1,6 +1,6 @@
 // Taking in what a batch brings.
 ghost use Rattle.std.specs.Prelude.{◌≡◌, ◌+◌, option_map, IfSome};
-ghost use Rattle.mesa_image.specs.Catalog.{stock_loaded};
+ghost use Rattle.mesa_image_spec.specs.Catalog.{stock_loaded};
 ghost use Rattle.mesa_table.specs.Meaning.{IsTable, stock_of};
 ghost use Rattle.mesa_table.specs.Readied.{HasSpare, IsPartOf, part_in};
 

@@ -1,7 +1,7 @@
 // What is asked of a table.
 ghost use Rattle.std.specs.Prelude.{◌≡◌, ◌<◌, ◌^◌, IfOk, ℕ};
 ghost use Rattle.mesa_span.specs.Ranges.{IsInOrder};
-ghost use Rattle.mesa_image.specs.Catalog.{ranges_of};
+ghost use Rattle.mesa_image_spec.specs.Catalog.{ranges_of};
 ghost use Rattle.mesa_table.specs.Meaning.{IsTable, stock_of};
 
 use crate::Table;

@@ -2,7 +2,7 @@
 ghost use Rattle.std.specs.Prelude.{◌≡◌, ◌++◌, ◌==◌, flat_map, map, OnOk};
 ghost use Rattle.std.specs.List.{list_any};
 ghost use Rattle.mesa_record.specs.declared.record.ViewRef.{ViewRef as Seen};
-ghost use Rattle.mesa_image.specs.Fitting.{has_number};
+ghost use Rattle.mesa_image_spec.specs.Fitting.{has_number};
 ghost use Rattle.mesa_table.specs.Named.{base_ids, base_own, delta_ids, file_ids, ids_if_any, ids_recast, ids_through, own_ids, shared_ids, single_ids, single_own, table_ids, through, view_id};
 
 use crate::{Base, Delta, Loaded, Table};

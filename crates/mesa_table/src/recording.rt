@@ -1,6 +1,6 @@
 // What is recorded of each file that a table names.
 ghost use Rattle.std.specs.Prelude.{◌≡◌, ◌+◌, ◌-◌, ◌++◌, ◌≤◌, ◌^◌, ℕ, flat_map, length, map, min, option_map, slice_get, OnOk, Some};
-ghost use Rattle.mesa_image.specs.Fitting.{base_deltas, columns_seen, delta_shelved, files_shelved, stock_shelved, view_shelved};
+ghost use Rattle.mesa_image_spec.specs.Fitting.{base_deltas, columns_seen, delta_shelved, files_shelved, stock_shelved, view_shelved};
 ghost use Rattle.mesa_schema.specs.Changes.{columns_at, columns_of};
 ghost use Rattle.mesa_schema.specs.Columns.{Columns};
 ghost use Rattle.mesa_table.specs.Files.{recorded_of, recorded_shared, recorded_single, recorded_view};

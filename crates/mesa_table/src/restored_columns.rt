@@ -7,7 +7,7 @@ ghost use Rattle.mesa_schema.specs.Lineages.{is_view_of};
 ghost use Rattle.mesa_schema.specs.Schema.{is_schema};
 ghost use Rattle.mesa_schema.specs.Views.{max_views, with_view};
 ghost use Rattle.mesa_batch.specs.Totals.{sums_in};
-ghost use Rattle.mesa_image.specs.CheckpointFits.{changes_pass, delta_fits, lineage_fits, range_fits, single_fits, totals_fit};
+ghost use Rattle.mesa_image_spec.specs.CheckpointFits.{changes_pass, delta_fits, lineage_fits, range_fits, single_fits, totals_fit};
 ghost use Rattle.mesa_table.specs.Meaning.{widths_of};
 ghost use Rattle.mesa_table.specs.Stated.{lineage_begun, sums_of};
 

@@ -1,8 +1,8 @@
 // The table that a checkpoint states. Names, columns, files and totals are moved, not copied.
 ghost use Rattle.std.specs.Prelude.{◌≡◌, ◌≢◌, ◌&&◌, ◌≤◌, ◌^◌, false, map, nat_le, option_map, IfErr, IfOk, IsTrue, OnOk};
 ghost use Rattle.std.specs.List.{list_all};
-ghost use Rattle.mesa_image.specs.Checkpoint.{range_stated, single_stated, stock_stated};
-ghost use Rattle.mesa_image.specs.CheckpointFits.{are_singles as rise, are_tens as end_in_tens, base_fits, oldest_fits, range_fits, single_fits, table_fits};
+ghost use Rattle.mesa_image_spec.specs.Checkpoint.{range_stated, single_stated, stock_stated};
+ghost use Rattle.mesa_image_spec.specs.CheckpointFits.{are_singles as rise, are_tens as end_in_tens, base_fits, oldest_fits, range_fits, single_fits, table_fits};
 ghost use Rattle.mesa_table.specs.Meaning.{IsTable, ending_of, stock_of};
 ghost use Rattle.mesa_table.specs.Copied.{loaded_as, value_in};
 ghost use Rattle.mesa_table.specs.Stated.{delta_stated, loaded_stated};

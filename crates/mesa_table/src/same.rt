@@ -2,7 +2,7 @@
 ghost use Rattle.std.specs.Prelude.{◌≡◌, zip};
 ghost use Rattle.std.specs.List.{list_all};
 ghost use Rattle.mesa_record.specs.declared.record.ViewRef.{ViewRef as Seen};
-ghost use Rattle.mesa_image.specs.SameFiles.{same_contents as match_contents, same_counts as match_counts, same_format as match_formats, same_ref as match_refs, same_view as match_view, same_views as match_views};
+ghost use Rattle.mesa_image_spec.specs.SameFiles.{same_contents as match_contents, same_counts as match_counts, same_format as match_formats, same_ref as match_refs, same_view as match_view, same_views as match_views};
 
 use mesa_file::FileRef;
 use mesa_key::Format;

@@ -1,6 +1,6 @@
 // What a checkpoint states of a table.
 ghost use Rattle.std.specs.Prelude.{◌≡◌, ◌+◌, ◌*◌, ◌++◌, ◌≤◌, ◌<◌, ◌^◌, ℕ, flat_map, length, map, option_map, IfOk, OnOk};
-ghost use Rattle.mesa_image.specs.Checkpoint.{stating_range, stating_single, stating_table, totals_or_none};
+ghost use Rattle.mesa_image_spec.specs.Checkpoint.{stating_range, stating_single, stating_table, totals_or_none};
 ghost use Rattle.mesa_table.specs.Meaning.{IsTable, ending_of, stock_of, tens_from};
 ghost use Rattle.mesa_table.specs.Stated.{stating_loaded};
 

@@ -1,6 +1,6 @@
 // Taking in merged deltas.
 ghost use Rattle.std.specs.Prelude.{◌≡◌, ◌<◌, ℕ, filter, nat_lt, true};
-ghost use Rattle.mesa_image.specs.Catalog.{stock_swapped};
+ghost use Rattle.mesa_image_spec.specs.Catalog.{stock_swapped};
 ghost use Rattle.mesa_table.specs.declared.table.Loaded.{Loaded as Single};
 ghost use Rattle.mesa_table.specs.Meaning.{IsTable, stock_of};
 ghost use Rattle.mesa_table.specs.Readied.{HasSpare, IsSwapOf};

@@ -1,6 +1,6 @@
 // A table as the catalogue holds it.
 ghost use Rattle.std.specs.Prelude.{◌≡◌, ◌<◌, ◌≤◌, ◌^◌, ℕ, option_map};
-ghost use Rattle.mesa_image.specs.Catalog.{stock_from};
+ghost use Rattle.mesa_image_spec.specs.Catalog.{stock_from};
 ghost use Rattle.mesa_table.specs.declared.table.Base.{Base as BaseOf};
 ghost use Rattle.mesa_table.specs.Meaning.{IsTable, start_of_base, stock_of};
 ghost use Rattle.mesa_table.specs.Readied.{HasSpare};

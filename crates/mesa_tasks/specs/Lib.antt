@@ -1,6 +1,6 @@
 pub use Rattle.mesa_cursor.specs as mesa_cursor
 pub use Rattle.mesa_delta.specs as mesa_delta
-pub use Rattle.mesa_history.specs as mesa_history
+pub use Rattle.mesa_history_spec.specs as mesa_history_spec
 pub mod Serials
 pub mod Errors
 pub mod Made

@@ -8,7 +8,7 @@ use Rattle.mesa_schema.specs.Recasts.{recast_checked, recast_columns, recast_row
 use Rattle.mesa_schema.specs.Recasts.{Recast as Asked}
 use Rattle.mesa_batch.specs.Totals.{abs_totals, sum_bound}
 use Rattle.mesa_delta.specs.declared.input.Input.{Input}
-use Rattle.mesa_history.specs.Machine.{Claim, Recasts}
+use Rattle.mesa_history_spec.specs.Machine.{Claim, Recasts}
 use Rattle.mesa_tasks.specs.Batches.{made_ids}
 use Rattle.mesa_tasks.specs.Inputs.{AreInputsTo, IsMergeOf}
 use Rattle.mesa_tasks.specs.Made.{Content, IsMadeFile}

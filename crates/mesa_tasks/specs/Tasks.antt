@@ -7,7 +7,7 @@ use Rattle.mesa_schema.specs.Columns.{Columns}
 use Rattle.mesa_schema.specs.Changes.{Lineage, columns_of, epoch_of}
 use Rattle.mesa_schema.specs.Views.{view_columns, view_rows}
 use Rattle.mesa_delta.specs.declared.input.Input.{Input}
-use Rattle.mesa_history.specs.Machine.{Claim, Merges}
+use Rattle.mesa_history_spec.specs.Machine.{Claim, Merges}
 use Rattle.mesa_tasks.specs.Inputs.{AreInputsTo, AreInputsOf, IsMergeOf}
 use Rattle.mesa_tasks.specs.Made.{IsMadeFile}
 use Rattle.mesa_tasks.specs.declared.made.MadeFiles.{MadeFiles}

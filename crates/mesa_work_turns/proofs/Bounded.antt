@@ -14,17 +14,17 @@ use Rattle.mesa_plans.specs.mesa_schema.Views.{view_columns}
 use Rattle.mesa_plans.specs.mesa_schema.declared.rows.Row.{Row}
 use Rattle.mesa_plans.specs.mesa_schema.declared.views.View.{View}
 use Rattle.mesa_tasks.specs.mesa_delta.declared.input.Input.{Input}
-use Rattle.mesa_engine.specs.mesa_metadata.mesa_image.Catalog.{Catalog, Delta, Stock, stock_at}
-use Rattle.mesa_engine.specs.mesa_metadata.mesa_image.Contents.{Rows, present}
-use Rattle.mesa_engine.specs.mesa_metadata.mesa_image.Fitting.{delta_shelved, deltas_of, shelved}
-use Rattle.mesa_engine.specs.mesa_metadata.mesa_image.Sound.{wants}
-use Rattle.mesa_engine.proofs.mesa_engine_state.mesa_image.Lists.{all_unflat, stock_found}
-use Rattle.mesa_engine.specs.mesa_metadata.mesa_image.Sound.{IsStocked}
-use Rattle.mesa_engine.specs.mesa_engine_state.mesa_image.Brought.{merged_of}
-use Rattle.mesa_engine.specs.mesa_engine_state.mesa_image.Moves.{is_base, last_of}
-use Rattle.mesa_engine.specs.mesa_engine_state.EngineState.{EngineState}
-use Rattle.mesa_engine.specs.mesa_engine_state.Vault.{Origin, IsVault}
-use Rattle.mesa_engine.proofs.mesa_engine_state.Standing.{held_there}
+use Rattle.mesa_engine.specs.mesa_metadata.mesa_image_spec.Catalog.{Catalog, Delta, Stock, stock_at}
+use Rattle.mesa_engine.specs.mesa_metadata.mesa_image_spec.Contents.{Rows, present}
+use Rattle.mesa_engine.specs.mesa_metadata.mesa_image_spec.Fitting.{delta_shelved, deltas_of, shelved}
+use Rattle.mesa_engine.specs.mesa_metadata.mesa_image_spec.Sound.{wants}
+use Rattle.mesa_engine.proofs.mesa_engine_spec.mesa_image_spec.Lists.{all_unflat, stock_found}
+use Rattle.mesa_engine.specs.mesa_metadata.mesa_image_spec.Sound.{IsStocked}
+use Rattle.mesa_engine.specs.mesa_engine_spec.mesa_image_spec.Brought.{merged_of}
+use Rattle.mesa_engine.specs.mesa_engine_spec.mesa_image_spec.Moves.{is_base, last_of}
+use Rattle.mesa_engine.specs.mesa_engine_spec.EngineState.{EngineState}
+use Rattle.mesa_engine.specs.mesa_engine_spec.Vault.{Origin, IsVault}
+use Rattle.mesa_engine.proofs.mesa_engine_spec.Standing.{held_there}
 use Rattle.mesa_publishing.specs.mesa_compact.mesa_merge.Inputs.{AreTold, knowns_of, lifted_parts}
 use Rattle.mesa_model.specs.declared.entries.Entry.{Entry}
 use Rattle.mesa_plans.specs.Gathered.{IsGathered, unread_view}
@@ -40,7 +40,7 @@ use Rattle.mesa_tasks.specs.Opening.{HaveOpened}
 use Rattle.mesa_tasks.specs.declared.merging.Task.{Task}
 use Rattle.mesa_tasks.specs.declared.merging.TaskView.{TaskView}
 use Rattle.mesa_tasks.specs.declared.opening.Wanted.{Wanted}
-use Rattle.mesa_engine.specs.mesa_engine_state.mesa_invariant.Invariant.{Outset}
+use Rattle.mesa_engine.specs.mesa_engine_spec.mesa_invariant_spec.Invariant.{Outset}
 use Rattle.mesa_work_turns.proofs.Grants.{shaped_at}
 
 -- a view that has no files of its own has none that could be wrong

@@ -6,14 +6,14 @@ use Rattle.std.proofs.lemmas.Bool.Decides.{leb_tells}
 use Rattle.std.proofs.lemmas.List.{length-map}
 use Rattle.mesa_disk.specs.mesa_fault.Causes.{Rose, last}
 use Rattle.mesa_disk.specs.Story.{Story, Unmoved}
-use Rattle.mesa_engine.specs.mesa_history.Legal.{is_work}
-use Rattle.mesa_engine.specs.mesa_history.Machine.{Claim}
-use Rattle.mesa_engine.specs.mesa_history.Refused.{is_refusal}
-use Rattle.mesa_engine.specs.mesa_history.Replay.{claim_asked, grants, is_skip}
-use Rattle.mesa_engine.specs.mesa_history.Run.{First, Granted, Finished}
-use Rattle.mesa_engine.specs.mesa_history.Turns.{IsDue}
-use Rattle.mesa_engine.specs.mesa_metadata.mesa_image.Catalog.{Catalog, no_stock, stock_at}
-use Rattle.mesa_engine.specs.mesa_metadata.mesa_image.Shape.{IsCatalog, IsShaped}
+use Rattle.mesa_engine.specs.mesa_history_spec.Legal.{is_work}
+use Rattle.mesa_engine.specs.mesa_history_spec.Machine.{Claim}
+use Rattle.mesa_engine.specs.mesa_history_spec.Refused.{is_refusal}
+use Rattle.mesa_engine.specs.mesa_history_spec.Replay.{claim_asked, grants, is_skip}
+use Rattle.mesa_engine.specs.mesa_history_spec.Run.{First, Granted, Finished}
+use Rattle.mesa_engine.specs.mesa_history_spec.Turns.{IsDue}
+use Rattle.mesa_engine.specs.mesa_metadata.mesa_image_spec.Catalog.{Catalog, no_stock, stock_at}
+use Rattle.mesa_engine.specs.mesa_metadata.mesa_image_spec.Shape.{IsCatalog, IsShaped}
 use Rattle.mesa_rules.proofs.mesa_catalog.Stocks.{all_at}
 use Rattle.mesa_lease.specs.Book.{granted}
 use Rattle.mesa_model.specs.Warehouse.{Warehouse}
@@ -22,25 +22,25 @@ use Rattle.mesa_model.specs.declared.replies.Reply.{Reply}
 use Rattle.mesa_model.specs.declared.entries.Entry.{Entry}
 use Rattle.mesa_model.specs.declared.entries.Kind.TheVariants as kind
 use Rattle.mesa_model.specs.declared.entries.Outcome.TheVariants as outcome
-use Rattle.mesa_engine.specs.mesa_output.Output.{block}
-use Rattle.mesa_engine.specs.mesa_projection.Bare.{bare_table}
-use Rattle.mesa_engine.specs.mesa_projection.Rows.{Rows, no_rows}
+use Rattle.mesa_engine.specs.mesa_output_spec.Output.{block}
+use Rattle.mesa_engine.specs.mesa_projection_laws.Bare.{bare_table}
+use Rattle.mesa_engine.specs.mesa_projection_laws.Rows.{Rows, no_rows}
 use Rattle.mesa_tasks.specs.Opening.{Counted}
 use Rattle.mesa_tasks.specs.declared.opening.Unopened.{Unopened}
 use Rattle.mesa_tasks.specs.declared.opening.Unopened.TheVariants as un
-use Rattle.mesa_engine.specs.mesa_engine_state.mesa_invariant.Causes.{Cause, Damaged, NoMemory, Replies, Unread, Unwritten, is_read_fault, outcome_of, reply_of, told_at}
-use Rattle.mesa_engine.specs.mesa_engine_state.mesa_invariant.Printing.{IsPut}
-use Rattle.mesa_engine.specs.mesa_engine_state.mesa_invariant.Turns.{Shown, IsSeen, Takes, entry}
-use Rattle.mesa_engine.specs.mesa_engine_state.mesa_invariant.Books.{Books}
-use Rattle.mesa_engine.specs.mesa_engine_state.mesa_invariant.Undamaged.{is_damaged}
-use Rattle.mesa_engine.specs.mesa_engine_state.mesa_invariant.Invariant.{Outset, Counts, run_at, run_of}
-use Rattle.mesa_engine.specs.mesa_engine_state.mesa_invariant.Works.{HasNoClaim}
-use Rattle.mesa_engine.proofs.mesa_engine_state.mesa_invariant.Going.{takes_as}
-use Rattle.mesa_engine.proofs.mesa_engine_state.mesa_invariant.Working.{claim_is, granted_turn, ungranted_ends, ungranted_turn}
-use Rattle.mesa_engine.specs.mesa_engine_state.EngineState.{EngineState, books_of, projection_of}
-use Rattle.mesa_engine.specs.mesa_engine_state.Turned.{leased_state}
-use Rattle.mesa_engine.specs.mesa_engine_state.Vault.{Origin, Starts, IsVault, outset_of}
-use Rattle.mesa_engine.proofs.mesa_engine_state.Staying.{leased_vault, still_vault}
+use Rattle.mesa_engine.specs.mesa_engine_spec.mesa_invariant_spec.Causes.{Cause, Damaged, NoMemory, Replies, Unread, Unwritten, is_read_fault, outcome_of, reply_of, told_at}
+use Rattle.mesa_engine.specs.mesa_engine_spec.mesa_invariant_spec.Printing.{IsPut}
+use Rattle.mesa_engine.specs.mesa_engine_spec.mesa_invariant_spec.Turns.{Shown, IsSeen, Takes, entry}
+use Rattle.mesa_engine.specs.mesa_engine_spec.mesa_invariant_spec.Books.{Books}
+use Rattle.mesa_engine.specs.mesa_engine_spec.mesa_invariant_spec.Undamaged.{is_damaged}
+use Rattle.mesa_engine.specs.mesa_engine_spec.mesa_invariant_spec.Invariant.{Outset, Counts, run_at, run_of}
+use Rattle.mesa_engine.specs.mesa_engine_spec.mesa_invariant_spec.Works.{HasNoClaim}
+use Rattle.mesa_engine.proofs.mesa_engine_spec.mesa_invariant_spec.Going.{takes_as}
+use Rattle.mesa_engine.proofs.mesa_engine_spec.mesa_invariant_spec.Working.{claim_is, granted_turn, ungranted_ends, ungranted_turn}
+use Rattle.mesa_engine.specs.mesa_engine_spec.EngineState.{EngineState, books_of, projection_of}
+use Rattle.mesa_engine.specs.mesa_engine_spec.Turned.{leased_state}
+use Rattle.mesa_engine.specs.mesa_engine_spec.Vault.{Origin, Starts, IsVault, outset_of}
+use Rattle.mesa_engine.proofs.mesa_engine_spec.Staying.{leased_vault, still_vault}
 use Rattle.mesa_engine.specs.declared.log.Log.{Log}
 use Rattle.mesa_engine.specs.Printing.{PrintsBlock}
 use Rattle.mesa_engine.specs.mesa_metadata.Memory.{Memory, with_leases}

@@ -7,24 +7,24 @@ use Rattle.mesa_disk.specs.Story.{Story}
 use Rattle.mesa_plans.specs.mesa_schema.Changes.{Lineage, columns_of}
 use Rattle.mesa_plans.specs.mesa_schema.Columns.{aggs_of}
 use Rattle.mesa_plans.specs.mesa_schema.Folded.{rows_of}
-use Rattle.mesa_engine.specs.mesa_history.Sources.{Source, Written, range_rows}
-use Rattle.mesa_engine.specs.mesa_metadata.mesa_image.Catalog.{Catalog, Stock, stock_at}
-use Rattle.mesa_engine.specs.mesa_metadata.mesa_image.Contents.{present}
-use Rattle.mesa_engine.specs.mesa_metadata.mesa_image.Fitting.{may_be_work, shelved}
-use Rattle.mesa_engine.specs.mesa_metadata.mesa_image.Sound.{wants}
-use Rattle.mesa_engine.proofs.mesa_engine_state.mesa_image.AllSourced.{epochs_written, work_written}
-use Rattle.mesa_engine.specs.mesa_engine_state.mesa_image.Brought.{merged_of}
-use Rattle.mesa_engine.specs.mesa_engine_state.mesa_image.Moves.{first_of, is_base, last_of}
-use Rattle.mesa_engine.specs.mesa_engine_state.EngineState.{EngineState}
-use Rattle.mesa_engine.specs.mesa_engine_state.Vault.{Origin, IsVault, written_by}
-use Rattle.mesa_engine.proofs.mesa_engine_state.Standing.{held_there}
+use Rattle.mesa_engine.specs.mesa_history_spec.Sources.{Source, Written, range_rows}
+use Rattle.mesa_engine.specs.mesa_metadata.mesa_image_spec.Catalog.{Catalog, Stock, stock_at}
+use Rattle.mesa_engine.specs.mesa_metadata.mesa_image_spec.Contents.{present}
+use Rattle.mesa_engine.specs.mesa_metadata.mesa_image_spec.Fitting.{may_be_work, shelved}
+use Rattle.mesa_engine.specs.mesa_metadata.mesa_image_spec.Sound.{wants}
+use Rattle.mesa_engine.proofs.mesa_engine_spec.mesa_image_spec.AllSourced.{epochs_written, work_written}
+use Rattle.mesa_engine.specs.mesa_engine_spec.mesa_image_spec.Brought.{merged_of}
+use Rattle.mesa_engine.specs.mesa_engine_spec.mesa_image_spec.Moves.{first_of, is_base, last_of}
+use Rattle.mesa_engine.specs.mesa_engine_spec.EngineState.{EngineState}
+use Rattle.mesa_engine.specs.mesa_engine_spec.Vault.{Origin, IsVault, written_by}
+use Rattle.mesa_engine.proofs.mesa_engine_spec.Standing.{held_there}
 use Rattle.mesa_model.specs.declared.entries.Entry.{Entry}
 use Rattle.mesa_plans.specs.Gathered.{IsGathered, unread_view}
 use Rattle.mesa_publishing.specs.Finished.{GroupOnly, HasRange, sources_in}
 use Rattle.mesa_tasks.specs.Inputs.{present_parts}
 use Rattle.mesa_tasks.specs.Tasks.{IsTask}
 use Rattle.mesa_tasks.specs.declared.merging.Task.{Task}
-use Rattle.mesa_engine.specs.mesa_engine_state.mesa_invariant.Invariant.{Outset}
+use Rattle.mesa_engine.specs.mesa_engine_spec.mesa_invariant_spec.Invariant.{Outset}
 use Rattle.mesa_work_turns.proofs.Sound.{IsSoundDelta, none_met, none_own, present_lifted, same_folded, sound_deltas, sound_merged, told_inputs}
 use Rattle.mesa_work_turns.proofs.Bounded.{range_told}
 

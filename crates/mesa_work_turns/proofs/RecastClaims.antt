@@ -14,11 +14,11 @@ use Rattle.mesa_plans.specs.mesa_schema.Recasts.{recast_checked}
 use Rattle.mesa_binding.specs.Told.{IsDue}
 use Rattle.mesa_binding.specs.declared.failure.Failure.{Failure}
 use Rattle.mesa_binding.specs.declared.failure.Failure.TheVariants as asked
-use Rattle.mesa_engine.specs.mesa_history.Machine.{Claim, Machine, Recasts, max_deltas, recast_claim_of, refuse_busy}
+use Rattle.mesa_engine.specs.mesa_history_spec.Machine.{Claim, Machine, Recasts, max_deltas, recast_claim_of, refuse_busy}
 use Rattle.mesa_lease.specs.Book.{holder}
-use Rattle.mesa_engine.specs.mesa_engine_state.EngineState.{EngineState, books_of, projection_of}
-use Rattle.mesa_engine.specs.mesa_engine_state.mesa_invariant.Works.{HasNoClaim}
-use Rattle.mesa_engine.specs.mesa_metadata.mesa_image.Catalog.{no_stock, ranges_of, start_in, stock_at}
+use Rattle.mesa_engine.specs.mesa_engine_spec.EngineState.{EngineState, books_of, projection_of}
+use Rattle.mesa_engine.specs.mesa_engine_spec.mesa_invariant_spec.Works.{HasNoClaim}
+use Rattle.mesa_engine.specs.mesa_metadata.mesa_image_spec.Catalog.{no_stock, ranges_of, start_in, stock_at}
 use Rattle.mesa_model.specs.Refusals.{no_such_table, recast_refusal, refuse_closed}
 use Rattle.mesa_model.specs.Relations.{table_number}
 use Rattle.mesa_model.specs.Tables.{recast_asked}
@@ -30,7 +30,7 @@ use Rattle.mesa_model.specs.declared.replies.Reply.{Reply}
 use Rattle.mesa_model.specs.declared.replies.Reply.TheVariants as reply
 use Rattle.mesa_rules.specs.Recastings.{recast_due}
 use Rattle.mesa_rules.specs.Seen.{number_of}
-use Rattle.mesa_engine.specs.mesa_projection.Rows.{no_rows}
+use Rattle.mesa_engine.specs.mesa_projection_laws.Rows.{no_rows}
 use Rattle.mesa_span.specs.Ranges.{base_before, start_of}
 use Rattle.mesa_work_turns.specs.Claims.{cause_refused}
 

@@ -17,23 +17,23 @@ use Rattle.mesa_plans.proofs.mesa_schema.RisingRows.{folded_rise}
 use Rattle.mesa_plans.specs.mesa_schema.Rows.{keys_rise}
 use Rattle.mesa_plans.specs.mesa_record.declared.record.Files.{Files}
 use Rattle.mesa_tasks.specs.mesa_delta.declared.input.Input.{Input}
-use Rattle.mesa_engine.specs.mesa_history.Sources.{Written, range_rows, source_at, sources_from}
+use Rattle.mesa_engine.specs.mesa_history_spec.Sources.{Written, range_rows, source_at, sources_from}
 use Rattle.mesa_model.specs.declared.entries.Entry.{Entry}
 use Rattle.mesa_plans.specs.Ranges.{IsDamagedRange, IsEmptyRange, IsOfRange, IsOneOf, IsOpenedRange, Ranged, base_ranged, range_wanted, ranged, singles_ranged}
 use Rattle.mesa_plans.specs.Files.{Want}
-use Rattle.mesa_engine.specs.mesa_metadata.mesa_image.Catalog.{Delta, Ending, Stock, end_in, start_in, stock_at}
-use Rattle.mesa_engine.specs.mesa_metadata.mesa_image.Contents.{Rows, present, rows_if_any}
-use Rattle.mesa_engine.specs.mesa_metadata.mesa_image.Fitting.{base_deltas, delta_in, delta_shelved, deltas_of, files_shelved, shelved}
-use Rattle.mesa_engine.specs.mesa_metadata.mesa_image.Shape.{IsShaped}
-use Rattle.mesa_engine.specs.mesa_metadata.mesa_image.Sound.{IsStocked, bytes_of, wants}
-use Rattle.mesa_engine.specs.mesa_engine_state.EngineState.{EngineState}
-use Rattle.mesa_engine.specs.mesa_engine_state.Vault.{Origin, IsVault, written_by}
-use Rattle.mesa_engine.specs.mesa_engine_state.mesa_image.Sourced.{AreMadeOf, IsMadeOf, IsSourced}
-use Rattle.mesa_engine.specs.mesa_engine_state.mesa_invariant.Invariant.{Outset}
-use Rattle.mesa_engine.proofs.mesa_engine_state.Standing.{held_there}
-use Rattle.mesa_engine.proofs.mesa_engine_state.mesa_image.AllSourced.{epochs_written, own as own_sources}
-use Rattle.mesa_engine.proofs.mesa_engine_state.mesa_image.Lists.{all_back, all_front, all_unflat, stock_found}
-use Rattle.mesa_engine.proofs.mesa_engine_state.mesa_image.Rising.{folds_itself}
+use Rattle.mesa_engine.specs.mesa_metadata.mesa_image_spec.Catalog.{Delta, Ending, Stock, end_in, start_in, stock_at}
+use Rattle.mesa_engine.specs.mesa_metadata.mesa_image_spec.Contents.{Rows, present, rows_if_any}
+use Rattle.mesa_engine.specs.mesa_metadata.mesa_image_spec.Fitting.{base_deltas, delta_in, delta_shelved, deltas_of, files_shelved, shelved}
+use Rattle.mesa_engine.specs.mesa_metadata.mesa_image_spec.Shape.{IsShaped}
+use Rattle.mesa_engine.specs.mesa_metadata.mesa_image_spec.Sound.{IsStocked, bytes_of, wants}
+use Rattle.mesa_engine.specs.mesa_engine_spec.EngineState.{EngineState}
+use Rattle.mesa_engine.specs.mesa_engine_spec.Vault.{Origin, IsVault, written_by}
+use Rattle.mesa_engine.specs.mesa_engine_spec.mesa_image_spec.Sourced.{AreMadeOf, IsMadeOf, IsSourced}
+use Rattle.mesa_engine.specs.mesa_engine_spec.mesa_invariant_spec.Invariant.{Outset}
+use Rattle.mesa_engine.proofs.mesa_engine_spec.Standing.{held_there}
+use Rattle.mesa_engine.proofs.mesa_engine_spec.mesa_image_spec.AllSourced.{epochs_written, own as own_sources}
+use Rattle.mesa_engine.proofs.mesa_engine_spec.mesa_image_spec.Lists.{all_back, all_front, all_unflat, stock_found}
+use Rattle.mesa_engine.proofs.mesa_engine_spec.mesa_image_spec.Rising.{folds_itself}
 use Rattle.mesa_plans.specs.Read.{own_file}
 use Rattle.mesa_plans.proofs.Given.{AreGiven, IsGiven, all_told}
 use Rattle.mesa_plans.proofs.Sums.{abs_append, merged_sums}

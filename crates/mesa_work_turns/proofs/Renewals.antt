@@ -3,11 +3,11 @@ use Rattle.std.proofs.Common.{◌≡◌, ◌∙◌, ℕ, ◌<◌, ◌^◌, ◌�
 use Rattle.std.specs.Prelude.{vec_capacity}
 use Rattle.mesa_plans.specs.mesa_list.Checks.{◌>>◌, refuse_unless}
 use Rattle.mesa_disk.specs.Story.{Story}
-use Rattle.mesa_engine.specs.mesa_history.Legal.{is_work}
-use Rattle.mesa_engine.specs.mesa_history.Machine.{Claim, claim_checked}
-use Rattle.mesa_engine.specs.mesa_history.Replay.{renews}
-use Rattle.mesa_engine.specs.mesa_history.Run.{Granted, Renewed, Finished}
-use Rattle.mesa_engine.specs.mesa_history.Turns.{IsDue}
+use Rattle.mesa_engine.specs.mesa_history_spec.Legal.{is_work}
+use Rattle.mesa_engine.specs.mesa_history_spec.Machine.{Claim, claim_checked}
+use Rattle.mesa_engine.specs.mesa_history_spec.Replay.{renews}
+use Rattle.mesa_engine.specs.mesa_history_spec.Run.{Granted, Renewed, Finished}
+use Rattle.mesa_engine.specs.mesa_history_spec.Turns.{IsDue}
 use Rattle.mesa_lease.specs.Book.{is_held, other_holder, renewed}
 use Rattle.mesa_lease.specs.declared.lease.Lost.{Lost}
 use Rattle.mesa_lease.specs.Book.{IsLost}
@@ -19,19 +19,19 @@ use Rattle.mesa_model.specs.declared.entries.Outcome.TheVariants as outcome
 use Rattle.mesa_model.specs.declared.replies.Refusal.{Refusal}
 use Rattle.mesa_model.specs.declared.replies.Refusal.TheVariants as no
 use Rattle.mesa_model.specs.declared.replies.Reply.TheVariants as reply
-use Rattle.mesa_engine.specs.mesa_output.Output.{block}
-use Rattle.mesa_engine.specs.mesa_projection.Rows.{Rows, no_rows}
-use Rattle.mesa_engine.specs.mesa_engine_state.mesa_invariant.Causes.{told_at}
-use Rattle.mesa_engine.specs.mesa_engine_state.mesa_invariant.Printing.{IsPut}
-use Rattle.mesa_engine.specs.mesa_engine_state.mesa_invariant.Turns.{Shown, IsSeen, Takes, entry}
-use Rattle.mesa_engine.specs.mesa_engine_state.mesa_invariant.Invariant.{Outset, run_at, run_of}
-use Rattle.mesa_engine.proofs.mesa_engine_state.mesa_invariant.Turning.{stays, counts_same}
-use Rattle.mesa_engine.proofs.mesa_engine_state.mesa_invariant.Going.{takes_as}
-use Rattle.mesa_engine.proofs.mesa_engine_state.mesa_invariant.Working.{checked_is, renewed_turn, unrenewed_ends, unrenewed_turn}
-use Rattle.mesa_engine.specs.mesa_engine_state.EngineState.{EngineState, books_of}
-use Rattle.mesa_engine.specs.mesa_engine_state.Turned.{leased_state}
-use Rattle.mesa_engine.specs.mesa_engine_state.Vault.{Origin, Starts, IsVault, outset_of}
-use Rattle.mesa_engine.proofs.mesa_engine_state.Staying.{leased_vault, still_vault}
+use Rattle.mesa_engine.specs.mesa_output_spec.Output.{block}
+use Rattle.mesa_engine.specs.mesa_projection_laws.Rows.{Rows, no_rows}
+use Rattle.mesa_engine.specs.mesa_engine_spec.mesa_invariant_spec.Causes.{told_at}
+use Rattle.mesa_engine.specs.mesa_engine_spec.mesa_invariant_spec.Printing.{IsPut}
+use Rattle.mesa_engine.specs.mesa_engine_spec.mesa_invariant_spec.Turns.{Shown, IsSeen, Takes, entry}
+use Rattle.mesa_engine.specs.mesa_engine_spec.mesa_invariant_spec.Invariant.{Outset, run_at, run_of}
+use Rattle.mesa_engine.proofs.mesa_engine_spec.mesa_invariant_spec.Turning.{stays, counts_same}
+use Rattle.mesa_engine.proofs.mesa_engine_spec.mesa_invariant_spec.Going.{takes_as}
+use Rattle.mesa_engine.proofs.mesa_engine_spec.mesa_invariant_spec.Working.{checked_is, renewed_turn, unrenewed_ends, unrenewed_turn}
+use Rattle.mesa_engine.specs.mesa_engine_spec.EngineState.{EngineState, books_of}
+use Rattle.mesa_engine.specs.mesa_engine_spec.Turned.{leased_state}
+use Rattle.mesa_engine.specs.mesa_engine_spec.Vault.{Origin, Starts, IsVault, outset_of}
+use Rattle.mesa_engine.proofs.mesa_engine_spec.Staying.{leased_vault, still_vault}
 use Rattle.mesa_engine.specs.declared.log.Log.{Log}
 use Rattle.mesa_engine.specs.Printing.{PrintsBlock}
 use Rattle.mesa_engine.specs.mesa_metadata.Memory.{Memory, with_leases}

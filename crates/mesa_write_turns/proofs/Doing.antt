@@ -21,40 +21,40 @@ use Rattle.mesa_model.specs.Relations.{table_number}
 use Rattle.mesa_model.specs.Tables.{alter_table, change_asked, columns_asked, make_table, make_view}
 use Rattle.mesa_model.specs.Versions.{expire_all, expire_table}
 use Rattle.mesa_model.specs.Warehouse.{Table}
-use Rattle.mesa_engine.specs.mesa_history.Counting.{one_if}
-use Rattle.mesa_engine.specs.mesa_history.Found.{Kept}
-use Rattle.mesa_engine.specs.mesa_history.Legal.{is_writing, is_written}
-use Rattle.mesa_engine.specs.mesa_history.Replay.{told_by}
-use Rattle.mesa_engine.specs.mesa_history.Run.{command_of}
+use Rattle.mesa_engine.specs.mesa_history_spec.Counting.{one_if}
+use Rattle.mesa_engine.specs.mesa_history_spec.Found.{Kept}
+use Rattle.mesa_engine.specs.mesa_history_spec.Legal.{is_writing, is_written}
+use Rattle.mesa_engine.specs.mesa_history_spec.Replay.{told_by}
+use Rattle.mesa_engine.specs.mesa_history_spec.Run.{command_of}
 use Rattle.mesa_record.specs.declared.record.Part.{Part}
 use Rattle.mesa_record.specs.declared.record.Record.{Record}
 use Rattle.mesa_record.specs.declared.record.Record.TheVariants as record_of
 use Rattle.mesa_record.specs.Rules.{IsTyped, IsTypedChange}
-use Rattle.mesa_engine.specs.mesa_catalog.mesa_image.Catalog.{Catalog, applied, stock_at}
-use Rattle.mesa_engine.specs.mesa_catalog.mesa_image.Fitting.{expire_fits, fits, is_new_name, is_there}
-use Rattle.mesa_engine.specs.mesa_catalog.mesa_image.Sound.{AreStocked}
-use Rattle.mesa_engine.proofs.mesa_engine_state.mesa_image.Agreeing.{agree_stocked}
-use Rattle.mesa_engine.proofs.mesa_engine_state.mesa_image.AllSourced.{alter_sourced, expire_sourced, expire_table_sourced, table_sourced, view_sourced}
-use Rattle.mesa_engine.proofs.mesa_engine_state.mesa_image.Lists.{both_true, is_less}
-use Rattle.mesa_engine.proofs.mesa_engine_state.mesa_image.Moving.{alter_step, expire_step, expire_table_step, kind_of, publish_step, table_step, view_step}
-use Rattle.mesa_engine.specs.mesa_engine_state.mesa_image.Brought.{AreTold, BringsAll}
-use Rattle.mesa_engine.specs.mesa_engine_state.mesa_image.Ids.{dropped_ids}
-use Rattle.mesa_engine.specs.mesa_engine_state.mesa_image.Moves.{Moves}
-use Rattle.mesa_engine.specs.mesa_engine_state.mesa_image.Sourced.{HasSources, tables_read}
+use Rattle.mesa_engine.specs.mesa_catalog.mesa_image_spec.Catalog.{Catalog, applied, stock_at}
+use Rattle.mesa_engine.specs.mesa_catalog.mesa_image_spec.Fitting.{expire_fits, fits, is_new_name, is_there}
+use Rattle.mesa_engine.specs.mesa_catalog.mesa_image_spec.Sound.{AreStocked}
+use Rattle.mesa_engine.proofs.mesa_engine_spec.mesa_image_spec.Agreeing.{agree_stocked}
+use Rattle.mesa_engine.proofs.mesa_engine_spec.mesa_image_spec.AllSourced.{alter_sourced, expire_sourced, expire_table_sourced, table_sourced, view_sourced}
+use Rattle.mesa_engine.proofs.mesa_engine_spec.mesa_image_spec.Lists.{both_true, is_less}
+use Rattle.mesa_engine.proofs.mesa_engine_spec.mesa_image_spec.Moving.{alter_step, expire_step, expire_table_step, kind_of, publish_step, table_step, view_step}
+use Rattle.mesa_engine.specs.mesa_engine_spec.mesa_image_spec.Brought.{AreTold, BringsAll}
+use Rattle.mesa_engine.specs.mesa_engine_spec.mesa_image_spec.Ids.{dropped_ids}
+use Rattle.mesa_engine.specs.mesa_engine_spec.mesa_image_spec.Moves.{Moves}
+use Rattle.mesa_engine.specs.mesa_engine_spec.mesa_image_spec.Sourced.{HasSources, tables_read}
 use Rattle.mesa_engine.specs.mesa_catalog.Lookups.{generation_of, turns_generation}
 use Rattle.mesa_rules.specs.Seen.{number_of}
-use Rattle.mesa_engine.specs.mesa_projection.Rows.{Rows}
-use Rattle.mesa_engine.specs.mesa_engine_state.mesa_invariant.Causes.{told_at}
-use Rattle.mesa_engine.specs.mesa_engine_state.mesa_invariant.Changes.{Doing, IsChange, IsDecided}
-use Rattle.mesa_engine.specs.mesa_engine_state.mesa_invariant.Sight.{is_of_schemas}
-use Rattle.mesa_engine.specs.mesa_engine_state.mesa_invariant.Invariant.{Outset, run_of}
-use Rattle.mesa_engine.proofs.mesa_engine_state.mesa_invariant.Changing.{alter_decided, expire_decided, load_decided, table_decided, view_decided}
-use Rattle.mesa_engine.specs.mesa_engine_state.EngineState.{EngineState, books_of, next_id, projection_of}
-use Rattle.mesa_engine.specs.mesa_engine_state.Recorded.{recorded_state}
-use Rattle.mesa_engine.specs.mesa_engine_state.Vault.{Origin, IsVault, written_by}
-use Rattle.mesa_engine.proofs.mesa_engine_state.Agreeing.{named_agree}
-use Rattle.mesa_engine.proofs.mesa_engine_state.Changing.{alter_change, expire_change, expire_table_change, load_change, table_change, view_change}
-use Rattle.mesa_engine.proofs.mesa_engine_state.Sources.{batch_sources, sources_stay}
+use Rattle.mesa_engine.specs.mesa_projection_laws.Rows.{Rows}
+use Rattle.mesa_engine.specs.mesa_engine_spec.mesa_invariant_spec.Causes.{told_at}
+use Rattle.mesa_engine.specs.mesa_engine_spec.mesa_invariant_spec.Changes.{Doing, IsChange, IsDecided}
+use Rattle.mesa_engine.specs.mesa_engine_spec.mesa_invariant_spec.Sight.{is_of_schemas}
+use Rattle.mesa_engine.specs.mesa_engine_spec.mesa_invariant_spec.Invariant.{Outset, run_of}
+use Rattle.mesa_engine.proofs.mesa_engine_spec.mesa_invariant_spec.Changing.{alter_decided, expire_decided, load_decided, table_decided, view_decided}
+use Rattle.mesa_engine.specs.mesa_engine_spec.EngineState.{EngineState, books_of, next_id, projection_of}
+use Rattle.mesa_engine.specs.mesa_engine_spec.Recorded.{recorded_state}
+use Rattle.mesa_engine.specs.mesa_engine_spec.Vault.{Origin, IsVault, written_by}
+use Rattle.mesa_engine.proofs.mesa_engine_spec.Agreeing.{named_agree}
+use Rattle.mesa_engine.proofs.mesa_engine_spec.Changing.{alter_change, expire_change, expire_table_change, load_change, table_change, view_change}
+use Rattle.mesa_engine.proofs.mesa_engine_spec.Sources.{batch_sources, sources_stay}
 use Rattle.mesa_engine.specs.Failing.{deciding_stage}
 use Rattle.mesa_write_turns.specs.Writing.{Does, HasRecord}
 

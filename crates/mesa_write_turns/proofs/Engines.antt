@@ -9,22 +9,22 @@ use Rattle.mesa_model.specs.declared.commands.Script.{Script}
 use Rattle.mesa_model.specs.declared.entries.Entry.{Entry}
 use Rattle.mesa_model.specs.declared.entries.Kind.TheVariants as kind
 use Rattle.mesa_model.specs.declared.entries.Outcome.TheVariants as outcome
-use Rattle.mesa_engine.specs.mesa_history.Refused.{is_refusal}
-use Rattle.mesa_engine.specs.mesa_history.Run.{Run}
-use Rattle.mesa_engine.specs.mesa_history.Turns.{IsDue}
+use Rattle.mesa_engine.specs.mesa_history_spec.Refused.{is_refusal}
+use Rattle.mesa_engine.specs.mesa_history_spec.Run.{Run}
+use Rattle.mesa_engine.specs.mesa_history_spec.Turns.{IsDue}
 use Rattle.mesa_record.specs.Reading.{record_at}
 use Rattle.mesa_record.specs.Rules.{IsTyped}
-use Rattle.mesa_engine.specs.mesa_catalog.mesa_image.Catalog.{applied}
+use Rattle.mesa_engine.specs.mesa_catalog.mesa_image_spec.Catalog.{applied}
 use Rattle.mesa_engine.specs.mesa_catalog.Lookups.{generation_of, turns_generation}
-use Rattle.mesa_engine.specs.mesa_projection.Bare.{bare_state}
-use Rattle.mesa_engine.specs.mesa_projection.Rows.{Rows, no_rows}
-use Rattle.mesa_engine.specs.mesa_engine_state.mesa_invariant.Causes.{Unwritten, reply_of, told_at}
-use Rattle.mesa_engine.specs.mesa_engine_state.mesa_invariant.Turns.{entry}
-use Rattle.mesa_engine.specs.mesa_engine_state.mesa_invariant.Invariant.{Counts, run_at, run_of}
-use Rattle.mesa_engine.proofs.mesa_engine_state.mesa_invariant.Alike.{due_alike}
-use Rattle.mesa_engine.specs.mesa_engine_state.EngineState.{first_id, next_id, past_id}
-use Rattle.mesa_engine.specs.mesa_engine_state.Recorded.{failed_state, recorded_state}
-use Rattle.mesa_engine.specs.mesa_engine_state.Vault.{IsReady, IsVault, Starts, outset_of}
+use Rattle.mesa_engine.specs.mesa_projection_laws.Bare.{bare_state}
+use Rattle.mesa_engine.specs.mesa_projection_laws.Rows.{Rows, no_rows}
+use Rattle.mesa_engine.specs.mesa_engine_spec.mesa_invariant_spec.Causes.{Unwritten, reply_of, told_at}
+use Rattle.mesa_engine.specs.mesa_engine_spec.mesa_invariant_spec.Turns.{entry}
+use Rattle.mesa_engine.specs.mesa_engine_spec.mesa_invariant_spec.Invariant.{Counts, run_at, run_of}
+use Rattle.mesa_engine.proofs.mesa_engine_spec.mesa_invariant_spec.Alike.{due_alike}
+use Rattle.mesa_engine.specs.mesa_engine_spec.EngineState.{first_id, next_id, past_id}
+use Rattle.mesa_engine.specs.mesa_engine_spec.Recorded.{failed_state, recorded_state}
+use Rattle.mesa_engine.specs.mesa_engine_spec.Vault.{IsReady, IsVault, Starts, outset_of}
 use Rattle.mesa_engine.specs.declared.log.Log.{Log}
 use Rattle.mesa_engine.specs.Printing.{PrintsBlock}
 use Rattle.mesa_engine.specs.mesa_metadata.Memory.{Memory}

@@ -22,29 +22,29 @@ use Rattle.mesa_model.specs.declared.replies.Reply.TheVariants as reply
 use Rattle.mesa_model.specs.Load.{bounds_checked, load_batch, tables_named, with_batch}
 use Rattle.mesa_model.specs.Refusals.{batch_refusal, refuse_closed}
 use Rattle.mesa_model.specs.Warehouse.{Warehouse, max_versions}
-use Rattle.mesa_engine.specs.mesa_history.Legal.{builds_files}
-use Rattle.mesa_engine.specs.mesa_history.Run.{Run, First, Looked}
-use Rattle.mesa_engine.specs.mesa_history.Turns.{IsDue}
-use Rattle.mesa_engine.specs.mesa_catalog.mesa_image.Catalog.{Catalog}
-use Rattle.mesa_engine.specs.mesa_engine_state.mesa_image.Sourced.{tables_read}
+use Rattle.mesa_engine.specs.mesa_history_spec.Legal.{builds_files}
+use Rattle.mesa_engine.specs.mesa_history_spec.Run.{Run, First, Looked}
+use Rattle.mesa_engine.specs.mesa_history_spec.Turns.{IsDue}
+use Rattle.mesa_engine.specs.mesa_catalog.mesa_image_spec.Catalog.{Catalog}
+use Rattle.mesa_engine.specs.mesa_engine_spec.mesa_image_spec.Sourced.{tables_read}
 use Rattle.mesa_engine.specs.mesa_catalog.Lookups.{sight_of}
-use Rattle.mesa_engine.specs.mesa_output.Output.{block}
-use Rattle.mesa_engine.specs.mesa_projection.Bare.{bare_state}
-use Rattle.mesa_engine.specs.mesa_projection.Rows.{Rows, no_rows}
-use Rattle.mesa_engine.specs.mesa_engine_state.mesa_invariant.Causes.{Unwritten, reply_of, told_at}
-use Rattle.mesa_engine.specs.mesa_engine_state.mesa_invariant.Changes.{HasFailed}
-use Rattle.mesa_engine.specs.mesa_engine_state.mesa_invariant.Printing.{IsPut}
-use Rattle.mesa_engine.specs.mesa_engine_state.mesa_invariant.Turns.{entry}
-use Rattle.mesa_engine.specs.mesa_engine_state.mesa_invariant.Invariant.{Outset, run_at, run_of}
-use Rattle.mesa_engine.proofs.mesa_engine_state.mesa_invariant.Alike.{due_alike}
-use Rattle.mesa_engine.proofs.mesa_engine_state.mesa_invariant.Changing.{fails_turn, load_decided}
-use Rattle.mesa_engine.proofs.mesa_engine_state.mesa_invariant.Clock.{begun_moment, closing, not_closing}
-use Rattle.mesa_engine.proofs.mesa_engine_state.mesa_invariant.Turning.{stays}
-use Rattle.mesa_engine.specs.mesa_engine_state.EngineState.{EngineState, books_of, most_files}
-use Rattle.mesa_engine.specs.mesa_engine_state.Turned.{shut_state}
-use Rattle.mesa_engine.specs.mesa_engine_state.Vault.{Origin, IsVault, Starts, outset_of}
-use Rattle.mesa_engine.proofs.mesa_engine_state.Changing.{tables_are}
-use Rattle.mesa_engine.proofs.mesa_engine_state.Staying.{closed_vault, still_vault}
+use Rattle.mesa_engine.specs.mesa_output_spec.Output.{block}
+use Rattle.mesa_engine.specs.mesa_projection_laws.Bare.{bare_state}
+use Rattle.mesa_engine.specs.mesa_projection_laws.Rows.{Rows, no_rows}
+use Rattle.mesa_engine.specs.mesa_engine_spec.mesa_invariant_spec.Causes.{Unwritten, reply_of, told_at}
+use Rattle.mesa_engine.specs.mesa_engine_spec.mesa_invariant_spec.Changes.{HasFailed}
+use Rattle.mesa_engine.specs.mesa_engine_spec.mesa_invariant_spec.Printing.{IsPut}
+use Rattle.mesa_engine.specs.mesa_engine_spec.mesa_invariant_spec.Turns.{entry}
+use Rattle.mesa_engine.specs.mesa_engine_spec.mesa_invariant_spec.Invariant.{Outset, run_at, run_of}
+use Rattle.mesa_engine.proofs.mesa_engine_spec.mesa_invariant_spec.Alike.{due_alike}
+use Rattle.mesa_engine.proofs.mesa_engine_spec.mesa_invariant_spec.Changing.{fails_turn, load_decided}
+use Rattle.mesa_engine.proofs.mesa_engine_spec.mesa_invariant_spec.Clock.{begun_moment, closing, not_closing}
+use Rattle.mesa_engine.proofs.mesa_engine_spec.mesa_invariant_spec.Turning.{stays}
+use Rattle.mesa_engine.specs.mesa_engine_spec.EngineState.{EngineState, books_of, most_files}
+use Rattle.mesa_engine.specs.mesa_engine_spec.Turned.{shut_state}
+use Rattle.mesa_engine.specs.mesa_engine_spec.Vault.{Origin, IsVault, Starts, outset_of}
+use Rattle.mesa_engine.proofs.mesa_engine_spec.Changing.{tables_are}
+use Rattle.mesa_engine.proofs.mesa_engine_spec.Staying.{closed_vault, still_vault}
 use Rattle.mesa_publishing.specs.declared.publishing.Published.{Published}
 use Rattle.mesa_engine.specs.declared.log.Log.{Log}
 use Rattle.mesa_engine.specs.Printing.{PrintsBlock}

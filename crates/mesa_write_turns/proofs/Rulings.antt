@@ -19,24 +19,24 @@ use Rattle.mesa_model.specs.declared.replies.Refusal.TheVariants as no
 use Rattle.mesa_model.specs.declared.replies.Reply.{Reply}
 use Rattle.mesa_model.specs.Refusals.{refuse_closed}
 use Rattle.mesa_model.specs.Warehouse.{Table}
-use Rattle.mesa_engine.specs.mesa_history.Legal.{is_due_at, is_release}
-use Rattle.mesa_engine.specs.mesa_history.Replay.{is_skip, no_rows as no_lines}
-use Rattle.mesa_engine.specs.mesa_history.Run.{State, First, Finished}
-use Rattle.mesa_engine.specs.mesa_history.Turns.{IsDue}
+use Rattle.mesa_engine.specs.mesa_history_spec.Legal.{is_due_at, is_release}
+use Rattle.mesa_engine.specs.mesa_history_spec.Replay.{is_skip, no_rows as no_lines}
+use Rattle.mesa_engine.specs.mesa_history_spec.Run.{State, First, Finished}
+use Rattle.mesa_engine.specs.mesa_history_spec.Turns.{IsDue}
 use Rattle.mesa_record.specs.declared.record.Record.{Record}
-use Rattle.mesa_engine.specs.mesa_catalog.mesa_image.Fitting.{brought, shelved_id}
-use Rattle.mesa_engine.specs.mesa_catalog.mesa_image.Sound.{IsTold, wants}
+use Rattle.mesa_engine.specs.mesa_catalog.mesa_image_spec.Fitting.{brought, shelved_id}
+use Rattle.mesa_engine.specs.mesa_catalog.mesa_image_spec.Sound.{IsTold, wants}
 use Rattle.mesa_engine.specs.mesa_script.Rows.{body_of}
 use Rattle.mesa_rules.specs.declared.ruled.Ruled.{Ruled}
 use Rattle.mesa_rules.specs.Ruled.{IsRuled, IsRefused as IsUnruled}
 use Rattle.mesa_rules.specs.Seen.{HasCatalog, known_of}
-use Rattle.mesa_engine.specs.mesa_projection.Rows.{Rows, no_rows}
-use Rattle.mesa_engine.specs.mesa_engine_state.mesa_invariant.Causes.{NoMemory}
-use Rattle.mesa_engine.specs.mesa_engine_state.mesa_invariant.Changes.{Doing, HasFailed}
-use Rattle.mesa_engine.specs.mesa_engine_state.mesa_invariant.Turns.{Shown, IsSeen, Takes, entry}
-use Rattle.mesa_engine.specs.mesa_engine_state.mesa_invariant.Invariant.{run_at}
-use Rattle.mesa_engine.proofs.mesa_engine_state.mesa_invariant.Going.{publish_takes, simple_takes}
-use Rattle.mesa_engine.specs.mesa_engine_state.EngineState.{EngineState, books_of, projection_of}
+use Rattle.mesa_engine.specs.mesa_projection_laws.Rows.{Rows, no_rows}
+use Rattle.mesa_engine.specs.mesa_engine_spec.mesa_invariant_spec.Causes.{NoMemory}
+use Rattle.mesa_engine.specs.mesa_engine_spec.mesa_invariant_spec.Changes.{Doing, HasFailed}
+use Rattle.mesa_engine.specs.mesa_engine_spec.mesa_invariant_spec.Turns.{Shown, IsSeen, Takes, entry}
+use Rattle.mesa_engine.specs.mesa_engine_spec.mesa_invariant_spec.Invariant.{run_at}
+use Rattle.mesa_engine.proofs.mesa_engine_spec.mesa_invariant_spec.Going.{publish_takes, simple_takes}
+use Rattle.mesa_engine.specs.mesa_engine_spec.EngineState.{EngineState, books_of, projection_of}
 use Rattle.mesa_engine.specs.Failure.{cause_in}
 use Rattle.mesa_engine.specs.Failing.{HasNotDone, deciding_kind, deciding_stage}
 use Rattle.mesa_write_turns.specs.Ruling.{IsAllowed, IsRefused, told_as}

@@ -11,39 +11,39 @@ use Rattle.mesa_model.specs.declared.commands.Script.{Script}
 use Rattle.mesa_model.specs.declared.entries.Entry.{Entry}
 use Rattle.mesa_model.specs.declared.entries.Kind.TheVariants as kind
 use Rattle.mesa_model.specs.declared.entries.Outcome.TheVariants as outcome
-use Rattle.mesa_engine.specs.mesa_history.Refused.{is_refusal}
-use Rattle.mesa_engine.specs.mesa_history.Run.{Run}
-use Rattle.mesa_engine.specs.mesa_history.Turns.{IsDue}
+use Rattle.mesa_engine.specs.mesa_history_spec.Refused.{is_refusal}
+use Rattle.mesa_engine.specs.mesa_history_spec.Run.{Run}
+use Rattle.mesa_engine.specs.mesa_history_spec.Turns.{IsDue}
 use Rattle.mesa_record.specs.declared.record.Record.{Record}
 use Rattle.mesa_record.specs.Reading.{record_at}
 use Rattle.mesa_record.specs.Rules.{IsTyped}
-use Rattle.mesa_engine.specs.mesa_catalog.mesa_image.Catalog.{Catalog, applied}
-use Rattle.mesa_engine.specs.mesa_catalog.mesa_image.Contents.{kept_of}
-use Rattle.mesa_engine.specs.mesa_catalog.mesa_image.Fitting.{shelved}
-use Rattle.mesa_engine.specs.mesa_catalog.mesa_image.Held.{IsHeld, StandsForEither as EitherOf}
-use Rattle.mesa_engine.specs.mesa_catalog.mesa_image.Sound.{StandsFor}
-use Rattle.mesa_engine.proofs.mesa_engine_state.mesa_image.Agreeing.{agree_wants}
-use Rattle.mesa_engine.proofs.mesa_engine_state.mesa_image.CountedRecords.{fits_counted}
-use Rattle.mesa_engine.proofs.mesa_engine_state.mesa_image.Ids.{own_ids}
-use Rattle.mesa_engine.proofs.mesa_engine_state.mesa_image.Recordable.{applied_recordable}
-use Rattle.mesa_engine.proofs.mesa_engine_state.mesa_image.Wholes.{fits_shaped}
-use Rattle.mesa_engine.specs.mesa_engine_state.mesa_image.Ids.{named}
+use Rattle.mesa_engine.specs.mesa_catalog.mesa_image_spec.Catalog.{Catalog, applied}
+use Rattle.mesa_engine.specs.mesa_catalog.mesa_image_spec.Contents.{kept_of}
+use Rattle.mesa_engine.specs.mesa_catalog.mesa_image_spec.Fitting.{shelved}
+use Rattle.mesa_engine.specs.mesa_catalog.mesa_image_spec.Held.{IsHeld, StandsForEither as EitherOf}
+use Rattle.mesa_engine.specs.mesa_catalog.mesa_image_spec.Sound.{StandsFor}
+use Rattle.mesa_engine.proofs.mesa_engine_spec.mesa_image_spec.Agreeing.{agree_wants}
+use Rattle.mesa_engine.proofs.mesa_engine_spec.mesa_image_spec.CountedRecords.{fits_counted}
+use Rattle.mesa_engine.proofs.mesa_engine_spec.mesa_image_spec.Ids.{own_ids}
+use Rattle.mesa_engine.proofs.mesa_engine_spec.mesa_image_spec.Recordable.{applied_recordable}
+use Rattle.mesa_engine.proofs.mesa_engine_spec.mesa_image_spec.Wholes.{fits_shaped}
+use Rattle.mesa_engine.specs.mesa_engine_spec.mesa_image_spec.Ids.{named}
 use Rattle.mesa_engine.specs.mesa_catalog.Lookups.{generation_of, turns_generation}
 use Rattle.mesa_store.specs.Store.{Writes as IsWritten}
-use Rattle.mesa_engine.specs.mesa_output.Output.{block}
-use Rattle.mesa_engine.specs.mesa_projection.Rows.{Rows}
+use Rattle.mesa_engine.specs.mesa_output_spec.Output.{block}
+use Rattle.mesa_engine.specs.mesa_projection_laws.Rows.{Rows}
 use Rattle.mesa_publishing.specs.mesa_trash.Filed.{AreGiven, Renames}
-use Rattle.mesa_engine.specs.mesa_engine_state.mesa_invariant.Causes.{Unwritten, reply_of, told_at}
-use Rattle.mesa_engine.specs.mesa_engine_state.mesa_invariant.Printing.{IsPut}
-use Rattle.mesa_engine.specs.mesa_engine_state.mesa_invariant.Turns.{entry}
-use Rattle.mesa_engine.specs.mesa_engine_state.mesa_invariant.Invariant.{Counts, Passes, StandsForEither, Writes, run_of}
-use Rattle.mesa_engine.specs.mesa_engine_state.EngineState.{EngineState}
-use Rattle.mesa_engine.specs.mesa_engine_state.Recorded.{IsRecorded, failed_state, recorded_state}
-use Rattle.mesa_engine.specs.mesa_engine_state.Vault.{IsVault, Starts, outset_of}
-use Rattle.mesa_engine.proofs.mesa_engine_state.Agreeing.{named_agree, same_kept}
-use Rattle.mesa_engine.proofs.mesa_engine_state.Recording.{Clears, clears_none}
-use Rattle.mesa_engine.proofs.mesa_engine_state.Renaming.{record_brings, record_renames}
-use Rattle.mesa_engine.proofs.mesa_engine_state.Writing.{unwritten_vault, written_vault}
+use Rattle.mesa_engine.specs.mesa_engine_spec.mesa_invariant_spec.Causes.{Unwritten, reply_of, told_at}
+use Rattle.mesa_engine.specs.mesa_engine_spec.mesa_invariant_spec.Printing.{IsPut}
+use Rattle.mesa_engine.specs.mesa_engine_spec.mesa_invariant_spec.Turns.{entry}
+use Rattle.mesa_engine.specs.mesa_engine_spec.mesa_invariant_spec.Invariant.{Counts, Passes, StandsForEither, Writes, run_of}
+use Rattle.mesa_engine.specs.mesa_engine_spec.EngineState.{EngineState}
+use Rattle.mesa_engine.specs.mesa_engine_spec.Recorded.{IsRecorded, failed_state, recorded_state}
+use Rattle.mesa_engine.specs.mesa_engine_spec.Vault.{IsVault, Starts, outset_of}
+use Rattle.mesa_engine.proofs.mesa_engine_spec.Agreeing.{named_agree, same_kept}
+use Rattle.mesa_engine.proofs.mesa_engine_spec.Recording.{Clears, clears_none}
+use Rattle.mesa_engine.proofs.mesa_engine_spec.Renaming.{record_brings, record_renames}
+use Rattle.mesa_engine.proofs.mesa_engine_spec.Writing.{unwritten_vault, written_vault}
 use Rattle.mesa_engine.specs.Failing.{deciding_stage}
 use Rattle.mesa_publishing.specs.Published.{AllTell}
 use Rattle.mesa_write_turns.specs.declared.writing.Change.{Change}

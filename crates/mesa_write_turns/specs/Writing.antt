@@ -16,22 +16,22 @@ use Rattle.mesa_model.specs.Load.{load_batch}
 use Rattle.mesa_model.specs.Tables.{alter_table, change_asked, columns_asked, make_table, make_view}
 use Rattle.mesa_model.specs.Versions.{expire_all, expire_table}
 use Rattle.mesa_model.specs.Warehouse.{Warehouse}
-use Rattle.mesa_engine.specs.mesa_history.Run.{Run}
-use Rattle.mesa_engine.specs.mesa_history.Turns.{IsDue}
+use Rattle.mesa_engine.specs.mesa_history_spec.Run.{Run}
+use Rattle.mesa_engine.specs.mesa_history_spec.Turns.{IsDue}
 use Rattle.mesa_record.specs.declared.record.Part.{Part}
 use Rattle.mesa_record.specs.declared.record.Record.{Record}
 use Rattle.mesa_record.specs.declared.record.Record.TheVariants as record_of
 use Rattle.mesa_record.specs.Rules.{keeps_rules}
-use Rattle.mesa_engine.specs.mesa_catalog.mesa_image.Catalog.{stock_at}
-use Rattle.mesa_engine.specs.mesa_catalog.mesa_image.Fitting.{brought, fits}
-use Rattle.mesa_engine.specs.mesa_catalog.mesa_image.Sound.{wants}
-use Rattle.mesa_engine.specs.mesa_engine_state.mesa_image.Brought.{AreTold, BringsAll}
-use Rattle.mesa_engine.specs.mesa_engine_state.mesa_image.Ids.{brought_ids}
-use Rattle.mesa_engine.specs.mesa_engine_state.mesa_image.Sourced.{tables_read}
-use Rattle.mesa_engine.specs.mesa_projection.Rows.{Rows, no_rows}
-use Rattle.mesa_engine.specs.mesa_engine_state.mesa_invariant.Changes.{Doing}
-use Rattle.mesa_engine.specs.mesa_engine_state.EngineState.{EngineState, books_of, next_id}
-use Rattle.mesa_engine.specs.mesa_engine_state.Recorded.{Adopts}
+use Rattle.mesa_engine.specs.mesa_catalog.mesa_image_spec.Catalog.{stock_at}
+use Rattle.mesa_engine.specs.mesa_catalog.mesa_image_spec.Fitting.{brought, fits}
+use Rattle.mesa_engine.specs.mesa_catalog.mesa_image_spec.Sound.{wants}
+use Rattle.mesa_engine.specs.mesa_engine_spec.mesa_image_spec.Brought.{AreTold, BringsAll}
+use Rattle.mesa_engine.specs.mesa_engine_spec.mesa_image_spec.Ids.{brought_ids}
+use Rattle.mesa_engine.specs.mesa_engine_spec.mesa_image_spec.Sourced.{tables_read}
+use Rattle.mesa_engine.specs.mesa_projection_laws.Rows.{Rows, no_rows}
+use Rattle.mesa_engine.specs.mesa_engine_spec.mesa_invariant_spec.Changes.{Doing}
+use Rattle.mesa_engine.specs.mesa_engine_spec.EngineState.{EngineState, books_of, next_id}
+use Rattle.mesa_engine.specs.mesa_engine_spec.Recorded.{Adopts}
 use Rattle.mesa_publishing.specs.Published.{AllTell}
 use Rattle.mesa_rules.specs.Seen.{number_of}
 use Rattle.mesa_engine.specs.Failing.{deciding_stage}

@@ -2,11 +2,11 @@ use Rattle.std.proofs.Common.{◌≡◌, ◌∙◌, ◌++◌, ℕ, [], ap, sym, 
 use Rattle.std.specs.Prelude.{flat_map, is_some, IfSome, Option, Vec}
 use Rattle.std.specs.declared.alloc.Global.{Global}
 use Rattle.std.proofs.lemmas.List.{take_all}
-use Rattle.mesa_image.specs.mesa_history.mesa_batch.Totals.{abs_totals}
-use Rattle.mesa_image.specs.Contents.{present}
+use Rattle.mesa_image_spec.specs.mesa_history_spec.mesa_batch.Totals.{abs_totals}
+use Rattle.mesa_image_spec.specs.Contents.{present}
 use Rattle.mesa_schema.specs.Changes.{columns_of}
 use Rattle.mesa_schema.specs.Columns.{Columns}
-use Rattle.mesa_examine.specs.Sums.{counted}
+use Rattle.mesa_check_file.specs.Sums.{counted}
 use Rattle.mesa_check.specs.Found.{rows_found}
 use Rattle.mesa_check.specs.Faults.{is_found, keep_bound}
 use Rattle.mesa_check.specs.Counted.{is_single, rows_where}

@@ -2,9 +2,9 @@ use Rattle.std.proofs.Common.{◌≡◌, take}
 use Rattle.std.specs.Prelude.{flat_map}
 use Rattle.std.specs.List.{AllByRecursion}
 use Rattle.mesa_disk.specs.Image.{Image}
-use Rattle.mesa_image.specs.mesa_history.mesa_batch.Totals.{abs_totals}
+use Rattle.mesa_image_spec.specs.mesa_history_spec.mesa_batch.Totals.{abs_totals}
 use Rattle.mesa_schema.specs.Changes.{columns_of}
-use Rattle.mesa_examine.specs.Sums.{counted}
+use Rattle.mesa_check_file.specs.Sums.{counted}
 use Rattle.mesa_check.specs.Found.{Found}
 use Rattle.mesa_check.specs.Counted.{is_single, rows_where}
 use Rattle.mesa_check.specs.Shown.{tested_range}

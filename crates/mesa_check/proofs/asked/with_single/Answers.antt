@@ -1,11 +1,11 @@
 use Rattle.std.proofs.Common.{◌≡◌, ◌∙◌, ◌++◌, ap, sym, [], ℕ, ◌+◌, map, true, false, not, cond, ◌&&◌}
 use Rattle.std.specs.Prelude.{◌||◌, min, zip}
 use Rattle.std.proofs.lemmas.List.{append-nil}
-use Rattle.mesa_image.specs.mesa_history.mesa_batch.Totals.{abs_totals, sum_places}
-use Rattle.mesa_image.specs.Contents.{present}
+use Rattle.mesa_image_spec.specs.mesa_history_spec.mesa_batch.Totals.{abs_totals, sum_places}
+use Rattle.mesa_image_spec.specs.Contents.{present}
 use Rattle.mesa_schema.specs.Changes.{columns_of}
 use Rattle.mesa_schema.specs.Columns.{aggs_of}
-use Rattle.mesa_examine.specs.Sums.{counted, most}
+use Rattle.mesa_check_file.specs.Sums.{counted, most}
 use Rattle.mesa_check.specs.Found.{rows_found}
 use Rattle.mesa_check.specs.Faults.{is_found, keep_bound}
 use Rattle.mesa_check.specs.Counted.{is_single}

@@ -1,13 +1,13 @@
 use Rattle.std.proofs.Common.{◌≡◌, ◌∙◌, ap, sym, subst, true, not, ◌&&◌}
 use Rattle.std.specs.Prelude.{flat_map}
 use Rattle.std.specs.List.{AllByRecursion}
-use Rattle.mesa_image.specs.mesa_history.mesa_batch.Totals.{abs_totals}
-use Rattle.mesa_image.specs.Sound.{all_parts}
+use Rattle.mesa_image_spec.specs.mesa_history_spec.mesa_batch.Totals.{abs_totals}
+use Rattle.mesa_image_spec.specs.Sound.{all_parts}
 use Rattle.mesa_schema.specs.Changes.{columns_of}
 use Rattle.mesa_schema.specs.Columns.{Columns}
 use Rattle.mesa_schema.specs.Folded.{rows_of}
 use Rattle.mesa_table.specs.Meaning.{stock_of}
-use Rattle.mesa_examine.specs.Sums.{counted}
+use Rattle.mesa_check_file.specs.Sums.{counted}
 use Rattle.mesa_check.specs.Found.{rows_found}
 use Rattle.mesa_check.specs.Faults.{are_at_most}
 use Rattle.mesa_check.specs.Counted.{is_counted, rows_where}

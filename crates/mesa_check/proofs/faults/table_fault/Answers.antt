@@ -2,7 +2,7 @@ use Rattle.std.proofs.Common.{◌≡◌, ◌≤◌, ◌∙◌, ap, sym, subst, m
 use Rattle.std.specs.Prelude.{slice_get}
 use Rattle.std.specs.List.{AllByRecursion}
 use Rattle.std.proofs.lemmas.Result.{IfOk-weaker}
-use Rattle.mesa_image.specs.Shape.{IsWithinBound}
+use Rattle.mesa_image_spec.specs.Shape.{IsWithinBound}
 use Rattle.mesa_schema.specs.Changes.{epoch_of}
 use Rattle.mesa_table.specs.Meaning.{stock_of}
 use Rattle.mesa_check.specs.Ranges.{Range}

@@ -1,8 +1,8 @@
 use Rattle.std.proofs.Common.{◌+◌, ◌∙◌, ◌∷◌, [], sym, subst, take, ◌++◌}
 use Rattle.std.specs.List.{AllByRecursion}
 use Rattle.mesa_schema.proofs.Lists.{all_map}
-use Rattle.mesa_image.proofs.Lists.{all_back, all_front, all_unmap}
-use Rattle.mesa_image.specs.Fitting.{Shelved, view_shelved}
+use Rattle.mesa_image_spec.proofs.Lists.{all_back, all_front, all_unmap}
+use Rattle.mesa_image_spec.specs.Fitting.{Shelved, view_shelved}
 use Rattle.mesa_record.specs.declared.record.ViewRef.{ViewRef}
 use Rattle.mesa_check.specs.Found.{IsFoundAs}
 use Rattle.mesa_check.specs.Faults.{is_view_found}

@@ -2,7 +2,7 @@ use Rattle.std.proofs.Common.{◌≡◌, map, take, true, false, Some}
 use Rattle.std.specs.List.{AllByRecursion, list_all}
 use Rattle.mesa_disk.specs.Image.{Image}
 use Rattle.mesa_disk.specs.Story.{Unmoved}
-use Rattle.mesa_image.specs.Fitting.{view_shelved}
+use Rattle.mesa_image_spec.specs.Fitting.{view_shelved}
 use Rattle.mesa_tasks.specs.Opening.{Counted}
 use Rattle.mesa_check.specs.Found.{AreFound, Found}
 use Rattle.mesa_check.specs.Faults.{is_view_found}

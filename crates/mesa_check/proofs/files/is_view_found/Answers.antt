@@ -1,6 +1,6 @@
 use Rattle.std.proofs.Common.{◌≡◌, ◌<◌, ◌∙◌, ◌&&◌, ap, sym, subst, length, arith}
 use Rattle.std.specs.Prelude.{IfSome, is_some, slice_get}
-use Rattle.mesa_image.specs.Fitting.{Shelved}
+use Rattle.mesa_image_spec.specs.Fitting.{Shelved}
 use Rattle.mesa_plans.specs.Files.{own_lineage}
 use Rattle.mesa_schema.specs.Changes.{Lineage}
 use Rattle.mesa_schema.specs.declared.views.View.{View}

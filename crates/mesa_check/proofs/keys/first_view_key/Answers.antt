@@ -1,6 +1,6 @@
 use Rattle.std.proofs.Common.{◌≡◌, ◌<◌, ◌≤◌, ◌∙◌, ◌∷◌, [], ap, sym, subst, length, get_or, List}
 use Rattle.std.specs.Prelude.{slice_get}
-use Rattle.mesa_image.specs.Fitting.{view_shelved}
+use Rattle.mesa_image_spec.specs.Fitting.{view_shelved}
 use Rattle.mesa_record.specs.declared.record.ViewRef.{ViewRef}
 use Rattle.mesa_schema.specs.Changes.{columns_at}
 use Rattle.mesa_check.specs.Faults.{view_key, view_keys_in}

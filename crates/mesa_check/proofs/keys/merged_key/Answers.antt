@@ -2,14 +2,14 @@ use Rattle.std.proofs.Common.{◌≡◌, ◌∙◌, ap, sym, subst, refl, map, [
 use Rattle.std.specs.Prelude.{Option, None, Some}
 use Rattle.std.specs.List.{AllByRecursion}
 use Rattle.std.proofs.lemmas.Result.{IfOk-weaker}
-use Rattle.mesa_image.specs.Contents.{rows_if_any}
+use Rattle.mesa_image_spec.specs.Contents.{rows_if_any}
 use Rattle.mesa_plans.specs.Files.{want_of}
 use Rattle.mesa_plans.specs.Lent.{lent_in, now_if_any}
 use Rattle.mesa_record.specs.declared.record.Files.{Files}
 use Rattle.mesa_schema.specs.Changes.{columns_at, columns_of, epoch_of, lifted}
 use Rattle.mesa_table.specs.Meaning.{stock_of}
 use Rattle.mesa_tasks.specs.Opening.{HasEpoch}
-use Rattle.mesa_compare.specs.Compared.{IsLiftedTo}
+use Rattle.mesa_check_derived.specs.Compared.{IsLiftedTo}
 use Rattle.mesa_check.specs.Found.{rows_found}
 use Rattle.mesa_check.specs.Held.{delta_of}
 use Rattle.mesa_check.specs.Parts.{parts_of}

@@ -1,7 +1,7 @@
 use Rattle.std.proofs.Common.{◌≡◌, ◌≤◌, ◌+◌, ◌-◌, ◌++◌, ◌∙◌, ap, drop, sym, subst, map, Some}
 use Rattle.std.specs.Prelude.{IfSome, Option}
 use Rattle.std.specs.List.{AllByRecursion}
-use Rattle.mesa_image.specs.Catalog.{Delta, start_in}
+use Rattle.mesa_image_spec.specs.Catalog.{Delta, start_in}
 use Rattle.mesa_plans.specs.Lent.{now_if_any, single_delta, with_rows}
 use Rattle.mesa_plans.proofs.Among.{epochs_chosen}
 use Rattle.mesa_table.specs.Meaning.{AreLoaded, stock_of}

@@ -1,10 +1,10 @@
 use Rattle.std.proofs.Common.{◌≡◌, ◌<◌, ◌≤◌, ◌∙◌, ap, sym, subst, length, arith, None, Some}
 use Rattle.std.specs.Prelude.{option_map, slice_get}
 use Rattle.std.specs.List.{AllByRecursion}
-use Rattle.mesa_image.proofs.Lists.{all_flat, all_unflat, stock_found}
-use Rattle.mesa_image.specs.Catalog.{Stock, no_stock, stock_at}
-use Rattle.mesa_image.specs.Fitting.{Shelved, stock_shelved}
-use Rattle.mesa_image.specs.Shape.{IsShaped}
+use Rattle.mesa_image_spec.proofs.Lists.{all_flat, all_unflat, stock_found}
+use Rattle.mesa_image_spec.specs.Catalog.{Stock, no_stock, stock_at}
+use Rattle.mesa_image_spec.specs.Fitting.{Shelved, stock_shelved}
+use Rattle.mesa_image_spec.specs.Shape.{IsShaped}
 use Rattle.mesa_table.specs.Meaning.{stock_of}
 use Rattle.mesa_check.specs.Found.{AreFound, IsFoundAs}
 use Rattle.mesa_check.specs.Faults.{table_faults}

@@ -3,7 +3,7 @@ use Rattle.std.specs.Prelude.{flat_map}
 use Rattle.std.specs.List.{AllByRecursion}
 use Rattle.mesa_disk.specs.Image.{Image}
 use Rattle.mesa_disk.specs.Story.{Unmoved}
-use Rattle.mesa_image.specs.Fitting.{shelved, stock_shelved}
+use Rattle.mesa_image_spec.specs.Fitting.{shelved, stock_shelved}
 use Rattle.mesa_tasks.specs.Opening.{Counted}
 use Rattle.mesa_check.specs.Found.{AreFound, Found}
 use Rattle.mesa_check.specs.Faults.{table_faults}

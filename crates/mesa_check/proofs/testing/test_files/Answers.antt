@@ -1,10 +1,10 @@
 use Rattle.std.proofs.Common.{◌∙◌, ◌<◌, ap, sym, subst, refl, map, List, ℕ}
 use Rattle.std.specs.Prelude.{IfSome, is_some, Option}
 use Rattle.std.specs.List.{AllByRecursion, list_all}
-use Rattle.mesa_image.specs.mesa_history.mesa_batch.Totals.{sum_bound}
-use Rattle.mesa_image.specs.Fitting.{view_shelved}
+use Rattle.mesa_image_spec.specs.mesa_history_spec.mesa_batch.Totals.{sum_bound}
+use Rattle.mesa_image_spec.specs.Fitting.{view_shelved}
 use Rattle.mesa_record.specs.declared.record.ViewRef.{ViewRef}
-use Rattle.mesa_examine.specs.declared.totals.Sums.{Sums}
+use Rattle.mesa_check_file.specs.declared.totals.Sums.{Sums}
 use Rattle.mesa_check.specs.Found.{AreFound}
 use Rattle.mesa_check.specs.Faults.{agrees_if_any, is_view_found}
 use Rattle.mesa_check.specs.Held.{delta_of}

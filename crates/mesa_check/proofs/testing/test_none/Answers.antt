@@ -1,9 +1,9 @@
 use Rattle.std.proofs.Common.{◌∙◌, ◌<◌, [], ap, refl, sym, subst, List, ℕ}
 use Rattle.std.specs.Prelude.{IfSome, Option}
 use Rattle.std.specs.List.{AllByRecursion}
-use Rattle.mesa_image.specs.mesa_history.mesa_batch.Totals.{abs_totals, sum_bound}
+use Rattle.mesa_image_spec.specs.mesa_history_spec.mesa_batch.Totals.{abs_totals, sum_bound}
 use Rattle.mesa_schema.specs.Changes.{columns_at, columns_of}
-use Rattle.mesa_examine.specs.Sums.{counted}
+use Rattle.mesa_check_file.specs.Sums.{counted}
 use Rattle.mesa_check.specs.Faults.{agrees_if_any}
 use Rattle.mesa_check.specs.Held.{delta_of}
 use Rattle.mesa_check.proofs.Recorded.{without_files}

@@ -1,8 +1,8 @@
 use Rattle.std.proofs.Common.{◌∙◌, ap, take, List}
 use Rattle.std.specs.Prelude.{flat_map}
 use Rattle.std.proofs.lemmas.List.{take_all}
-use Rattle.mesa_image.specs.mesa_history.mesa_batch.Totals.{abs_totals}
-use Rattle.mesa_examine.specs.Sums.{counted}
+use Rattle.mesa_image_spec.specs.mesa_history_spec.mesa_batch.Totals.{abs_totals}
+use Rattle.mesa_check_file.specs.Sums.{counted}
 use Rattle.mesa_check.specs.Counted.{is_counted, rows_where}
 use Rattle.mesa_check.specs.Held.{range_in}
 use Rattle.mesa_check.specs.declared.testing.Test.{Test}

@@ -2,10 +2,10 @@ use Rattle.std.proofs.Common.{◌≡◌, ◌∙◌, ◌++◌, ap, sym, [], ℕ, 
 use Rattle.std.specs.Prelude.{cond, min, zip}
 use Rattle.std.proofs.lemmas.List.{append-nil}
 use Rattle.std.proofs.lemmas.Result.{IfOk-weaker}
-use Rattle.mesa_image.specs.mesa_history.mesa_batch.Totals.{abs_totals, sum_places}
-use Rattle.mesa_image.specs.Contents.{present}
+use Rattle.mesa_image_spec.specs.mesa_history_spec.mesa_batch.Totals.{abs_totals, sum_places}
+use Rattle.mesa_image_spec.specs.Contents.{present}
 use Rattle.mesa_schema.specs.Columns.{aggs_of}
-use Rattle.mesa_examine.specs.Sums.{counted, most}
+use Rattle.mesa_check_file.specs.Sums.{counted, most}
 use Rattle.mesa_check.specs.Found.{rows_found}
 use Rattle.mesa_check.specs.Counted.{is_counted, rows_where}
 use Rattle.mesa_check.specs.Held.{delta_of, range_in}

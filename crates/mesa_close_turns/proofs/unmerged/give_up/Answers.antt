@@ -1,28 +1,28 @@
 use Rattle.std.proofs.Common.{◌≡◌, ◌∷◌, ◌++◌, [], length, Option, Some, ℕ, IsTrue, true, false, not, refl, sym, ◌∙◌, ap, subst, arith}
 use Rattle.std.specs.Prelude.{◌==◌}
 use Rattle.mesa_disk.specs.mesa_fault.Causes.{last}
-use Rattle.mesa_publishing.specs.mesa_history.Counting.{answers_bench}
-use Rattle.mesa_publishing.specs.mesa_history.Replay.{closes}
-use Rattle.mesa_publishing.specs.mesa_history.Run.{Granted, Finished}
-use Rattle.mesa_publishing.specs.mesa_history.Turns.{IsDue}
+use Rattle.mesa_publishing.specs.mesa_history_spec.Counting.{answers_bench}
+use Rattle.mesa_publishing.specs.mesa_history_spec.Replay.{closes}
+use Rattle.mesa_publishing.specs.mesa_history_spec.Run.{Granted, Finished}
+use Rattle.mesa_publishing.specs.mesa_history_spec.Turns.{IsDue}
 use Rattle.mesa_model.specs.declared.commands.Command.TheVariants as command
 use Rattle.mesa_model.specs.declared.entries.Kind.TheVariants as kind
-use Rattle.mesa_engine.specs.mesa_engine_state.EngineState.{EngineState}
-use Rattle.mesa_engine.specs.mesa_engine_state.Vault.{Starts, outset_of}
-use Rattle.mesa_engine.proofs.mesa_engine_state.Beginning.{vault_at_seen}
+use Rattle.mesa_engine.specs.mesa_engine_spec.EngineState.{EngineState}
+use Rattle.mesa_engine.specs.mesa_engine_spec.Vault.{Starts, outset_of}
+use Rattle.mesa_engine.proofs.mesa_engine_spec.Beginning.{vault_at_seen}
 use Rattle.mesa_engine.specs.Failure.{cause_in}
 use Rattle.mesa_engine.specs.Printing.{PrintsBlock}
 use Rattle.mesa_engine.specs.mesa_metadata.Memory.{Memory}
-use Rattle.mesa_engine.specs.mesa_output.Output.{block}
-use Rattle.mesa_engine.specs.mesa_projection.Rows.{no_rows}
+use Rattle.mesa_engine.specs.mesa_output_spec.Output.{block}
+use Rattle.mesa_engine.specs.mesa_projection_laws.Rows.{no_rows}
 use Rattle.mesa_tasks.specs.GivingBack.{task_inputs}
-use Rattle.mesa_engine.specs.mesa_engine_state.mesa_invariant.Causes.{Cause, is_read_fault, outcome_of, reply_of, told_at}
-use Rattle.mesa_engine.specs.mesa_engine_state.mesa_invariant.Printing.{IsPut}
-use Rattle.mesa_engine.specs.mesa_engine_state.mesa_invariant.Turns.{AnswersDisk, AnswersDraft, Shown, SomeRose, Takes, entry, faults_of}
-use Rattle.mesa_engine.specs.mesa_engine_state.mesa_invariant.Invariant.{run_at}
-use Rattle.mesa_engine.proofs.mesa_engine_state.mesa_invariant.Alike.{due_alike}
-use Rattle.mesa_engine.proofs.mesa_engine_state.mesa_invariant.Clock.{begun_moment, not_closing}
-use Rattle.mesa_engine.proofs.mesa_engine_state.mesa_invariant.Faulting.{disk_caused}
+use Rattle.mesa_engine.specs.mesa_engine_spec.mesa_invariant_spec.Causes.{Cause, is_read_fault, outcome_of, reply_of, told_at}
+use Rattle.mesa_engine.specs.mesa_engine_spec.mesa_invariant_spec.Printing.{IsPut}
+use Rattle.mesa_engine.specs.mesa_engine_spec.mesa_invariant_spec.Turns.{AnswersDisk, AnswersDraft, Shown, SomeRose, Takes, entry, faults_of}
+use Rattle.mesa_engine.specs.mesa_engine_spec.mesa_invariant_spec.Invariant.{run_at}
+use Rattle.mesa_engine.proofs.mesa_engine_spec.mesa_invariant_spec.Alike.{due_alike}
+use Rattle.mesa_engine.proofs.mesa_engine_spec.mesa_invariant_spec.Clock.{begun_moment, not_closing}
+use Rattle.mesa_engine.proofs.mesa_engine_spec.mesa_invariant_spec.Faulting.{disk_caused}
 use Rattle.mesa_engine.specs.Engine.{Standing, IsEngine, starts_of}
 use Rattle.mesa_engine.proofs.Drafting.{answers_where}
 use Rattle.mesa_tasks.specs.Tasks.{claim_in}

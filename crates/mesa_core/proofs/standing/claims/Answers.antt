@@ -1,12 +1,12 @@
 use Rattle.std.proofs.Common.{◌≡◌, not, sym, ap, subst, false}
 use Rattle.mesa_engine.specs.Engine.{Standing, starts_of}
-use Rattle.mesa_history.specs.Claims.{HasClaimAt}
-use Rattle.mesa_history.specs.Machine.{Machine}
-use Rattle.mesa_history.specs.Run.{place_of}
-use Rattle.mesa_engine.proofs.mesa_engine_state.Beginning.{vault_claims}
-use Rattle.mesa_engine.specs.mesa_engine_state.Vault.{Starts, outset_of}
-use Rattle.mesa_engine.specs.mesa_projection.Rows.{no_rows}
-use Rattle.mesa_engine.specs.mesa_invariant.Invariant.{run_at}
+use Rattle.mesa_history_spec.specs.Claims.{HasClaimAt}
+use Rattle.mesa_history_spec.specs.Machine.{Machine}
+use Rattle.mesa_history_spec.specs.Run.{place_of}
+use Rattle.mesa_engine.proofs.mesa_engine_spec.Beginning.{vault_claims}
+use Rattle.mesa_engine.specs.mesa_engine_spec.Vault.{Starts, outset_of}
+use Rattle.mesa_engine.specs.mesa_projection_laws.Rows.{no_rows}
+use Rattle.mesa_engine.specs.mesa_invariant_spec.Invariant.{run_at}
 use Rattle.mesa_core.proofs.standing.claims.Goals as goal
 
 pub returns-clause-leases : goal.returns-clause-leases

@@ -1,5 +1,5 @@
 use Rattle.std.proofs.Common.{◌≡◌, [], sym, subst}
-use Rattle.mesa_engine.specs.mesa_history.Replay.{no_rows as no_lines}
+use Rattle.mesa_engine.specs.mesa_history_spec.Replay.{no_rows as no_lines}
 use Rattle.mesa_engine.proofs.Printing.{no_body}
 use Rattle.mesa_script.specs.Rows.{body_of}
 use Rattle.mesa_query_turns.proofs.closing.print.Goals as goal

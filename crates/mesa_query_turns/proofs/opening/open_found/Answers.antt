@@ -3,14 +3,14 @@ use Rattle.std.specs.Prelude.{IfSome, Option}
 use Rattle.std.specs.List.{AllByRecursion}
 use Rattle.mesa_query_turns.specs.Opening.{read_in}
 use Rattle.mesa_engine.proofs.mesa_catalog.Stocks.{all_at}
-use Rattle.mesa_engine.specs.mesa_catalog.mesa_image.Catalog.{Catalog, Delta, Stock, no_stock, stock_at}
-use Rattle.mesa_engine.specs.mesa_catalog.mesa_image.Fitting.{deltas_of}
-use Rattle.mesa_engine.specs.mesa_catalog.mesa_image.Shape.{IsCatalog, IsShaped}
+use Rattle.mesa_engine.specs.mesa_catalog.mesa_image_spec.Catalog.{Catalog, Delta, Stock, no_stock, stock_at}
+use Rattle.mesa_engine.specs.mesa_catalog.mesa_image_spec.Fitting.{deltas_of}
+use Rattle.mesa_engine.specs.mesa_catalog.mesa_image_spec.Shape.{IsCatalog, IsShaped}
 use Rattle.mesa_disk.specs.Image.{Image}
 use Rattle.mesa_engine.proofs.Seeing.{ok_also}
 use Rattle.mesa_filter.specs.Filter.{are_within}
 use Rattle.mesa_filter.specs.Query.{IsQueryOf, group_kinds}
-use Rattle.mesa_engine.specs.mesa_engine_state.mesa_image.Planned.{planned}
+use Rattle.mesa_engine.specs.mesa_engine_spec.mesa_image_spec.Planned.{planned}
 use Rattle.mesa_plans.proofs.Contents.{columns_found}
 use Rattle.mesa_plans.proofs.Ordered.{read_kinds}
 use Rattle.mesa_plans.proofs.Reading.{columns_read}

@@ -1,23 +1,23 @@
 use Rattle.std.proofs.Common.{◌≡◌, [], ◌∷◌, ◌++◌, true, false, not, refl, sym, ◌∙◌, ap, subst, arith}
-use Rattle.mesa_engine.specs.mesa_history.Refused.{is_refusal}
-use Rattle.mesa_engine.specs.mesa_history.Replay.{no_rows as no_lines}
-use Rattle.mesa_engine.specs.mesa_history.Run.{First, Finished}
-use Rattle.mesa_engine.specs.mesa_history.Turns.{IsDue}
+use Rattle.mesa_engine.specs.mesa_history_spec.Refused.{is_refusal}
+use Rattle.mesa_engine.specs.mesa_history_spec.Replay.{no_rows as no_lines}
+use Rattle.mesa_engine.specs.mesa_history_spec.Run.{First, Finished}
+use Rattle.mesa_engine.specs.mesa_history_spec.Turns.{IsDue}
 use Rattle.mesa_model.specs.Entry.{IsShort}
 use Rattle.mesa_model.specs.declared.commands.Command.TheVariants as command
 use Rattle.mesa_model.specs.declared.entries.Entry.{Entry}
 use Rattle.mesa_model.specs.declared.entries.Kind.TheVariants as kind
 use Rattle.mesa_model.specs.declared.entries.Outcome.TheVariants as outcome
-use Rattle.mesa_engine.specs.mesa_engine_state.Vault.{Starts, outset_of}
-use Rattle.mesa_engine.proofs.mesa_engine_state.Beginning.{vault_at_seen}
+use Rattle.mesa_engine.specs.mesa_engine_spec.Vault.{Starts, outset_of}
+use Rattle.mesa_engine.proofs.mesa_engine_spec.Beginning.{vault_at_seen}
 use Rattle.mesa_engine.specs.Printing.{PrintsBlock}
-use Rattle.mesa_engine.specs.mesa_projection.Rows.{no_rows}
-use Rattle.mesa_engine.specs.mesa_engine_state.mesa_invariant.Causes.{told_at}
-use Rattle.mesa_engine.specs.mesa_engine_state.mesa_invariant.Turns.{AnswersDisk, Shown, Takes, entry}
-use Rattle.mesa_engine.specs.mesa_engine_state.mesa_invariant.Invariant.{run_at}
-use Rattle.mesa_engine.proofs.mesa_engine_state.mesa_invariant.Alike.{due_alike}
-use Rattle.mesa_engine.proofs.mesa_engine_state.mesa_invariant.Faulting.{disk_never}
-use Rattle.mesa_engine.proofs.mesa_engine_state.mesa_invariant.Going.{simple_takes}
+use Rattle.mesa_engine.specs.mesa_projection_laws.Rows.{no_rows}
+use Rattle.mesa_engine.specs.mesa_engine_spec.mesa_invariant_spec.Causes.{told_at}
+use Rattle.mesa_engine.specs.mesa_engine_spec.mesa_invariant_spec.Turns.{AnswersDisk, Shown, Takes, entry}
+use Rattle.mesa_engine.specs.mesa_engine_spec.mesa_invariant_spec.Invariant.{run_at}
+use Rattle.mesa_engine.proofs.mesa_engine_spec.mesa_invariant_spec.Alike.{due_alike}
+use Rattle.mesa_engine.proofs.mesa_engine_spec.mesa_invariant_spec.Faulting.{disk_never}
+use Rattle.mesa_engine.proofs.mesa_engine_spec.mesa_invariant_spec.Going.{simple_takes}
 use Rattle.mesa_engine.specs.Engine.{Standing, IsEngine, starts_of}
 use Rattle.mesa_engine.proofs.Turning.{told_engine}
 use Rattle.mesa_read_turns.proofs.Plans.{explained_vault}

@@ -1,5 +1,5 @@
 use Rattle.std.proofs.Common.{◌∙◌, ◌+◌, ap, arith}
-use Rattle.mesa_engine.specs.mesa_image.Catalog.{Catalog, stock_at}
+use Rattle.mesa_engine.specs.mesa_image_spec.Catalog.{Catalog, stock_at}
 use Rattle.mesa_model.specs.declared.replies.Reply.TheVariants as reply
 use Rattle.mesa_plans.proofs.mesa_schema.LineageRecasts.{recast_allowed}
 use Rattle.mesa_tasks.specs.Recasts.{recast_in, recast_table}

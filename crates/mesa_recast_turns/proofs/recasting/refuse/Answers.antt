@@ -1,21 +1,21 @@
 use Rattle.std.proofs.Common.{◌≡◌, ◌∷◌, ◌++◌, [], length, true, not, refl, sym, ◌∙◌, ap, subst}
-use Rattle.mesa_engine.specs.mesa_history.Counting.{answers_bench, answers_disk}
-use Rattle.mesa_engine.specs.mesa_history.Replay.{closes}
-use Rattle.mesa_engine.specs.mesa_history.Run.{Renewed, Finished}
-use Rattle.mesa_engine.specs.mesa_history.Turns.{IsDue}
+use Rattle.mesa_engine.specs.mesa_history_spec.Counting.{answers_bench, answers_disk}
+use Rattle.mesa_engine.specs.mesa_history_spec.Replay.{closes}
+use Rattle.mesa_engine.specs.mesa_history_spec.Run.{Renewed, Finished}
+use Rattle.mesa_engine.specs.mesa_history_spec.Turns.{IsDue}
 use Rattle.mesa_model.specs.declared.commands.Command.TheVariants as command
 use Rattle.mesa_model.specs.declared.entries.Kind.TheVariants as kind
-use Rattle.mesa_engine.specs.mesa_engine_state.EngineState.{books_of}
-use Rattle.mesa_engine.specs.mesa_engine_state.Vault.{Starts}
-use Rattle.mesa_engine.proofs.mesa_engine_state.Beginning.{vault_at_seen}
+use Rattle.mesa_engine.specs.mesa_engine_spec.EngineState.{books_of}
+use Rattle.mesa_engine.specs.mesa_engine_spec.Vault.{Starts}
+use Rattle.mesa_engine.proofs.mesa_engine_spec.Beginning.{vault_at_seen}
 use Rattle.mesa_engine.specs.Failure.{cause_in}
 use Rattle.mesa_engine.specs.mesa_metadata.Memory.{Memory}
-use Rattle.mesa_engine.specs.mesa_projection.Rows.{no_rows}
-use Rattle.mesa_engine.specs.mesa_engine_state.mesa_invariant.Causes.{outcome_of}
-use Rattle.mesa_engine.specs.mesa_engine_state.mesa_invariant.Turns.{AnswersDisk, AnswersDraft, Shown, Takes, entry}
-use Rattle.mesa_engine.specs.mesa_engine_state.mesa_invariant.Invariant.{run_at}
-use Rattle.mesa_engine.proofs.mesa_engine_state.mesa_invariant.Alike.{due_alike}
-use Rattle.mesa_engine.proofs.mesa_engine_state.mesa_invariant.Faulting.{disk_never}
+use Rattle.mesa_engine.specs.mesa_projection_laws.Rows.{no_rows}
+use Rattle.mesa_engine.specs.mesa_engine_spec.mesa_invariant_spec.Causes.{outcome_of}
+use Rattle.mesa_engine.specs.mesa_engine_spec.mesa_invariant_spec.Turns.{AnswersDisk, AnswersDraft, Shown, Takes, entry}
+use Rattle.mesa_engine.specs.mesa_engine_spec.mesa_invariant_spec.Invariant.{run_at}
+use Rattle.mesa_engine.proofs.mesa_engine_spec.mesa_invariant_spec.Alike.{due_alike}
+use Rattle.mesa_engine.proofs.mesa_engine_spec.mesa_invariant_spec.Faulting.{disk_never}
 use Rattle.mesa_engine.specs.Engine.{Standing, IsEngine, starts_of}
 use Rattle.mesa_engine.proofs.Drafting.{answers_none}
 use Rattle.mesa_tasks.specs.Recasts.{claim_of_recast, recast_in}

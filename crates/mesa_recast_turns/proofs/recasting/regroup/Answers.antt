@@ -1,37 +1,37 @@
 use Rattle.std.proofs.Common.{◌≡◌, inl, ◌+◌, ◌<◌, [], ◌∷◌, ◌++◌, length, true, false, ◌||◌, ◌^◌, not, refl, sym, ◌∙◌, ap, subst, arith, Ok}
 use Rattle.mesa_disk.specs.mesa_fault.Causes.{Rose}
 use Rattle.mesa_disk.specs.Files.{files_of}
-use Rattle.mesa_engine.specs.mesa_history.Machine.{claim_checked, still_checked}
-use Rattle.mesa_engine.specs.mesa_history.Refused.{is_refusal}
-use Rattle.mesa_engine.specs.mesa_history.Run.{Finished, Renewed}
-use Rattle.mesa_engine.specs.mesa_history.Turns.{IsDue}
-use Rattle.mesa_engine.specs.mesa_image.Catalog.{applied}
-use Rattle.mesa_engine.specs.mesa_engine_state.mesa_image.Ids.{dropped_ids}
+use Rattle.mesa_engine.specs.mesa_history_spec.Machine.{claim_checked, still_checked}
+use Rattle.mesa_engine.specs.mesa_history_spec.Refused.{is_refusal}
+use Rattle.mesa_engine.specs.mesa_history_spec.Run.{Finished, Renewed}
+use Rattle.mesa_engine.specs.mesa_history_spec.Turns.{IsDue}
+use Rattle.mesa_engine.specs.mesa_image_spec.Catalog.{applied}
+use Rattle.mesa_engine.specs.mesa_engine_spec.mesa_image_spec.Ids.{dropped_ids}
 use Rattle.mesa_engine.specs.mesa_metadata.mesa_catalog.Lookups.{generation_of, turns_generation}
 use Rattle.mesa_lease.specs.Book.{ended}
 use Rattle.mesa_model.specs.Entry.{IsShort}
 use Rattle.mesa_model.specs.declared.commands.Command.TheVariants as command
 use Rattle.mesa_model.specs.declared.entries.Kind.TheVariants as kind
 use Rattle.mesa_model.specs.declared.entries.Outcome.TheVariants as outcome
-use Rattle.mesa_engine.specs.mesa_history.Replay.{no_rows as no_lines}
+use Rattle.mesa_engine.specs.mesa_history_spec.Replay.{no_rows as no_lines}
 use Rattle.mesa_close_turns.proofs.mesa_record.RecordsBoth.{record_found}
 use Rattle.mesa_engine.specs.mesa_script.Rows.{body_of}
-use Rattle.mesa_engine.specs.mesa_projection.Rows.{Rows, no_rows}
+use Rattle.mesa_engine.specs.mesa_projection_laws.Rows.{Rows, no_rows}
 use Rattle.mesa_plans.specs.mesa_schema.Changes.{epoch_of}
 use Rattle.mesa_close_turns.specs.mesa_publishing.Recasts.{HasItsRanges, IsRecastIn, stock_of_recast}
 use Rattle.mesa_close_turns.proofs.mesa_publishing.Becoming.{same_columns}
-use Rattle.mesa_engine.specs.mesa_engine_state.mesa_invariant.Causes.{Replies, Unwritten, told_at}
-use Rattle.mesa_engine.specs.mesa_engine_state.mesa_invariant.Turns.{AnswersDisk, AnswersDraft, Shown, SomeRose, Takes, entry, faults_of}
-use Rattle.mesa_engine.specs.mesa_engine_state.mesa_invariant.Invariant.{Counts, run_at}
-use Rattle.mesa_engine.proofs.mesa_engine_state.mesa_invariant.Alike.{due_alike}
-use Rattle.mesa_engine.proofs.mesa_engine_state.mesa_invariant.Clock.{closing}
-use Rattle.mesa_engine.proofs.mesa_engine_state.mesa_invariant.Faulting.{disk_counted, disk_where}
-use Rattle.mesa_engine.proofs.mesa_engine_state.mesa_invariant.Working.{checked_open}
-use Rattle.mesa_engine.specs.mesa_engine_state.EngineState.{EngineState, books_of}
-use Rattle.mesa_engine.specs.mesa_engine_state.Recorded.{failed_state, holds_in, left_by, recorded_state, removed_by, waiting}
-use Rattle.mesa_engine.specs.mesa_engine_state.Turned.{leased_state}
-use Rattle.mesa_engine.specs.mesa_engine_state.Vault.{Starts, outset_of, written_by}
-use Rattle.mesa_engine.proofs.mesa_engine_state.Beginning.{vault_at_seen}
+use Rattle.mesa_engine.specs.mesa_engine_spec.mesa_invariant_spec.Causes.{Replies, Unwritten, told_at}
+use Rattle.mesa_engine.specs.mesa_engine_spec.mesa_invariant_spec.Turns.{AnswersDisk, AnswersDraft, Shown, SomeRose, Takes, entry, faults_of}
+use Rattle.mesa_engine.specs.mesa_engine_spec.mesa_invariant_spec.Invariant.{Counts, run_at}
+use Rattle.mesa_engine.proofs.mesa_engine_spec.mesa_invariant_spec.Alike.{due_alike}
+use Rattle.mesa_engine.proofs.mesa_engine_spec.mesa_invariant_spec.Clock.{closing}
+use Rattle.mesa_engine.proofs.mesa_engine_spec.mesa_invariant_spec.Faulting.{disk_counted, disk_where}
+use Rattle.mesa_engine.proofs.mesa_engine_spec.mesa_invariant_spec.Working.{checked_open}
+use Rattle.mesa_engine.specs.mesa_engine_spec.EngineState.{EngineState, books_of}
+use Rattle.mesa_engine.specs.mesa_engine_spec.Recorded.{failed_state, holds_in, left_by, recorded_state, removed_by, waiting}
+use Rattle.mesa_engine.specs.mesa_engine_spec.Turned.{leased_state}
+use Rattle.mesa_engine.specs.mesa_engine_spec.Vault.{Starts, outset_of, written_by}
+use Rattle.mesa_engine.proofs.mesa_engine_spec.Beginning.{vault_at_seen}
 use Rattle.mesa_engine.specs.Printing.{PrintsBlock}
 use Rattle.mesa_engine.specs.mesa_metadata.Memory.{Memory}
 use Rattle.mesa_engine.specs.Engine.{IsEngine, Standing, starts_of}
@@ -40,7 +40,7 @@ use Rattle.mesa_tasks.specs.Recasts.{claim_of_recast, recast_in, recast_table}
 use Rattle.mesa_close_turns.specs.mesa_trash.Holding.{kept}
 use Rattle.mesa_close_turns.proofs.mesa_write_turns.Loads.{all_tell}
 use Rattle.mesa_close_turns.proofs.mesa_write_turns.Written.{IsWhole, IsWorked}
-use Rattle.mesa_engine.specs.mesa_engine_state.Written.{written_at}
+use Rattle.mesa_engine.specs.mesa_engine_spec.Written.{written_at}
 use Rattle.mesa_close_turns.specs.Swept.{HasStood, IsSwept}
 use Rattle.mesa_close_turns.proofs.Sweeping.{stood_as, swept}
 use Rattle.mesa_recast_turns.specs.Rested.{HasRested}

@@ -6,7 +6,7 @@ use Rattle.mesa_schema.specs.Changes.{Lineage, columns_of}
 use Rattle.mesa_filter.specs.Filter.{filter_of}
 use Rattle.mesa_model.specs.Orders.{choice, order_asked, order_named, values_told}
 use Rattle.mesa_model.specs.Warehouse.{Table}
-use Rattle.mesa_catalog.specs.mesa_image.Catalog.{stock_at}
+use Rattle.mesa_catalog.specs.mesa_image_spec.Catalog.{stock_at}
 use Rattle.mesa_rules.specs.Found.{columns_at, relation_with, without_rows}
 use Rattle.mesa_rules.proofs.Explained.{name_told, view_told}
 use Rattle.mesa_rules.proofs.explaining.order_asked.Goals as goal

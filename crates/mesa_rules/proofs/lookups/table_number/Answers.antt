@@ -3,7 +3,7 @@ use Rattle.std.proofs.Math.ListN.{get_or-map}
 use Rattle.std.proofs.lemmas.Iterator.Adapters.{position_from-zero}
 use Rattle.std.proofs.lemmas.List.{length-map}
 use Rattle.mesa_list.specs.Bytes.{same_bytes}
-use Rattle.mesa_catalog.specs.mesa_image.Catalog.{Stock, no_stock}
+use Rattle.mesa_catalog.specs.mesa_image_spec.Catalog.{Stock, no_stock}
 use Rattle.mesa_catalog.proofs.mesa_table.Places.{place_here, place_later, place_nowhere}
 use Rattle.mesa_rules.proofs.lookups.table_number.Goals as goal
 

@@ -1,7 +1,7 @@
 use Rattle.std.proofs.Common.{◌≡◌, drop, map}
 use Rattle.std.specs.List.{position_from}
 use Rattle.mesa_list.specs.Bytes.{same_bytes}
-use Rattle.mesa_catalog.specs.mesa_image.Catalog.{Stock}
+use Rattle.mesa_catalog.specs.mesa_image_spec.Catalog.{Stock}
 use Rattle.mesa_rules.specs.Seen.{number_of}
 use Rattle.mesa_rules.proofs.lookups.table_number.Given as goal
 

@@ -2,7 +2,7 @@ use Rattle.std.proofs.Common.{◌≡◌, ◌∙◌, ◌<◌, Some, ap, length, s
 use Rattle.std.specs.Prelude.{IfSome, IsTrue, slice_get}
 use Rattle.mesa_schema.specs.Changes.{Lineage, columns_of}
 use Rattle.mesa_model.specs.Orders.{choice, is_candidate}
-use Rattle.mesa_catalog.specs.mesa_image.Catalog.{stock_at}
+use Rattle.mesa_catalog.specs.mesa_image_spec.Catalog.{stock_at}
 use Rattle.mesa_rules.specs.Found.{without_rows}
 use Rattle.mesa_rules.specs.Ordered.{as_read}
 use Rattle.mesa_rules.proofs.ReadBy.{read_asked, read_chosen}

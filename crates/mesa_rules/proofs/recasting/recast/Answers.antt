@@ -5,7 +5,7 @@ use Rattle.mesa_schema.specs.Changes.{Lineage}
 use Rattle.mesa_schema.specs.Recasts.{recast_checked}
 use Rattle.mesa_model.specs.Refusals.{no_such_table, recast_refusal}
 use Rattle.mesa_model.specs.Tables.{recast_asked}
-use Rattle.mesa_catalog.specs.mesa_image.Catalog.{stock_at}
+use Rattle.mesa_catalog.specs.mesa_image_spec.Catalog.{stock_at}
 use Rattle.mesa_binding.specs.Told.{IsDue}
 use Rattle.mesa_rules.specs.Seen.{number_of}
 use Rattle.mesa_rules.proofs.recasting.recast.Goals as goal

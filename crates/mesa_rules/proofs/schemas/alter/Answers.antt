@@ -5,7 +5,7 @@ use Rattle.mesa_schema.specs.Changes.{Lineage, change_checked, columns_of, epoch
 use Rattle.mesa_model.specs.declared.replies.Reply.TheVariants as reply
 use Rattle.mesa_model.specs.Refusals.{change_refusal}
 use Rattle.mesa_model.specs.Tables.{change_asked, changed_name}
-use Rattle.mesa_catalog.specs.mesa_image.Catalog.{stock_at}
+use Rattle.mesa_catalog.specs.mesa_image_spec.Catalog.{stock_at}
 use Rattle.mesa_binding.specs.Asked.{change_allowed}
 use Rattle.mesa_binding.specs.Told.{IsDue}
 use Rattle.mesa_rules.specs.Seen.{number_of}

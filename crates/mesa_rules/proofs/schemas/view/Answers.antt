@@ -10,7 +10,7 @@ use Rattle.mesa_schema.proofs.LineageRules.{present_schema}
 use Rattle.mesa_record.specs.declared.record.Record.TheVariants as record_of
 use Rattle.mesa_model.specs.declared.replies.Reply.TheVariants as reply
 use Rattle.mesa_catalog.specs.Lookups.{relation_of}
-use Rattle.mesa_catalog.specs.mesa_image.Catalog.{stock_at}
+use Rattle.mesa_catalog.specs.mesa_image_spec.Catalog.{stock_at}
 use Rattle.mesa_binding.specs.Asked.{more_views_checked}
 use Rattle.mesa_binding.specs.Told.{IsDue}
 use Rattle.mesa_rules.specs.Seen.{number_of}

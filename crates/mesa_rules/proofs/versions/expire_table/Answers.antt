@@ -2,7 +2,7 @@ use Rattle.std.proofs.Common.{◌≡◌, ◌∙◌, ◌≤◌, ◌<◌, ap, arit
 use Rattle.std.specs.Prelude.{IfSome, OnOk}
 use Rattle.mesa_model.specs.declared.replies.Reply.TheVariants as reply
 use Rattle.mesa_model.specs.Versions.{version_checked}
-use Rattle.mesa_catalog.specs.mesa_image.Catalog.{stock_at}
+use Rattle.mesa_catalog.specs.mesa_image_spec.Catalog.{stock_at}
 use Rattle.mesa_rules.specs.Seen.{number_of}
 use Rattle.mesa_rules.proofs.Doing.{nowhere_expired, refused_expiry, ruled_table_expiry, stock_named}
 use Rattle.mesa_rules.proofs.versions.expire_table.Goals as goal

@@ -1,9 +1,9 @@
 use Rattle.std.proofs.Common.{rules, ◌≡◌, ◌<◌, ◌+◌, ◌*◌, true, false, not, List, length, get_or, arith, subst}
-use Rattle.mesa_core.specs.mesa_history.Run.{Finished, commands_of}
-use Rattle.mesa_core.specs.mesa_history.Turns.{place_then}
-use Rattle.mesa_core.proofs.mesa_history.Due.{command_there}
+use Rattle.mesa_core.specs.mesa_history_spec.Run.{Finished, commands_of}
+use Rattle.mesa_core.specs.mesa_history_spec.Turns.{place_then}
+use Rattle.mesa_core.proofs.mesa_history_spec.Due.{command_there}
 use Rattle.mesa_model.specs.declared.commands.Command.{Command}
-use Rattle.mesa_engine.specs.mesa_projection.Rows.{no_rows}
+use Rattle.mesa_engine.specs.mesa_projection_laws.Rows.{no_rows}
 use Rattle.mesa_core.specs.mesa_session_laws.Passes.{Mine}
 use Rattle.mesa_core.proofs.mesa_session_laws.Answering.{answers_both}
 use Rattle.mesa_core.proofs.mesa_session_laws.Dividing.{gains}

@@ -1,10 +1,10 @@
 use Rattle.std.proofs.Common.{refl, ap, sym}
 use Rattle.mesa_core.specs.Vault.{Stand}
 use Rattle.mesa_model.specs.Entry.{numbers_of}
-use Rattle.mesa_core.specs.mesa_history.Run.{First, Finished}
+use Rattle.mesa_core.specs.mesa_history_spec.Run.{First, Finished}
 use Rattle.mesa_model.specs.declared.entries.Kind.TheVariants as kind
-use Rattle.mesa_engine.specs.mesa_projection.Rows.{no_rows}
-use Rattle.mesa_engine.specs.mesa_invariant.Turns.{is_simple}
+use Rattle.mesa_engine.specs.mesa_projection_laws.Rows.{no_rows}
+use Rattle.mesa_engine.specs.mesa_invariant_spec.Turns.{is_simple}
 use Rattle.mesa_core.proofs.mesa_session_laws.Answering.{none_simple, step_none}
 use Rattle.mesa_core.proofs.mesa_session_laws.Turning.{Step, step_took}
 use Rattle.mesa_session.proofs.Stepping.{Enters, asks, goes_on, one, room_for, step}

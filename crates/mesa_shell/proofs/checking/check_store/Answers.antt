@@ -1,6 +1,6 @@
 use Rattle.std.proofs.Common.{◌≡◌, Ok, Err, sym, ◌∙◌, subst}
 use Rattle.std.specs.Prelude.{◌≢◌, IfErr, IfOk}
-use Rattle.mesa_check.specs.mesa_catalog.mesa_image.Catalog.{Catalog}
+use Rattle.mesa_check.specs.mesa_catalog.mesa_image_spec.Catalog.{Catalog}
 use Rattle.mesa_exit.specs.mesa_exit_spec.mesa_recover.Opening.{HasReason, ReadsAs}
 use Rattle.mesa_exit.specs.mesa_exit_spec.mesa_recover.declared.error.OpenError.TheVariants as open_error
 use Rattle.mesa_exit.specs.mesa_exit_spec.mesa_check.Verdict.{IsFirstFault, fault_told}

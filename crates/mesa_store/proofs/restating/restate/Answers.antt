@@ -1,6 +1,6 @@
 use Rattle.mesa_disk.proofs.Run.{spans_weaken}
-use Rattle.mesa_image.specs.Fitting.{shelved}
-use Rattle.mesa_image.specs.Sound.{wants}
+use Rattle.mesa_image_spec.specs.Fitting.{shelved}
+use Rattle.mesa_image_spec.specs.Sound.{wants}
 use Rattle.mesa_store.proofs.Gates.{takes_over, either_stands, held_restated}
 use Rattle.mesa_store.proofs.restating.restate.Goals as goal
 

@@ -1,8 +1,8 @@
 use Rattle.mesa_disk.specs.Files.{files_of}
 use Rattle.mesa_disk.proofs.Run.{spans_weaken}
-use Rattle.mesa_image.specs.Catalog.{applied}
-use Rattle.mesa_image.specs.Fitting.{brought, shelved}
-use Rattle.mesa_image.specs.Sound.{wants}
+use Rattle.mesa_image_spec.specs.Catalog.{applied}
+use Rattle.mesa_image_spec.specs.Fitting.{brought, shelved}
+use Rattle.mesa_image_spec.specs.Sound.{wants}
 use Rattle.mesa_store.proofs.Joined.{brings, either, held_on}
 use Rattle.mesa_store.proofs.writing.write_record.Goals as goal
 

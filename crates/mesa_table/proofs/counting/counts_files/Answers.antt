@@ -3,7 +3,7 @@ use Rattle.std.specs.Prelude.{◌==◌, ◌&&◌, slice_index_or}
 use Rattle.std.specs.List.{list_all}
 use Rattle.std.proofs.lemmas.Bool.Decides.{nat_tests}
 use Rattle.mesa_schema.specs.Changes.{columns_at}
-use Rattle.mesa_image.specs.Fitting.{is_view_ref}
+use Rattle.mesa_image_spec.specs.Fitting.{is_view_ref}
 use Rattle.mesa_table.proofs.Counts.{width_at, width_there}
 use Rattle.mesa_table.proofs.counting.counts_files.Goals as goal
 

@@ -3,7 +3,7 @@ use Rattle.std.specs.Prelude.{◌==◌, nat_lt}
 use Rattle.std.proofs.lemmas.Bool.Decides.{nat_tests}
 use Rattle.std.proofs.lemmas.Option.{slice_get_past}
 use Rattle.mesa_schema.specs.Changes.{columns_of}
-use Rattle.mesa_image.specs.Fitting.{counts_view}
+use Rattle.mesa_image_spec.specs.Fitting.{counts_view}
 use Rattle.mesa_table.proofs.Counts.{view_width}
 use Rattle.mesa_table.proofs.counting.is_view_ref.Goals as goal
 

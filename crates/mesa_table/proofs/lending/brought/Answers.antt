@@ -3,7 +3,7 @@ use Rattle.std.specs.Prelude.{Some, ◌==◌}
 use Rattle.std.proofs.lemmas.Bool.Decides.{nat_tests}
 use Rattle.std.proofs.lemmas.List.Sorted.{IsPartitionPoint-from_clause, IsPartitionedBy-ltb}
 use Rattle.std.proofs.lemmas.Option.{slice_get_past, slice_get_read}
-use Rattle.mesa_image.specs.Catalog.{empty_delta}
+use Rattle.mesa_image_spec.specs.Catalog.{empty_delta}
 use Rattle.mesa_table.proofs.Ranged.{brought_in, single_found, version_of, versions_rise}
 use Rattle.mesa_table.proofs.lending.brought.Goals as goal
 use Rattle.mesa_table.proofs.lending.brought.Goals.{in_default-via-in-Some+else-single-version, in_default-via-in_default}

@@ -1,6 +1,6 @@
 use Rattle.std.proofs.Common.{◌∙◌, ap, sym, subst}
 use Rattle.std.specs.Prelude.{Option, option_map, IfSome}
-use Rattle.mesa_image.specs.Catalog.{stock_loaded}
+use Rattle.mesa_image_spec.specs.Catalog.{stock_loaded}
 use Rattle.mesa_table.specs.declared.ready.ReadyPart.{ReadyPart}
 use Rattle.mesa_table.specs.Meaning.{stock_of}
 use Rattle.mesa_table.specs.Readied.{IsPartOf, part_in}

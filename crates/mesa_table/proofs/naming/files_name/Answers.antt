@@ -3,7 +3,7 @@ use Rattle.std.specs.Prelude.{◌==◌, ◌||◌}
 use Rattle.std.specs.List.{list_any}
 use Rattle.std.proofs.lemmas.Bool.Decides.{nat_tests}
 use Rattle.mesa_record.specs.declared.record.ViewRef.{ViewRef}
-use Rattle.mesa_image.specs.Fitting.{has_number}
+use Rattle.mesa_image_spec.specs.Fitting.{has_number}
 use Rattle.mesa_table.specs.Named.{view_id}
 use Rattle.mesa_table.proofs.Named.{any-map}
 use Rattle.mesa_table.proofs.naming.files_name.Goals as goal

@@ -1,5 +1,5 @@
 use Rattle.std.proofs.Common.{◌++◌, ◌∙◌, ap}
-use Rattle.mesa_image.specs.Catalog.{Delta}
+use Rattle.mesa_image_spec.specs.Catalog.{Delta}
 use Rattle.mesa_table.specs.Named.{own_ids, single_own}
 use Rattle.mesa_table.proofs.Pushes.{pushed_all, pushed_more}
 use Rattle.mesa_table.proofs.naming.push_loaded_own.Goals as goal

@@ -1,7 +1,7 @@
 use Rattle.std.proofs.Common.{◌∙◌, ap, sym, map, is_ok}
 use Rattle.mesa_schema.specs.Changes.{Lineage}
 use Rattle.mesa_schema.specs.Recasts.{recast_checked, recast_lineage}
-use Rattle.mesa_image.specs.Catalog.{recast_in}
+use Rattle.mesa_image_spec.specs.Catalog.{recast_in}
 use Rattle.mesa_table.specs.declared.ready.ReadyRecast.{ReadyRecast}
 use Rattle.mesa_table.specs.Meaning.{widths_of}
 use Rattle.mesa_table.specs.Readied.{IsRecast}

@@ -1,6 +1,6 @@
 use Rattle.std.proofs.Common.{◌∙◌}
 use Rattle.mesa_schema.specs.Recasts.{recast_checked, recast_lineage}
-use Rattle.mesa_image.specs.Catalog.{recast_in}
+use Rattle.mesa_image_spec.specs.Catalog.{recast_in}
 use Rattle.mesa_table.proofs.Renewed.{checked_is}
 use Rattle.mesa_table.proofs.Tests.{if_ok}
 use Rattle.mesa_table.proofs.recasting.renew.Goals as goal

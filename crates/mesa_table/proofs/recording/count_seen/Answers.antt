@@ -1,7 +1,7 @@
 use Rattle.std.proofs.Common.{◌+◌, ◌-◌, ◌^◌, ◌∙◌, ap, sym, arith, length}
 use Rattle.std.specs.Prelude.{min}
 use Rattle.std.proofs.lemmas.Option.{slice_get_past}
-use Rattle.mesa_image.specs.Fitting.{columns_seen}
+use Rattle.mesa_image_spec.specs.Fitting.{columns_seen}
 use Rattle.mesa_schema.specs.Changes.{columns_of}
 use Rattle.mesa_schema.specs.Columns.{Columns}
 use Rattle.mesa_table.proofs.Counts.{view_depth, view_width}

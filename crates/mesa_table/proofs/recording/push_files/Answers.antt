@@ -1,6 +1,6 @@
 use Rattle.std.proofs.Common.{◌++◌, ◌∷◌, [], ◌∙◌, ap, sym, append_assoc, map}
 use Rattle.std.proofs.lemmas.Simd.{map-map}
-use Rattle.mesa_image.specs.Fitting.{Shelved, view_shelved}
+use Rattle.mesa_image_spec.specs.Fitting.{Shelved, view_shelved}
 use Rattle.mesa_schema.specs.Changes.{columns_at}
 use Rattle.mesa_table.specs.Files.{recorded_of, recorded_view}
 use Rattle.mesa_table.proofs.Pushes.{on_ok}

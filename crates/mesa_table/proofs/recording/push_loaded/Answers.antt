@@ -1,6 +1,6 @@
 use Rattle.std.proofs.Common.{◌++◌, ◌∙◌, ap, map}
-use Rattle.mesa_image.specs.Catalog.{Delta}
-use Rattle.mesa_image.specs.Fitting.{delta_shelved}
+use Rattle.mesa_image_spec.specs.Catalog.{Delta}
+use Rattle.mesa_image_spec.specs.Fitting.{delta_shelved}
 use Rattle.mesa_table.specs.Files.{recorded_of, recorded_single}
 use Rattle.mesa_table.proofs.Pushes.{pushed_all, pushed_more}
 use Rattle.mesa_table.proofs.recording.push_loaded.Goals as goal

@@ -2,8 +2,8 @@ use Rattle.std.proofs.Common.{◌+◌, ◌∙◌, ap, sym, is_ok}
 use Rattle.std.specs.Prelude.{◌==◌, ◌&&◌}
 use Rattle.mesa_schema.specs.Changes.{Lineage, epoch_of}
 use Rattle.mesa_schema.specs.Recasts.{recast_checked, recast_lineage}
-use Rattle.mesa_image.specs.Catalog.{recast_in}
-use Rattle.mesa_image.specs.Fitting.{ranges_renewed}
+use Rattle.mesa_image_spec.specs.Catalog.{recast_in}
+use Rattle.mesa_image_spec.specs.Fitting.{ranges_renewed}
 use Rattle.mesa_table.specs.Meaning.{stock_of}
 use Rattle.mesa_table.proofs.Tests.{both}
 use Rattle.mesa_table.proofs.renewing.allows_recast.Goals as goal

@@ -4,8 +4,8 @@ use Rattle.std.specs.List.{list_all}
 use Rattle.std.proofs.lemmas.Bool.Decides.{nat_tests}
 use Rattle.mesa_schema.specs.Changes.{columns_at}
 use Rattle.mesa_schema.specs.Recasts.{recast_lineage}
-use Rattle.mesa_image.specs.Catalog.{recast_in}
-use Rattle.mesa_image.specs.Fitting.{is_view_ref}
+use Rattle.mesa_image_spec.specs.Catalog.{recast_in}
+use Rattle.mesa_image_spec.specs.Fitting.{is_view_ref}
 use Rattle.mesa_table.proofs.Renewed.{recast_width, views_counted}
 use Rattle.mesa_table.proofs.renewing.counts_new.Goals as goal
 

@@ -2,9 +2,9 @@ use Rattle.std.proofs.Common.{◌≡◌, ◌∙◌, ap, sym, Some}
 use Rattle.std.specs.Prelude.{◌&&◌}
 use Rattle.mesa_schema.specs.Changes.{Lineage}
 use Rattle.mesa_schema.specs.Recasts.{recast_lineage}
-use Rattle.mesa_image.specs.Catalog.{Delta, recast_in}
-use Rattle.mesa_image.specs.Fitting.{files_fit, files_renewed}
-use Rattle.mesa_image.specs.SameFiles.{same_views}
+use Rattle.mesa_image_spec.specs.Catalog.{Delta, recast_in}
+use Rattle.mesa_image_spec.specs.Fitting.{files_fit, files_renewed}
+use Rattle.mesa_image_spec.specs.SameFiles.{same_views}
 use Rattle.mesa_table.proofs.renewing.renews_delta.Goals as goal
 
 pub returns-in-Some-new-2 : goal.returns-in-Some-new-2

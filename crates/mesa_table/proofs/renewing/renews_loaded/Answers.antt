@@ -1,7 +1,7 @@
 use Rattle.std.proofs.Common.{◌+◌, ◌∙◌, ap, sym, drop}
 use Rattle.std.specs.Prelude.{◌==◌, flat_map}
 use Rattle.mesa_schema.specs.Recasts.{recast_lineage}
-use Rattle.mesa_image.specs.Catalog.{recast_in}
+use Rattle.mesa_image_spec.specs.Catalog.{recast_in}
 use Rattle.mesa_table.specs.Renewed.{renewed_behind}
 use Rattle.mesa_table.specs.Stated.{stating_loaded}
 use Rattle.mesa_table.proofs.Renewed.{loaded_end, loaded_next}

@@ -1,8 +1,8 @@
 use Rattle.std.proofs.Common.{◌≡◌, ◌≤◌, drop, length}
 use Rattle.std.specs.Prelude.{flat_map}
 use Rattle.mesa_schema.specs.Recasts.{recast_lineage}
-use Rattle.mesa_image.specs.Catalog.{recast_in}
-use Rattle.mesa_image.specs.Fitting.{singles_renewed}
+use Rattle.mesa_image_spec.specs.Catalog.{recast_in}
+use Rattle.mesa_image_spec.specs.Fitting.{singles_renewed}
 use Rattle.mesa_table.specs.Stated.{stating_loaded}
 use Rattle.mesa_table.proofs.renewing.renews_loaded.Given as goal
 

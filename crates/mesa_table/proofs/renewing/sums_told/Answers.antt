@@ -4,7 +4,7 @@ use Rattle.mesa_schema.specs.declared.views.ViewError.TheVariants.{NoValue}
 use Rattle.mesa_schema.specs.Columns.{Columns, value_names}
 use Rattle.mesa_schema.specs.Changes.{columns_of}
 use Rattle.mesa_schema.proofs.ChosenAgain.{choice_there}
-use Rattle.mesa_image.specs.Catalog.{recast_in}
+use Rattle.mesa_image_spec.specs.Catalog.{recast_in}
 use Rattle.mesa_table.specs.Renewed.{is_sum_named}
 use Rattle.mesa_table.proofs.Renewed.{allowed_of, sums_chosen}
 use Rattle.mesa_table.proofs.renewing.sums_told.Goals as goal

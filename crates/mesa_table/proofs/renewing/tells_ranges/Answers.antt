@@ -1,9 +1,9 @@
 use Rattle.std.proofs.Common.{◌∙◌, ap, sym}
 use Rattle.std.specs.Prelude.{◌&&◌}
 use Rattle.mesa_schema.specs.Recasts.{recast_lineage}
-use Rattle.mesa_image.specs.Catalog.{recast_in, start_in}
-use Rattle.mesa_image.specs.Checkpoint.{stating_singles}
-use Rattle.mesa_image.specs.Fitting.{singles_renewed}
+use Rattle.mesa_image_spec.specs.Catalog.{recast_in, start_in}
+use Rattle.mesa_image_spec.specs.Checkpoint.{stating_singles}
+use Rattle.mesa_image_spec.specs.Fitting.{singles_renewed}
 use Rattle.mesa_table.specs.Meaning.{singles_from, start_of_base, stock_of}
 use Rattle.mesa_table.proofs.Stated.{singles_stated}
 use Rattle.mesa_table.proofs.Works.{starts}

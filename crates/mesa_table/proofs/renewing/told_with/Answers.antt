@@ -2,9 +2,9 @@ use Rattle.std.proofs.Common.{◌≡◌, ◌≤◌, ◌<◌, ◌++◌, ◌∙◌
 use Rattle.mesa_schema.specs.Recasts.{recast_lineage}
 use Rattle.mesa_record.specs.declared.record.Files.{Files}
 use Rattle.mesa_record.specs.declared.checkpoint.StatedSingle.{StatedSingle}
-use Rattle.mesa_image.specs.Catalog.{Delta, recast_in}
-use Rattle.mesa_image.specs.Checkpoint.{stating_single, totals_or_none}
-use Rattle.mesa_image.specs.Fitting.{singles_renewed}
+use Rattle.mesa_image_spec.specs.Catalog.{Delta, recast_in}
+use Rattle.mesa_image_spec.specs.Checkpoint.{stating_single, totals_or_none}
+use Rattle.mesa_image_spec.specs.Fitting.{singles_renewed}
 use Rattle.mesa_table.proofs.Renewed.{none_told, single_asked, told_taken}
 use Rattle.mesa_table.proofs.renewing.told_with.Goals as goal
 

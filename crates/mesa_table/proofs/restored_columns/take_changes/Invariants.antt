@@ -1,7 +1,7 @@
 use Rattle.std.proofs.Common.{◌≡◌, ◌+◌, ◌≤◌, ◌++◌, length}
 use Rattle.std.specs.VecDeque.{deque_len}
 use Rattle.mesa_schema.specs.Changes.{columns_of, epoch_of, max_changes}
-use Rattle.mesa_image.specs.CheckpointFits.{changes_pass}
+use Rattle.mesa_image_spec.specs.CheckpointFits.{changes_pass}
 use Rattle.mesa_table.specs.Meaning.{widths_of}
 use Rattle.mesa_table.specs.Stated.{sums_of}
 use Rattle.mesa_table.proofs.restored_columns.take_changes.Given as goal

@@ -1,5 +1,5 @@
 use Rattle.std.proofs.Common.{◌≡◌, drop}
-use Rattle.mesa_image.specs.CheckpointFits.{are_singles}
+use Rattle.mesa_image_spec.specs.CheckpointFits.{are_singles}
 use Rattle.mesa_table.proofs.restoring.are_singles.Given as goal
 
 -- the singletons that are left decide

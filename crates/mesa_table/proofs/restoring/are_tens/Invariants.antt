@@ -1,5 +1,5 @@
 use Rattle.std.proofs.Common.{◌≡◌, ◌^◌, ◌≤◌, drop}
-use Rattle.mesa_image.specs.CheckpointFits.{are_tens}
+use Rattle.mesa_image_spec.specs.CheckpointFits.{are_tens}
 use Rattle.mesa_table.proofs.restoring.are_tens.Given as goal
 
 -- the ranges that are left decide

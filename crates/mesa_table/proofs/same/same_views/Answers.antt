@@ -1,7 +1,7 @@
 use Rattle.std.proofs.Common.{◌≡◌, ◌∙◌, sym, length, false, arith}
 use Rattle.std.specs.Prelude.{◌==◌}
 use Rattle.std.proofs.lemmas.Bool.Decides.{nat_tests}
-use Rattle.mesa_image.specs.SameFiles.{same_view}
+use Rattle.mesa_image_spec.specs.SameFiles.{same_view}
 use Rattle.mesa_table.proofs.Paired.{pairs_all, pairs_other}
 use Rattle.mesa_table.proofs.same.same_views.Goals as goal
 

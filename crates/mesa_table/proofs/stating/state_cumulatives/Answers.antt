@@ -1,7 +1,7 @@
 use Rattle.std.proofs.Common.{◌≡◌, ◌+◌, ◌-◌, ◌++◌, ◌∷◌, [], ◌∙◌, ap, sym, arith}
 use Rattle.mesa_span.specs.Ranges.{end_of}
-use Rattle.mesa_image.specs.Catalog.{Delta}
-use Rattle.mesa_image.specs.Checkpoint.{stating_range}
+use Rattle.mesa_image_spec.specs.Catalog.{Delta}
+use Rattle.mesa_image_spec.specs.Checkpoint.{stating_range}
 use Rattle.mesa_table.proofs.Stated.{ten_stated}
 use Rattle.mesa_table.proofs.stating.state_cumulatives.Goals as goal
 

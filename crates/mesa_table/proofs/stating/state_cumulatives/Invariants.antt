@@ -1,5 +1,5 @@
 use Rattle.std.proofs.Common.{◌≡◌, ◌+◌, ◌*◌, map, take}
-use Rattle.mesa_image.specs.Checkpoint.{stating_range}
+use Rattle.mesa_image_spec.specs.Checkpoint.{stating_range}
 use Rattle.mesa_table.specs.Meaning.{tens_from}
 use Rattle.mesa_table.proofs.stating.state_cumulatives.Given as goal
 

@@ -1,6 +1,6 @@
 use Rattle.std.proofs.Common.{◌++◌, ◌∷◌, [], ◌∙◌, ap, sym, subst, length, arith, ℕ}
 use Rattle.std.proofs.lemmas.List.{length_push}
-use Rattle.mesa_image.specs.Catalog.{stock_swapped}
+use Rattle.mesa_image_spec.specs.Catalog.{stock_swapped}
 use Rattle.mesa_table.specs.Meaning.{start_of_base, stock_of, tens_from}
 use Rattle.mesa_table.specs.Readied.{IsSwapOf}
 use Rattle.mesa_table.proofs.Tens.{tens_pushed}

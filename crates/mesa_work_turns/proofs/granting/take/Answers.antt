@@ -3,35 +3,35 @@ use Rattle.std.specs.List.{AllByRecursion}
 use Rattle.mesa_plans.specs.mesa_schema.Changes.{Lineage, epoch_of}
 use Rattle.mesa_span.specs.Ranges.{base_before}
 use Rattle.mesa_span.specs.Work.{next_work}
-use Rattle.mesa_engine.specs.mesa_history.Machine.{Claim, Merges, claim_of}
-use Rattle.mesa_engine.specs.mesa_history.Run.{First, Granted, Finished}
-use Rattle.mesa_engine.specs.mesa_history.Turns.{IsDue}
-use Rattle.mesa_engine.specs.mesa_metadata.mesa_image.Catalog.{Catalog, Delta, Stock, ranges_of, stock_at}
-use Rattle.mesa_engine.specs.mesa_metadata.mesa_image.Fitting.{deltas_of, may_be_work}
+use Rattle.mesa_engine.specs.mesa_history_spec.Machine.{Claim, Merges, claim_of}
+use Rattle.mesa_engine.specs.mesa_history_spec.Run.{First, Granted, Finished}
+use Rattle.mesa_engine.specs.mesa_history_spec.Turns.{IsDue}
+use Rattle.mesa_engine.specs.mesa_metadata.mesa_image_spec.Catalog.{Catalog, Delta, Stock, ranges_of, stock_at}
+use Rattle.mesa_engine.specs.mesa_metadata.mesa_image_spec.Fitting.{deltas_of, may_be_work}
 use Rattle.mesa_model.specs.Entry.{IsShort}
 use Rattle.mesa_model.specs.declared.commands.Command.TheVariants as command
 use Rattle.mesa_model.specs.declared.entries.Kind.TheVariants as kind
 use Rattle.mesa_model.specs.declared.entries.Outcome.TheVariants as outcome
-use Rattle.mesa_engine.specs.mesa_engine_state.EngineState.{EngineState, books_of}
-use Rattle.mesa_engine.proofs.mesa_engine_state.mesa_image.Plans.{due_work_fits}
-use Rattle.mesa_engine.specs.mesa_engine_state.mesa_image.Moves.{first_of, is_base, last_of}
-use Rattle.mesa_engine.specs.mesa_engine_state.Vault.{IsVault, Starts, outset_of}
+use Rattle.mesa_engine.specs.mesa_engine_spec.EngineState.{EngineState, books_of}
+use Rattle.mesa_engine.proofs.mesa_engine_spec.mesa_image_spec.Plans.{due_work_fits}
+use Rattle.mesa_engine.specs.mesa_engine_spec.mesa_image_spec.Moves.{first_of, is_base, last_of}
+use Rattle.mesa_engine.specs.mesa_engine_spec.Vault.{IsVault, Starts, outset_of}
 use Rattle.mesa_publishing.specs.mesa_compact.Bounded.{IsBounded}
 use Rattle.mesa_engine.specs.Failure.{cause_in}
 use Rattle.mesa_plans.specs.Gathered.{IsGathered, unread_views}
 use Rattle.mesa_lease.specs.Book.{granted}
 use Rattle.mesa_engine.specs.mesa_metadata.Memory.{with_leases}
 use Rattle.mesa_plans.specs.mesa_table.Meaning.{stock_of}
-use Rattle.mesa_engine.specs.mesa_projection.Rows.{Rows, no_rows}
+use Rattle.mesa_engine.specs.mesa_projection_laws.Rows.{Rows, no_rows}
 use Rattle.mesa_publishing.specs.Finished.{HasRange}
 use Rattle.mesa_tasks.specs.Tasks.{IsTask}
 use Rattle.mesa_tasks.specs.declared.merging.Task.{Task}
-use Rattle.mesa_engine.specs.mesa_engine_state.mesa_invariant.Turns.{AnswersDisk, Shown, SomeRose, Takes, entry, faults_of}
-use Rattle.mesa_engine.specs.mesa_engine_state.mesa_invariant.Invariant.{run_at}
-use Rattle.mesa_engine.proofs.mesa_engine_state.mesa_invariant.Alike.{due_alike}
+use Rattle.mesa_engine.specs.mesa_engine_spec.mesa_invariant_spec.Turns.{AnswersDisk, Shown, SomeRose, Takes, entry, faults_of}
+use Rattle.mesa_engine.specs.mesa_engine_spec.mesa_invariant_spec.Invariant.{run_at}
+use Rattle.mesa_engine.proofs.mesa_engine_spec.mesa_invariant_spec.Alike.{due_alike}
 use Rattle.mesa_engine.specs.Engine.{Standing, starts_of}
 use Rattle.mesa_work_turns.specs.Claims.{claim_as}
-use Rattle.mesa_engine.specs.mesa_engine_state.Written.{written_at}
+use Rattle.mesa_engine.specs.mesa_engine_spec.Written.{written_at}
 use Rattle.mesa_work_turns.proofs.Bounded.{is_bounded}
 use Rattle.mesa_work_turns.proofs.Claims.{work_ends}
 use Rattle.mesa_work_turns.proofs.Ranges.{has_no_damage, has_range}

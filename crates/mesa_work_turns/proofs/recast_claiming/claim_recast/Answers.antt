@@ -1,16 +1,16 @@
 use Rattle.std.proofs.Common.{◌≡◌, ◌∙◌, ◌+◌, ◌-◌, sym, ap, subst, Ok}
 use Rattle.mesa_binding.specs.Told.{IsDue}
 use Rattle.mesa_binding.specs.declared.recasting.RecastNames.{RecastNames}
-use Rattle.mesa_engine.specs.mesa_metadata.mesa_image.Catalog.{Catalog, start_in, stock_at}
+use Rattle.mesa_engine.specs.mesa_metadata.mesa_image_spec.Catalog.{Catalog, start_in, stock_at}
 use Rattle.mesa_model.specs.Tables.{recast_asked}
 use Rattle.mesa_rules.specs.Recastings.{recast_due}
 use Rattle.mesa_rules.specs.Seen.{number_of}
 use Rattle.mesa_plans.specs.mesa_schema.Changes.{epoch_of}
 use Rattle.mesa_plans.specs.mesa_schema.Recasts.{Recast, recast_checked}
-use Rattle.mesa_engine.specs.mesa_engine_state.EngineState.{books_of}
-use Rattle.mesa_engine.specs.mesa_engine_state.mesa_invariant.Works.{HasNoClaim}
-use Rattle.mesa_engine.specs.mesa_history.Machine.{Recasts, recast_claim_of}
-use Rattle.mesa_engine.specs.mesa_projection.Rows.{no_rows}
+use Rattle.mesa_engine.specs.mesa_engine_spec.EngineState.{books_of}
+use Rattle.mesa_engine.specs.mesa_engine_spec.mesa_invariant_spec.Works.{HasNoClaim}
+use Rattle.mesa_engine.specs.mesa_history_spec.Machine.{Recasts, recast_claim_of}
+use Rattle.mesa_engine.specs.mesa_projection_laws.Rows.{no_rows}
 use Rattle.mesa_work_turns.proofs.RecastClaims.{busy, claimed, crowded, denied, over, shut, within}
 use Rattle.mesa_work_turns.proofs.recast_claiming.claim_recast.Goals as goal
 

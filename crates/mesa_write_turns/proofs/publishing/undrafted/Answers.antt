@@ -1,25 +1,25 @@
 use Rattle.std.proofs.Common.{◌≡◌, inl, inr, ◌<◌, [], ◌∷◌, ◌++◌, true, false, not, refl, sym, ◌∙◌, ap, subst, arith}
 use Rattle.mesa_disk.specs.mesa_fault.Causes.{last}
 use Rattle.mesa_disk.specs.Story.{Steps}
-use Rattle.mesa_engine.specs.mesa_history.Run.{Finished, Looked}
-use Rattle.mesa_engine.specs.mesa_history.Turns.{IsDue}
+use Rattle.mesa_engine.specs.mesa_history_spec.Run.{Finished, Looked}
+use Rattle.mesa_engine.specs.mesa_history_spec.Turns.{IsDue}
 use Rattle.mesa_model.specs.declared.commands.Command.TheVariants as command
 use Rattle.mesa_model.specs.declared.entries.Kind.TheVariants as kind
 use Rattle.mesa_model.specs.declared.entries.Outcome.TheVariants as outcome
 use Rattle.mesa_model.specs.Load.{load_batch}
-use Rattle.mesa_engine.specs.mesa_projection.Rows.{no_rows}
-use Rattle.mesa_engine.specs.mesa_engine_state.mesa_invariant.Causes.{Unwritten, reply_of, told_at}
-use Rattle.mesa_engine.specs.mesa_engine_state.mesa_invariant.Changes.{HasFailed}
-use Rattle.mesa_engine.specs.mesa_engine_state.mesa_invariant.Turns.{AnswersDisk, Shown, SomeRose, Takes, entry, faults_of}
-use Rattle.mesa_engine.specs.mesa_engine_state.mesa_invariant.Invariant.{run_at}
-use Rattle.mesa_engine.proofs.mesa_engine_state.mesa_invariant.Clock.{begun_moment, not_closing}
-use Rattle.mesa_engine.proofs.mesa_engine_state.mesa_invariant.Faulting.{disk_caused}
-use Rattle.mesa_engine.proofs.mesa_engine_state.mesa_invariant.Going.{publish_takes}
-use Rattle.mesa_engine.proofs.mesa_engine_state.mesa_invariant.Turning.{counts_same}
-use Rattle.mesa_engine.specs.mesa_engine_state.EngineState.{books_of}
-use Rattle.mesa_engine.specs.mesa_engine_state.Turned.{shut_state}
-use Rattle.mesa_engine.specs.mesa_engine_state.Vault.{Starts}
-use Rattle.mesa_engine.proofs.mesa_engine_state.Beginning.{vault_at_seen}
+use Rattle.mesa_engine.specs.mesa_projection_laws.Rows.{no_rows}
+use Rattle.mesa_engine.specs.mesa_engine_spec.mesa_invariant_spec.Causes.{Unwritten, reply_of, told_at}
+use Rattle.mesa_engine.specs.mesa_engine_spec.mesa_invariant_spec.Changes.{HasFailed}
+use Rattle.mesa_engine.specs.mesa_engine_spec.mesa_invariant_spec.Turns.{AnswersDisk, Shown, SomeRose, Takes, entry, faults_of}
+use Rattle.mesa_engine.specs.mesa_engine_spec.mesa_invariant_spec.Invariant.{run_at}
+use Rattle.mesa_engine.proofs.mesa_engine_spec.mesa_invariant_spec.Clock.{begun_moment, not_closing}
+use Rattle.mesa_engine.proofs.mesa_engine_spec.mesa_invariant_spec.Faulting.{disk_caused}
+use Rattle.mesa_engine.proofs.mesa_engine_spec.mesa_invariant_spec.Going.{publish_takes}
+use Rattle.mesa_engine.proofs.mesa_engine_spec.mesa_invariant_spec.Turning.{counts_same}
+use Rattle.mesa_engine.specs.mesa_engine_spec.EngineState.{books_of}
+use Rattle.mesa_engine.specs.mesa_engine_spec.Turned.{shut_state}
+use Rattle.mesa_engine.specs.mesa_engine_spec.Vault.{Starts}
+use Rattle.mesa_engine.proofs.mesa_engine_spec.Beginning.{vault_at_seen}
 use Rattle.mesa_engine.specs.Printing.{PrintsBlock}
 use Rattle.mesa_engine.specs.mesa_metadata.Memory.{Memory}
 use Rattle.mesa_engine.specs.Engine.{Standing, starts_of}

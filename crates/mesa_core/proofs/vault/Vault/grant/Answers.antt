@@ -1,9 +1,9 @@
 use Rattle.std.proofs.Common.{sym, subst}
-use Rattle.mesa_history.specs.Run.{First, place_of}
+use Rattle.mesa_history_spec.specs.Run.{First, place_of}
 use Rattle.mesa_model.specs.declared.commands.Command.TheVariants as command
-use Rattle.mesa_engine.specs.mesa_projection.Rows.{no_rows}
-use Rattle.mesa_engine.specs.mesa_invariant.Turns.{AnswersDisk, Asks, SomeRose, is_merge}
-use Rattle.mesa_engine.specs.mesa_invariant.Invariant.{run_at}
+use Rattle.mesa_engine.specs.mesa_projection_laws.Rows.{no_rows}
+use Rattle.mesa_engine.specs.mesa_invariant_spec.Turns.{AnswersDisk, Asks, SomeRose, is_merge}
+use Rattle.mesa_engine.specs.mesa_invariant_spec.Invariant.{run_at}
 use Rattle.mesa_core.specs.Standing.{IsCatalogAfter}
 use Rattle.mesa_core.specs.Vault.{Stand}
 use Rattle.mesa_core.proofs.Due.{due_of, sort_of}

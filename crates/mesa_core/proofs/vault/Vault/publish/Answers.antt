@@ -1,13 +1,13 @@
 use Rattle.std.proofs.Common.{◌≡◌, ◌∙◌, Some, sym, ap, subst}
 use Rattle.mesa_batch.specs.Glance.{Sight}
-use Rattle.mesa_history.specs.Run.{Looked, command_at}
+use Rattle.mesa_history_spec.specs.Run.{Looked, command_at}
 use Rattle.mesa_model.specs.declared.commands.Command.TheVariants as command
 use Rattle.mesa_model.specs.declared.commands.Script.{Script}
 use Rattle.mesa_session_laws.specs.Sight.{sight_after}
-use Rattle.mesa_engine.specs.mesa_projection.Rows.{no_rows}
+use Rattle.mesa_engine.specs.mesa_projection_laws.Rows.{no_rows}
 use Rattle.mesa_tasks.specs.Batches.{HasPrepared}
-use Rattle.mesa_engine.specs.mesa_invariant.Turns.{Asks, is_load}
-use Rattle.mesa_engine.specs.mesa_invariant.Invariant.{run_at}
+use Rattle.mesa_engine.specs.mesa_invariant_spec.Turns.{Asks, is_load}
+use Rattle.mesa_engine.specs.mesa_invariant_spec.Invariant.{run_at}
 use Rattle.mesa_core.specs.Vault.{Stand}
 use Rattle.mesa_core.proofs.Due.{due_of, sort_of}
 use Rattle.mesa_core.proofs.vault.Vault.publish.Goals as goal

@@ -3,11 +3,11 @@ use Rattle.mesa_session_laws.specs.Recasts.{known_recast}
 use Rattle.mesa_session_laws.specs.Works.{WasGranted}
 use Rattle.mesa_session_laws.specs.mesa_publishing.Grown.{HasBecome}
 use Rattle.mesa_engine.specs.Engine.{Standing}
-use Rattle.mesa_engine.specs.mesa_engine_state.EngineState.{EngineState}
-use Rattle.mesa_engine.specs.mesa_projection.Rows.{no_rows}
+use Rattle.mesa_engine.specs.mesa_engine_spec.EngineState.{EngineState}
+use Rattle.mesa_engine.specs.mesa_projection_laws.Rows.{no_rows}
 use Rattle.mesa_tasks.specs.Recasts.{recast_table}
 use Rattle.mesa_recast_turns.specs.Rested.{MayRest}
-use Rattle.mesa_engine.specs.mesa_invariant.Turns.{Shown, SomeRose}
+use Rattle.mesa_engine.specs.mesa_invariant_spec.Turns.{Shown, SomeRose}
 use Rattle.mesa_core.specs.Handing.{AllAreRested, IsRecastGranted, IsRecastHeld}
 use Rattle.mesa_core.specs.Vault.{Stand}
 use Rattle.mesa_core.proofs.RecastHeld.{held_longer, rested_known}

@@ -3,8 +3,8 @@ use Rattle.std.specs.Prelude.{◌||◌}
 use Rattle.std.specs.List.{list_any}
 use Rattle.std.specs.declared.alloc.Global.{Global}
 use Rattle.std.specs.declared.sync.Arc.{Arc}
-use Rattle.mesa_image.specs.Catalog.{Delta}
-use Rattle.mesa_image.specs.Fitting.{has_number}
+use Rattle.mesa_image_spec.specs.Catalog.{Delta}
+use Rattle.mesa_image_spec.specs.Fitting.{has_number}
 use Rattle.mesa_table.specs.declared.table.Loaded.{Loaded}
 use Rattle.mesa_table.specs.Named.{base_ids, shared_ids, single_ids}
 use Rattle.mesa_table.proofs.Named.{has_in_table}

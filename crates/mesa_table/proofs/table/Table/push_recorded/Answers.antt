@@ -1,7 +1,7 @@
 use Rattle.std.proofs.Common.{◌++◌, ◌∙◌, ap, sym, append_assoc, map}
 use Rattle.std.specs.Prelude.{flat_map, option_map}
 use Rattle.mesa_schema.specs.Changes.{Lineage}
-use Rattle.mesa_image.specs.Fitting.{base_deltas, delta_shelved}
+use Rattle.mesa_image_spec.specs.Fitting.{base_deltas, delta_shelved}
 use Rattle.mesa_table.specs.Files.{recorded_of, recorded_shared, recorded_single}
 use Rattle.mesa_table.specs.Meaning.{ending_of}
 use Rattle.mesa_table.proofs.Named.{recorded_held}

@@ -2,7 +2,7 @@ use Rattle.std.proofs.Common.{◌∙◌, ap, map, refl}
 use Rattle.std.specs.Prelude.{flat_map}
 use Rattle.mesa_schema.specs.Columns.{Columns}
 use Rattle.mesa_schema.specs.Changes.{Lineage}
-use Rattle.mesa_image.specs.Checkpoint.{stating_range}
+use Rattle.mesa_image_spec.specs.Checkpoint.{stating_range}
 use Rattle.mesa_table.specs.Meaning.{tens_from}
 use Rattle.mesa_table.specs.Stated.{stating_loaded}
 use Rattle.mesa_table.proofs.Stated.{table_stated}

@@ -1,0 +1,14 @@
+use Rattle.std.proofs.Common.{◌≡◌, ℕ, [], List}
+use Rattle.mesa_schema.specs.declared.rows.Row.{Row}
+use Rattle.mesa_cursor.specs.Cursors.{HasGiven, IsInput, IsSameInput, reader_in}
+use Rattle.mesa_check_file.specs.Tallies.{Tallies}
+use Rattle.mesa_check_file.proofs.examining.tally_rows.Given as goal
+
+-- the rows so far are tallied
+abbrev pub invariant-rows : goal.invariant-rows
+invariant-rows g l = record {
+  input : IsInput g.R.FileReader.bytes l.input;
+  same : IsSameInput g.R.FileReader.bytes l.fn.input l.input;
+  faults : g.R.FileReader.faults (reader_in l.input) ≡ g.R.FileReader.faults (reader_in l.fn.input);
+  tallied : (given : List Row) × HasGiven g.R.FileReader.bytes l.input l.cursor given × ((present : ℕ) → Tallies l.own l.lift present l.fn.tally [] → Tallies l.own l.lift present l.tally given);
+}

@@ -1,5 +1,0 @@
-use Rattle.mesa_history.proofs.Moments.{moment-le, moment-lt-wrote, moment-lt-closing, moment-same}
-use Rattle.mesa_history.proofs.laws.moments_never_fall.Goals as goal
-
-pub returns : goal.returns
-returns c = record { never_fall = moment-le; wrote = moment-lt-wrote; closing = moment-lt-closing; same = moment-same }

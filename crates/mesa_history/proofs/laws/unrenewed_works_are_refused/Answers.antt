@@ -1,5 +1,0 @@
-use Rattle.mesa_history.proofs.Renewals.{renewal-early}
-use Rattle.mesa_history.proofs.laws.unrenewed_works_are_refused.Goals as goal
-
-pub returns : goal.returns
-returns c = renewal-early

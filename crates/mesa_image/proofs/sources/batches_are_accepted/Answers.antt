@@ -1,5 +1,0 @@
-use Rattle.mesa_image.proofs.Accepted.{read_accepted}
-use Rattle.mesa_image.proofs.sources.batches_are_accepted.Goals as goal
-
-pub returns : goal.returns
-returns g c words batch read = read_accepted c words batch read

@@ -1,0 +1,63 @@
+pub use Rattle.mesa_history_spec.proofs as mesa_history_spec
+pub use Rattle.mesa_record.proofs as mesa_record
+pub use Rattle.mesa_history_spec.proofs.mesa_span as mesa_span
+pub use Rattle.mesa_fold.proofs.mesa_schema as mesa_schema
+mod Bodies
+mod OneRow
+mod SecondEdition
+mod AcrossBase
+mod DerivedView
+mod Regrouped
+mod Apart
+mod Misfits
+mod Damaged
+mod Empty
+mod Restated
+pub mod SameFiles
+pub mod OneMore
+pub mod Lists
+pub mod Contents
+pub mod Kept
+pub mod Named
+pub mod Formed
+pub mod Stocked
+pub mod Published
+pub mod Swapping
+pub mod Tables
+pub mod Views
+pub mod Altered
+pub mod Defaults
+pub mod Changes
+pub mod Expiring
+pub mod Moving
+pub mod Agreeing
+pub mod Shaping
+pub mod ShapedTables
+pub mod ShapedBatches
+pub mod RecastFits
+pub mod ShapedRecasts
+pub mod Wholes
+pub mod Ids
+pub mod Plans
+pub mod Rising
+pub mod Written
+pub mod Lifted
+pub mod Sourcing
+pub mod Found
+pub mod Recasting
+pub mod RecastContents
+pub mod RecastStocked
+pub mod RecastSourced
+pub mod RecastKept
+pub mod AllSourced
+pub mod Accepted
+pub mod Stating
+pub mod StatableRecords
+pub mod StatedShape
+pub mod CountedRecords
+pub mod StatedFits
+pub mod Numbering
+pub mod Recordable
+pub mod RewrittenRanges
+pub mod CatalogRewriting
+pub mod RecastRules

@@ -1,0 +1,29 @@
+pub use Rattle.mesa_delta.specs.mesa_block as mesa_block
+pub use Rattle.mesa_commit.specs as mesa_commit
+pub use Rattle.mesa_delta.specs as mesa_delta
+pub use Rattle.mesa_commit.specs.mesa_disk as mesa_disk
+pub use Rattle.mesa_history_spec.specs as mesa_history_spec
+pub use Rattle.mesa_history_spec.specs.mesa_model as mesa_model
+pub use Rattle.mesa_record.specs as mesa_record
+pub use Rattle.mesa_history_spec.specs.mesa_span as mesa_span
+pub use Rattle.mesa_fold.specs.mesa_batch as mesa_batch
+pub use Rattle.mesa_fold.specs.mesa_schema as mesa_schema
+pub mod Catalog
+pub mod Checkpoint
+pub mod SameFiles
+pub mod Fitting
+pub mod CheckpointFits
+pub mod Journaled
+pub mod Contents
+pub mod Sound
+pub mod Held
+pub mod Shape
+pub mod Brought
+pub mod Moves
+pub mod Ids
+pub mod Sourced
+pub mod Rewritten
+pub mod Planned
+pub mod Statable
+pub mod Countable
+pub mod Recordable

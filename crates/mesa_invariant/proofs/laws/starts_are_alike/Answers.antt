@@ -1,5 +1,0 @@
-use Rattle.mesa_invariant.proofs.Alike.{due_alike, asks_alike}
-use Rattle.mesa_invariant.proofs.laws.starts_are_alike.Goals as goal
-
-pub returns : goal.returns
-returns c = record { due = due_alike; asked = asks_alike }

@@ -1,0 +1,14 @@
+pub use Rattle.mesa_disk.specs as mesa_disk
+pub use Rattle.mesa_projection_laws.specs.mesa_history_spec as mesa_history_spec
+pub use Rattle.mesa_output_spec.specs as mesa_output_spec
+pub use Rattle.mesa_projection_laws.specs as mesa_projection_laws
+pub mod Books
+pub mod Printing
+pub mod Invariant
+pub mod Turns
+pub mod Undamaged
+pub mod Causes
+pub mod Changes
+pub mod Queries
+pub mod Works
+pub mod Sight

@@ -1,5 +1,0 @@
-use Rattle.mesa_laws.proofs.Ranges.{ranges_hold}
-use Rattle.mesa_laws.proofs.laws.ranges_stay.Goals as goal
-
-pub returns : goal.returns
-returns c = ranges_hold

@@ -1,5 +1,0 @@
-use Rattle.mesa_laws.proofs.Closing.{recasts_close}
-use Rattle.mesa_laws.proofs.laws.recasts_close_by_views.Goals as goal
-
-pub returns : goal.returns
-returns c = recasts_close

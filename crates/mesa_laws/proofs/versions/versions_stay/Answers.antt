@@ -1,5 +1,0 @@
-use Rattle.mesa_laws.proofs.StayingAnswers.{answers_stay, tables_stay}
-use Rattle.mesa_laws.proofs.versions.versions_stay.Goals as goal
-
-pub returns : goal.returns
-returns c = record { tables = tables_stay; answers = answers_stay }

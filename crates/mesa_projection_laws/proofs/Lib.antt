@@ -1,0 +1,5 @@
+pub use Rattle.mesa_history_spec.proofs as mesa_history_spec
+pub mod Lists
+pub mod Steps
+pub mod Turns
+pub mod Alike

@@ -1,2 +1,0 @@
-pub use Rattle.mesa_output.specs as mesa_output
-pub mod Alone
