@@ -5,4 +5,3 @@ mod files;
 mod folders;
 mod openings;
 mod recorder;
-mod told;

@@ -13,3 +13,6 @@ mod disk;
 mod expected;
 #[cfg(test)]
 mod journal;
+mod told;
+
+pub use told::Told;

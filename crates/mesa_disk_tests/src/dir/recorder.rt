@@ -3,7 +3,7 @@ ghost use Rattle.std.specs.Prelude.{◌≡◌, ◌∷◌, [], Some, string_bytes
 ghost use Rattle.mesa_dir.specs.Calls.{failure as failure_of};
 ghost use Rattle.mesa_disk_tests.specs.Told.{call_of, calls_of};
 
-use crate::dir::told::Told;
+use crate::told::Told;
 use mesa_dir::System;
 use std::alloc::Global;
 use std::fs::{File, OpenOptions};
