@@ -18,8 +18,8 @@ use Rattle.mesa_record.specs.declared.record.Record.TheVariants as record_of
 use Rattle.mesa_record.specs.declared.record.Files.{Files}
 use Rattle.mesa_record.specs.declared.record.Part.{Part}
 use Rattle.mesa_span.specs.Ranges.{end_of}
-use Rattle.mesa_image_spec.specs.Catalog.{Catalog, Stock, stock_at, stock_changed, stock_viewed, with_stock}
-use Rattle.mesa_image_spec.specs.Fitting.{brings_new_files, files_fit_if_any, fits, has_epoch, is_new_name, is_there, kind_fits, may_be_work, part_fits, publish_fits, recast_fits, swap_fits, table_fits}
+use Rattle.mesa_table.specs.mesa_image_spec.Catalog.{Catalog, Stock, stock_at, stock_changed, stock_viewed, with_stock}
+use Rattle.mesa_table.specs.mesa_image_spec.Fitting.{brings_new_files, files_fit_if_any, fits, has_epoch, is_new_name, is_there, kind_fits, may_be_work, part_fits, publish_fits, recast_fits, swap_fits, table_fits}
 use Rattle.mesa_catalog.specs.declared.shelves.Shelves.{Shelves}
 use Rattle.mesa_table.specs.declared.table.Table.{Table}
 use Rattle.mesa_table.specs.declared.ready.ReadyPart.{ReadyPart}

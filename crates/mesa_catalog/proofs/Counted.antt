@@ -12,13 +12,13 @@ use Rattle.mesa_record.specs.declared.record.Files.{Files}
 use Rattle.mesa_record.specs.declared.record.Part.{Part}
 use Rattle.mesa_record.specs.declared.record.Record.{Record}
 use Rattle.mesa_record.specs.declared.record.Record.TheVariants as record_of
-use Rattle.mesa_image_spec.specs.Catalog.{Catalog, Delta, Ending, Stock, applied, empty_delta, merged_delta, new_stock, no_stock, part_delta, part_of, start_in, stock_at, stock_changed, stock_from, stock_loaded, stock_swapped, stock_viewed, stocks_loaded}
-use Rattle.mesa_image_spec.specs.Fitting.{base_deltas, delta_in, delta_shelved, deltas_of, files_shelved, fits, is_there, kind_fits, part_shelved, shelved_id, stock_shelved, swap_fits, view_shelved}
-use Rattle.mesa_image_spec.specs.Ids.{brought_ids, delta_ids, dropped_deltas, file_ids, named, times}
-use Rattle.mesa_image_spec.proofs.Ids.{brought_own, recast_names}
-use Rattle.mesa_image_spec.proofs.Lists.{both_true, is_equal, is_less}
-use Rattle.mesa_image_spec.proofs.Moving.{kind_of}
-use Rattle.mesa_image_spec.proofs.Tables.{IsEmpty, new_deltas}
+use Rattle.mesa_table.specs.mesa_image_spec.Catalog.{Catalog, Delta, Ending, Stock, applied, empty_delta, merged_delta, new_stock, no_stock, part_delta, part_of, start_in, stock_at, stock_changed, stock_from, stock_loaded, stock_swapped, stock_viewed, stocks_loaded}
+use Rattle.mesa_table.specs.mesa_image_spec.Fitting.{base_deltas, delta_in, delta_shelved, deltas_of, files_shelved, fits, is_there, kind_fits, part_shelved, shelved_id, stock_shelved, swap_fits, view_shelved}
+use Rattle.mesa_table.specs.mesa_image_spec.Ids.{brought_ids, delta_ids, dropped_deltas, file_ids, named, times}
+use Rattle.mesa_table.proofs.mesa_image_spec.Ids.{brought_own, recast_names}
+use Rattle.mesa_table.proofs.mesa_image_spec.Lists.{both_true, is_equal, is_less}
+use Rattle.mesa_table.proofs.mesa_image_spec.Moving.{kind_of}
+use Rattle.mesa_table.proofs.mesa_image_spec.Tables.{IsEmpty, new_deltas}
 
 -- ---- by ids alone, whatever the columns
 

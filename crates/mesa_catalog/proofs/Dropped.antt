@@ -5,9 +5,9 @@ use Rattle.std.specs.declared.alloc.Global.{Global}
 use Rattle.std.specs.declared.sync.Arc.{Arc}
 use Rattle.std.proofs.lemmas.List.{append-nil}
 use Rattle.mesa_record.specs.declared.record.Files.{Files}
-use Rattle.mesa_image_spec.specs.Catalog.{Delta, start_in}
-use Rattle.mesa_image_spec.specs.Fitting.{base_deltas, delta_in}
-use Rattle.mesa_image_spec.specs.Ids.{delta_ids, dropped_deltas, file_ids, own_delta_id, own_id, recast_dropped}
+use Rattle.mesa_table.specs.mesa_image_spec.Catalog.{Delta, start_in}
+use Rattle.mesa_table.specs.mesa_image_spec.Fitting.{base_deltas, delta_in}
+use Rattle.mesa_table.specs.mesa_image_spec.Ids.{delta_ids, dropped_deltas, file_ids, own_delta_id, own_id, recast_dropped}
 use Rattle.mesa_table.specs.declared.table.Base.{Base}
 use Rattle.mesa_table.specs.declared.table.Table.{Table}
 use Rattle.mesa_table.specs.Meaning.{IsTable, ending_of, start_of_base, stock_of}

@@ -1,7 +1,7 @@
 -- Versions that tables let go.
 use Rattle.std.proofs.Common.{◌≡◌, ◌∙◌, ◌<◌, ◌+◌, ◌++◌, ◌∷◌, [], ℕ, List, ap, append-nil, append_assoc, arith, drop, get_or, length, map, set, sym, take}
 use Rattle.std.proofs.lemmas.List.{drop-set-lt, drop_all, drop_more, map-append, take_all, take_more_set}
-use Rattle.mesa_image_spec.specs.Catalog.{Stock, stock_from}
+use Rattle.mesa_table.specs.mesa_image_spec.Catalog.{Stock, stock_from}
 use Rattle.mesa_table.specs.declared.table.Table.{Table}
 use Rattle.mesa_table.specs.Meaning.{stock_of}
 

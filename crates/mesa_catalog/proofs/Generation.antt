@@ -9,8 +9,8 @@ use Rattle.mesa_record.specs.declared.record.Record.{Record}
 use Rattle.mesa_record.specs.declared.record.Record.TheVariants as record_of
 use Rattle.mesa_record.specs.declared.record.Files.{Files}
 use Rattle.mesa_record.specs.declared.record.Part.{Part}
-use Rattle.mesa_image_spec.specs.Catalog.{Catalog, Stock, applied, merged_delta, new_stock, no_stock, part_of, stock_at, stock_changed, stock_from, stock_loaded, stock_recast, stock_swapped, stock_viewed, stocks_loaded, with_stock}
-use Rattle.mesa_image_spec.specs.Fitting.{expire_fits, is_there, kind_fits, recast_fits, swap_fits}
+use Rattle.mesa_table.specs.mesa_image_spec.Catalog.{Catalog, Stock, applied, merged_delta, new_stock, no_stock, part_of, stock_at, stock_changed, stock_from, stock_loaded, stock_recast, stock_swapped, stock_viewed, stocks_loaded, with_stock}
+use Rattle.mesa_table.specs.mesa_image_spec.Fitting.{expire_fits, is_there, kind_fits, recast_fits, swap_fits}
 use Rattle.mesa_catalog.specs.Lookups.{changes_in, changes_of, generation_of, known_as, known_in, turns_generation}
 use Rattle.mesa_table.specs.declared.table.Table.{Table}
 use Rattle.mesa_table.specs.Meaning.{stock_of}

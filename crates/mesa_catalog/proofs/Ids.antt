@@ -14,9 +14,9 @@ use Rattle.mesa_record.specs.declared.record.Files.{Files}
 use Rattle.mesa_record.specs.declared.record.Part.{Part}
 use Rattle.mesa_record.specs.declared.record.Record.{Record}
 use Rattle.mesa_record.specs.declared.record.Record.TheVariants as record_of
-use Rattle.mesa_image_spec.specs.Catalog.{Catalog, base_recast, base_told, empty_delta, recast_in, single_stated, singles_stated, singles_told, start_in, stock_at}
-use Rattle.mesa_image_spec.specs.Fitting.{are_new_ids, base_deltas, brings_new_files, brought, delta_own, has_number, own_shelved, part_shelved, recast_shelved, run_of_id, shelved_id, stock_shelved}
-use Rattle.mesa_image_spec.specs.Ids.{named, times}
+use Rattle.mesa_table.specs.mesa_image_spec.Catalog.{Catalog, base_recast, base_told, empty_delta, recast_in, single_stated, singles_stated, singles_told, start_in, stock_at}
+use Rattle.mesa_table.specs.mesa_image_spec.Fitting.{are_new_ids, base_deltas, brings_new_files, brought, delta_own, has_number, own_shelved, part_shelved, recast_shelved, run_of_id, shelved_id, stock_shelved}
+use Rattle.mesa_table.specs.mesa_image_spec.Ids.{named, times}
 use Rattle.mesa_table.specs.Named.{own_ids, own_if_any, table_ids}
 use Rattle.mesa_table.specs.Meaning.{stock_of}
 use Rattle.mesa_table.proofs.Named.{files_ids, flat_map-map, flat_map-same, map-flat_map, table_held}

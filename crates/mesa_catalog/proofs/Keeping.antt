@@ -4,9 +4,9 @@ use Rattle.std.proofs.lemmas.Bool.{cases_lt}
 use Rattle.std.specs.Prelude.{Option, Some, None, IfSome}
 use Rattle.std.specs.List.{AllByRecursion}
 use Rattle.mesa_record.specs.declared.record.Record.{Record}
-use Rattle.mesa_image_spec.specs.Catalog.{Catalog, applied}
-use Rattle.mesa_image_spec.specs.Fitting.{fits, kind_fits}
-use Rattle.mesa_image_spec.specs.Ids.{named, times}
+use Rattle.mesa_table.specs.mesa_image_spec.Catalog.{Catalog, applied}
+use Rattle.mesa_table.specs.mesa_image_spec.Fitting.{fits, kind_fits}
+use Rattle.mesa_table.specs.mesa_image_spec.Ids.{named, times}
 use Rattle.mesa_catalog.specs.declared.shelves.Shelves.{Shelves}
 use Rattle.mesa_catalog.specs.declared.ready.Ready.{Ready}
 use Rattle.mesa_catalog.specs.Kept.{IsKept}

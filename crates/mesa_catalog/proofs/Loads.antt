@@ -7,7 +7,7 @@ use Rattle.std.proofs.lemmas.Iterator.Adapters.{position_from-zero}
 use Rattle.std.proofs.lemmas.List.{drop-drop, drop-set-lt, drop_more, map_push, take_more_set}
 use Rattle.std.proofs.lemmas.Option.{slice_get-get_or}
 use Rattle.mesa_record.specs.declared.record.Part.{Part}
-use Rattle.mesa_image_spec.specs.Catalog.{part_of, stock_loaded, stocks_loaded}
+use Rattle.mesa_table.specs.mesa_image_spec.Catalog.{part_of, stock_loaded, stocks_loaded}
 use Rattle.mesa_table.specs.declared.table.Table.{Table}
 use Rattle.mesa_table.specs.declared.ready.ReadyPart.{ReadyPart}
 use Rattle.mesa_table.specs.Meaning.{IsTable, stock_of}

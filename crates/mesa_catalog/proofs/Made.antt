@@ -14,8 +14,8 @@ use Rattle.mesa_schema.specs.Views.{with_view}
 use Rattle.mesa_batch.specs.Totals.{sums_in}
 use Rattle.mesa_span.specs.Ranges.{base_before, start_behind}
 use Rattle.mesa_record.specs.declared.record.Record.TheVariants as record_of
-use Rattle.mesa_image_spec.specs.Catalog.{Catalog, empty_base, end_in, new_stock, stock_at}
-use Rattle.mesa_image_spec.specs.Fitting.{alter_fits, is_there, view_fits}
+use Rattle.mesa_table.specs.mesa_image_spec.Catalog.{Catalog, empty_base, end_in, new_stock, stock_at}
+use Rattle.mesa_table.specs.mesa_image_spec.Fitting.{alter_fits, is_there, view_fits}
 use Rattle.mesa_catalog.specs.declared.shelves.Shelves.{Shelves}
 use Rattle.mesa_table.specs.declared.table.Base.{Base}
 use Rattle.mesa_table.specs.declared.table.Table.{Table}

@@ -8,8 +8,8 @@ use Rattle.mesa_list.specs.Bytes.{same_bytes}
 use Rattle.mesa_schema.specs.Names.{has_name}
 use Rattle.mesa_schema.specs.Columns.{place_of}
 use Rattle.mesa_schema.proofs.Maps.{is_some_position}
-use Rattle.mesa_image_spec.specs.Catalog.{Stock}
-use Rattle.mesa_image_spec.specs.Fitting.{names_in}
+use Rattle.mesa_table.specs.mesa_image_spec.Catalog.{Stock}
+use Rattle.mesa_table.specs.mesa_image_spec.Fitting.{names_in}
 use Rattle.mesa_table.specs.declared.relation.Relation.{Relation}
 use Rattle.mesa_table.specs.declared.table.Table.{Table}
 use Rattle.mesa_catalog.specs.Lookups.{relation_from}

@@ -5,11 +5,11 @@ use Rattle.std.specs.List.{AllByRecursion}
 use Rattle.std.proofs.lemmas.Bool.Decides.{nat_tests}
 use Rattle.std.proofs.lemmas.List.{length-map, map_push, take_more}
 use Rattle.mesa_record.specs.declared.checkpoint.Checkpoint.{Checkpoint}
-use Rattle.mesa_image_spec.specs.Checkpoint.{stated, stock_stated}
-use Rattle.mesa_image_spec.specs.CheckpointFits.{counts_fit, ids_fit, oldest_fits}
-use Rattle.mesa_image_spec.specs.Fitting.{max_runs, names_in}
-use Rattle.mesa_image_spec.specs.mesa_model.Warehouse.{max_tables, max_versions}
-use Rattle.mesa_image_spec.specs.Ids.{named}
+use Rattle.mesa_table.specs.mesa_image_spec.Checkpoint.{stated, stock_stated}
+use Rattle.mesa_table.specs.mesa_image_spec.CheckpointFits.{counts_fit, ids_fit, oldest_fits}
+use Rattle.mesa_table.specs.mesa_image_spec.Fitting.{max_runs, names_in}
+use Rattle.mesa_table.specs.mesa_image_spec.mesa_model.Warehouse.{max_tables, max_versions}
+use Rattle.mesa_table.specs.mesa_image_spec.Ids.{named}
 use Rattle.mesa_table.specs.declared.table.Table.{Table}
 use Rattle.mesa_table.specs.Meaning.{IsTable, stock_of}
 use Rattle.mesa_table.proofs.Named.{flat_map-map}

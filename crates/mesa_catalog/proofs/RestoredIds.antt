@@ -7,8 +7,8 @@ use Rattle.std.specs.List.Sorted.{IsNonDecreasingBy}
 use Rattle.std.proofs.lemmas.Bool.Decides.{nat_tests}
 use Rattle.std.proofs.lemmas.List.Sorted.{sum_by-IsPermutation}
 use Rattle.std.proofs.lemmas.List.{map-id}
-use Rattle.mesa_image_spec.specs.Fitting.{run_of_id}
-use Rattle.mesa_image_spec.specs.Ids.{times}
+use Rattle.mesa_table.specs.mesa_image_spec.Fitting.{run_of_id}
+use Rattle.mesa_table.specs.mesa_image_spec.Ids.{times}
 use Rattle.mesa_table.specs.Files.{RiseFrom}
 use Rattle.mesa_table.proofs.Tests.{both}
 use Rattle.mesa_catalog.specs.Restored.{ids_above, ids_rise}

@@ -5,9 +5,9 @@ use Rattle.std.specs.List.Sorted.{IsNonDecreasingBy}
 use Rattle.std.proofs.lemmas.Bool.Decides.{nat_tests}
 use Rattle.std.proofs.lemmas.List.Sorted.{IsPermutation-map, sum_by-IsPermutation}
 use Rattle.std.proofs.lemmas.Simd.{map-map}
-use Rattle.mesa_image_spec.specs.Catalog.{Catalog}
-use Rattle.mesa_image_spec.specs.Fitting.{shelved, stock_shelved}
-use Rattle.mesa_image_spec.specs.Ids.{named, times}
+use Rattle.mesa_table.specs.mesa_image_spec.Catalog.{Catalog}
+use Rattle.mesa_table.specs.mesa_image_spec.Fitting.{shelved, stock_shelved}
+use Rattle.mesa_table.specs.mesa_image_spec.Ids.{named, times}
 use Rattle.mesa_table.specs.declared.recorded.Recorded.{Recorded}
 use Rattle.mesa_table.specs.declared.table.Table.{Table}
 use Rattle.mesa_table.specs.Files.{AreRecorded, RiseFrom, recorded_id, recorded_of}

@@ -3,8 +3,8 @@ use Rattle.std.proofs.Common.{◌≡◌, ℕ, zero, suc, ◌≤◌, ◌<◌, Lis
 use Rattle.std.specs.List.{AllByRecursion}
 use Rattle.std.proofs.lemmas.Bool.Decides.{nat_tests}
 use Rattle.std.proofs.lemmas.List.{length-map, get_or-map, map-set}
-use Rattle.mesa_image_spec.specs.Catalog.{no_stock, stock_at, with_stock}
-use Rattle.mesa_image_spec.specs.Fitting.{is_there}
+use Rattle.mesa_table.specs.mesa_image_spec.Catalog.{no_stock, stock_at, with_stock}
+use Rattle.mesa_table.specs.mesa_image_spec.Fitting.{is_there}
 use Rattle.mesa_table.specs.declared.table.Table.{Table}
 use Rattle.mesa_catalog.specs.declared.shelves.Shelves.{Shelves}
 use Rattle.mesa_catalog.specs.Meaning.{catalogue_of}

@@ -1,5 +1,6 @@
-pub use Rattle.mesa_image_spec.specs.mesa_history_spec as mesa_history_spec
-pub use Rattle.mesa_image_spec.specs as mesa_image_spec
+pub use Rattle.mesa_batch.specs as mesa_batch
+pub use Rattle.mesa_table.specs.mesa_image_spec.mesa_history_spec as mesa_history_spec
+pub use Rattle.mesa_table.specs.mesa_image_spec as mesa_image_spec
 pub use Rattle.mesa_table.specs as mesa_table
 pub mod Meaning
 pub mod Lookups

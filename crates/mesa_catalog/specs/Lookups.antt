@@ -5,7 +5,7 @@ use Rattle.mesa_schema.specs.Changes.{epoch_of}
 use Rattle.mesa_batch.specs.Glance.{Known, Sight}
 use Rattle.mesa_record.specs.declared.record.Record.{Record}
 use Rattle.mesa_record.specs.declared.record.Record.TheVariants as record_of
-use Rattle.mesa_image_spec.specs.Catalog.{Catalog, Stock}
+use Rattle.mesa_table.specs.mesa_image_spec.Catalog.{Catalog, Stock}
 use Rattle.mesa_table.specs.declared.relation.Relation.{Relation}
 use Rattle.mesa_table.specs.Lookups.{relation_in}
 use Rattle.mesa_table.specs.declared.table.Table.{Table}

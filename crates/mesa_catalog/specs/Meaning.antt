@@ -1,7 +1,7 @@
 -- What all the tables that are held stand for.
 use Rattle.std.specs.Prelude.{◌-◌, ◌^◌, ◌≤◌, map, length}
 use Rattle.std.specs.List.{AllByRecursion}
-use Rattle.mesa_image_spec.specs.Catalog.{Catalog}
+use Rattle.mesa_table.specs.mesa_image_spec.Catalog.{Catalog}
 use Rattle.mesa_table.specs.Meaning.{IsTable, stock_of}
 use Rattle.mesa_catalog.specs.declared.shelves.Shelves.{Shelves}
 

@@ -6,8 +6,8 @@ use Rattle.mesa_record.specs.declared.record.Record.TheVariants as record_of
 use Rattle.mesa_record.specs.declared.checkpoint.StatedSingle.{StatedSingle}
 use Rattle.mesa_record.specs.declared.recasting.RecastBase.{RecastBase}
 use Rattle.mesa_record.specs.declared.recasting.Recasting.{Recasting}
-use Rattle.mesa_image_spec.specs.Fitting.{has_number, run_of_id}
-use Rattle.mesa_image_spec.specs.Ids.{times}
+use Rattle.mesa_table.specs.mesa_image_spec.Fitting.{has_number, run_of_id}
+use Rattle.mesa_table.specs.mesa_image_spec.Ids.{times}
 use Rattle.mesa_table.specs.Named.{file_ids, ids_if_any, own_if_any, table_ids}
 use Rattle.mesa_catalog.specs.declared.shelves.Shelves.{Shelves}
 

@@ -9,8 +9,8 @@ use Rattle.mesa_schema.specs.Views.{with_view}
 use Rattle.mesa_batch.specs.Totals.{totals_after, totals_with}
 use Rattle.mesa_record.specs.declared.record.Record.{Record}
 use Rattle.mesa_record.specs.declared.record.Record.TheVariants as record_of
-use Rattle.mesa_image_spec.specs.Catalog.{Catalog, new_stock, part_delta, stock_at}
-use Rattle.mesa_image_spec.specs.Fitting.{fits}
+use Rattle.mesa_table.specs.mesa_image_spec.Catalog.{Catalog, new_stock, part_delta, stock_at}
+use Rattle.mesa_table.specs.mesa_image_spec.Fitting.{fits}
 use Rattle.mesa_table.specs.declared.table.Table.{Table}
 use Rattle.mesa_catalog.specs.declared.shelves.Shelves.{Shelves}
 use Rattle.mesa_catalog.specs.declared.ready.Ready.{Ready}

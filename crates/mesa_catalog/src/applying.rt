@@ -1,7 +1,7 @@
 // Taking a record in, without memory.
 ghost use Rattle.std.specs.Prelude.{◌≡◌, ◌<◌, ℕ, map};
 ghost use Rattle.std.specs.List.{AllByRecursion};
-ghost use Rattle.mesa_image_spec.specs.Catalog.{applied, stock_from};
+ghost use Rattle.mesa_table.specs.mesa_image_spec.Catalog.{applied, stock_from};
 ghost use Rattle.mesa_catalog.specs.declared.ready.Ready.TheVariants as ready_of;
 ghost use Rattle.mesa_catalog.specs.Meaning.{IsShelved, catalogue_of};
 ghost use Rattle.mesa_catalog.specs.Readied.{IsReady, record_in};

@@ -1,8 +1,8 @@
 // The catalogue.
 ghost use Rattle.std.specs.Prelude.{◌≡◌, ◌+◌, None, Some, OnOk, OnErr, IsTrue, IfOk};
 ghost use Rattle.mesa_span.specs.Ranges.{base_before};
-ghost use Rattle.mesa_image_spec.specs.Catalog.{applied, empty_catalog};
-ghost use Rattle.mesa_image_spec.specs.Fitting.{brings_new_files, fits as fits_catalog, kind_fits};
+ghost use Rattle.mesa_table.specs.mesa_image_spec.Catalog.{applied, empty_catalog};
+ghost use Rattle.mesa_table.specs.mesa_image_spec.Fitting.{brings_new_files, fits as fits_catalog, kind_fits};
 ghost use Rattle.mesa_catalog.specs.Lookups.{generation_of, turns_generation};
 
 use crate::copying::share_tables;

@@ -1,9 +1,9 @@
 // The files that a catalogue names.
 ghost use Rattle.std.specs.Prelude.{◌≡◌, ◌++◌, ◌≤◌, ◌^◌, ℕ, flat_map, map, true, IfOk, IsTrue, OnOk};
 ghost use Rattle.std.specs.List.{AllByRecursion};
-ghost use Rattle.mesa_image_spec.specs.Catalog.{stock_at};
-ghost use Rattle.mesa_image_spec.specs.Fitting.{fits as fits_catalog, is_there, kind_fits, stock_shelved};
-ghost use Rattle.mesa_image_spec.specs.Ids.{dropped_ids, named, recast_dropped};
+ghost use Rattle.mesa_table.specs.mesa_image_spec.Catalog.{stock_at};
+ghost use Rattle.mesa_table.specs.mesa_image_spec.Fitting.{fits as fits_catalog, is_there, kind_fits, stock_shelved};
+ghost use Rattle.mesa_table.specs.mesa_image_spec.Ids.{dropped_ids, named, recast_dropped};
 ghost use Rattle.mesa_table.specs.declared.table.Table.{Table as Held};
 ghost use Rattle.mesa_table.specs.Files.{AreRecorded, recorded_of};
 ghost use Rattle.mesa_table.specs.Meaning.{IsTable, stock_of};

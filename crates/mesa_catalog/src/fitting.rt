@@ -1,8 +1,8 @@
 // Which records keep the rules of their kind. Takes no memory.
 ghost use Rattle.std.specs.Prelude.{◌≡◌, ◌&&◌};
 ghost use Rattle.std.specs.List.{list_all};
-ghost use Rattle.mesa_image_spec.specs.Catalog.{stock_at};
-ghost use Rattle.mesa_image_spec.specs.Fitting.{alter_fits, expire_fits, is_new_name, is_there, kind_fits, may_be_work, part_fits, publish_fits, recast_fits, run_fits, swap_fits, table_fits, view_fits};
+ghost use Rattle.mesa_table.specs.mesa_image_spec.Catalog.{stock_at};
+ghost use Rattle.mesa_table.specs.mesa_image_spec.Fitting.{alter_fits, expire_fits, is_new_name, is_there, kind_fits, may_be_work, part_fits, publish_fits, recast_fits, run_fits, swap_fits, table_fits, view_fits};
 ghost use Rattle.mesa_catalog.specs.Meaning.{IsShelved, catalogue_of};
 ghost use Rattle.mesa_table.specs.Meaning.{IsTable, stock_of};
 

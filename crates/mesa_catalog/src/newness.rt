@@ -3,8 +3,8 @@ ghost use Rattle.std.specs.Prelude.{◌≡◌, ◌==◌, ◌^◌, ◌-◌, ◌�
 ghost use Rattle.std.specs.List.{list_all, list_any, AllByRecursion};
 ghost use Rattle.mesa_record.specs.declared.checkpoint.StatedSingle.{StatedSingle as Told};
 ghost use Rattle.mesa_record.specs.declared.record.ViewRef.{ViewRef as Seen};
-ghost use Rattle.mesa_image_spec.specs.Fitting.{are_new_ids, has_number};
-ghost use Rattle.mesa_image_spec.specs.Ids.{times as times_of};
+ghost use Rattle.mesa_table.specs.mesa_image_spec.Fitting.{are_new_ids, has_number};
+ghost use Rattle.mesa_table.specs.mesa_image_spec.Ids.{times as times_of};
 ghost use Rattle.mesa_table.specs.declared.table.Table.{Table as Held};
 ghost use Rattle.mesa_table.specs.Named.{file_ids, own_if_any, table_ids, view_id};
 ghost use Rattle.mesa_catalog.specs.Named.{RiseTo, held_ids, ids_brought, is_once_new, part_ids, recast_base_ids, recast_ids, told_id};

@@ -1,9 +1,9 @@
 // The ids of the files that a checkpoint names.
 ghost use Rattle.std.specs.Prelude.{◌≡◌, ◌≤◌, is_some, nat_le, IfOk, IfSome};
 ghost use Rattle.std.specs.List.{AllByRecursion, list_all};
-ghost use Rattle.mesa_image_spec.specs.CheckpointFits.{ids_fit};
-ghost use Rattle.mesa_image_spec.specs.Fitting.{run_of_id};
-ghost use Rattle.mesa_image_spec.specs.Ids.{named};
+ghost use Rattle.mesa_table.specs.mesa_image_spec.CheckpointFits.{ids_fit};
+ghost use Rattle.mesa_table.specs.mesa_image_spec.Fitting.{run_of_id};
+ghost use Rattle.mesa_table.specs.mesa_image_spec.Ids.{named};
 ghost use Rattle.mesa_catalog.specs.Meaning.{IsShelved, catalogue_of};
 ghost use Rattle.mesa_catalog.specs.Restored.{ids_rise};
 

@@ -1,9 +1,9 @@
 // The catalogue that a checkpoint states. Names, columns, files and totals are moved, not copied.
 ghost use Rattle.std.specs.Prelude.{◌≡◌, ◌≢◌, ◌++◌, false, flat_map, map, option_map, IfErr, IfOk, IsTrue, OnOk};
 ghost use Rattle.std.specs.List.{AllByRecursion, list_all};
-ghost use Rattle.mesa_image_spec.specs.Checkpoint.{stated, stock_stated};
-ghost use Rattle.mesa_image_spec.specs.CheckpointFits.{checkpoint_fits, counts_fit as counts_are_right, names_differ as all_differ, number_fits as number_is_right, table_fits, tables_fit};
-ghost use Rattle.mesa_image_spec.specs.Journaled.{stated_if};
+ghost use Rattle.mesa_table.specs.mesa_image_spec.Checkpoint.{stated, stock_stated};
+ghost use Rattle.mesa_table.specs.mesa_image_spec.CheckpointFits.{checkpoint_fits, counts_fit as counts_are_right, names_differ as all_differ, number_fits as number_is_right, table_fits, tables_fit};
+ghost use Rattle.mesa_table.specs.mesa_image_spec.Journaled.{stated_if};
 ghost use Rattle.mesa_table.specs.declared.restoring.RestoreError.TheVariants as RestoreError;
 ghost use Rattle.mesa_table.specs.Meaning.{IsTable, stock_of};
 ghost use Rattle.mesa_catalog.specs.Kept.{unreserved};

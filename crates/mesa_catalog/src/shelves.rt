@@ -1,7 +1,7 @@
 // All that the catalogue holds.
 ghost use Rattle.std.specs.Prelude.{◌≡◌, is_some, true, IfSome};
-ghost use Rattle.mesa_image_spec.specs.Catalog.{stock_at};
-ghost use Rattle.mesa_image_spec.specs.Fitting.{is_there};
+ghost use Rattle.mesa_table.specs.mesa_image_spec.Catalog.{stock_at};
+ghost use Rattle.mesa_table.specs.mesa_image_spec.Fitting.{is_there};
 ghost use Rattle.mesa_catalog.specs.Meaning.{IsShelved, catalogue_of};
 ghost use Rattle.mesa_table.specs.Meaning.{IsTable, stock_of};
 

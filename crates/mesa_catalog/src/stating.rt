@@ -2,7 +2,7 @@
 ghost use Rattle.std.specs.Prelude.{◌≡◌, ◌<◌, ◌^◌, ℕ, IfOk, map};
 ghost use Rattle.std.specs.List.{AllByRecursion};
 ghost use Rattle.mesa_record.specs.declared.record.Record.TheVariants as record_of;
-ghost use Rattle.mesa_image_spec.specs.Checkpoint.{checkpoint_of, stating_table};
+ghost use Rattle.mesa_table.specs.mesa_image_spec.Checkpoint.{checkpoint_of, stating_table};
 ghost use Rattle.mesa_table.specs.Meaning.{IsTable, stock_of};
 
 use crate::Catalog;

@@ -1,7 +1,7 @@
 -- The command that is asked is due.
 use Rattle.std.proofs.Common.{◌≡◌, ℕ, Bool, sym, ap, ◌∙◌, subst, Option, Some, None}
-use Rattle.mesa_history_spec.specs.Run.{Run, Stage, command_at}
-use Rattle.mesa_history_spec.specs.Turns.{IsDue}
+use Rattle.mesa_session_laws.specs.mesa_history_spec.Run.{Run, Stage, command_at}
+use Rattle.mesa_session_laws.specs.mesa_history_spec.Turns.{IsDue}
 use Rattle.mesa_model.specs.declared.commands.Command.{Command}
 use Rattle.mesa_model.specs.declared.commands.Script.{Script}
 use Rattle.mesa_session_laws.specs.Passes.{HasSort}

@@ -5,9 +5,9 @@ use Rattle.mesa_session_laws.specs.mesa_compact.Bounded.{AreBounded, IsBounded}
 use Rattle.mesa_session_laws.specs.mesa_plans.Gathered.{unread_views}
 use Rattle.mesa_session_laws.proofs.Merged.{grant_known}
 use Rattle.mesa_session_laws.proofs.Same.{range_known}
-use Rattle.mesa_history_spec.specs.Claims.{HasClaim, HasClaimAt}
-use Rattle.mesa_history_spec.specs.Run.{Granted, Place, State}
-use Rattle.mesa_history_spec.specs.Turns.{place_then}
+use Rattle.mesa_session_laws.specs.mesa_history_spec.Claims.{HasClaim, HasClaimAt}
+use Rattle.mesa_session_laws.specs.mesa_history_spec.Run.{Granted, Place, State}
+use Rattle.mesa_session_laws.specs.mesa_history_spec.Turns.{place_then}
 use Rattle.mesa_engine.specs.mesa_image_spec.Catalog.{Catalog, stock_at}
 use Rattle.mesa_engine.specs.mesa_image_spec.Moves.{last_of}
 use Rattle.mesa_engine.specs.mesa_engine_spec.Vault.{Origin}

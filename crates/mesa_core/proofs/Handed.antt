@@ -2,13 +2,13 @@
 use Rattle.std.proofs.Common.{◌≡◌, ℕ, List, [], ◌∷◌, append-nil, true, false, refl, sym, ap, ◌∙◌, subst, Option, None, Some, Ok, Err}
 use Rattle.std.specs.Prelude.{IfErr, IfNone, IfSome, Result}
 use Rattle.std.specs.List.{AllByRecursion}
-use Rattle.mesa_answer.specs.Answering.{KeepsSums}
+use Rattle.mesa_session_laws.specs.mesa_answer.Answering.{KeepsSums}
 use Rattle.mesa_recast_turns.specs.mesa_close_turns.mesa_query_turns.Closing.{IsPageOf as IsClosedWith, IsSomePageOf, IsToClose, cause_if}
 use Rattle.mesa_recast_turns.specs.mesa_close_turns.mesa_query_turns.Opening.{IsHeaded}
 use Rattle.mesa_filter.specs.declared.words.QueryWords.{QueryWords}
 use Rattle.mesa_delta.specs.declared.error.FileError.{FileError}
 use Rattle.mesa_delta.specs.declared.error.FileError.TheVariants as file_error
-use Rattle.mesa_history_spec.specs.Run.{State, Finished}
+use Rattle.mesa_session_laws.specs.mesa_history_spec.Run.{State, Finished}
 use Rattle.mesa_session_laws.specs.mesa_merge.Inputs.{Known, knowns_of}
 use Rattle.mesa_model.specs.declared.commands.Script.{Script}
 use Rattle.mesa_model.specs.declared.entries.Entry.{Entry}

@@ -1,4 +1,4 @@
-pub use Rattle.mesa_history_spec.proofs as mesa_history_spec
+pub use Rattle.mesa_session_laws.proofs.mesa_history_spec as mesa_history_spec
 pub use Rattle.mesa_session_laws.proofs as mesa_session_laws
 pub mod Rooms
 pub mod Due

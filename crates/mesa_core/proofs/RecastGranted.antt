@@ -5,7 +5,7 @@ use Rattle.mesa_session_laws.specs.Known.{AllAreBounded, AllHaveRanges}
 use Rattle.mesa_session_laws.specs.Recasts.{known_recast}
 use Rattle.mesa_session_laws.specs.mesa_copy.Copying.{IsRecastBounded, KnownRange, known_ranges}
 use Rattle.mesa_session_laws.specs.mesa_publishing.Recasts.{HasItsRanges}
-use Rattle.mesa_history_spec.specs.Run.{State}
+use Rattle.mesa_session_laws.specs.mesa_history_spec.Run.{State}
 use Rattle.mesa_engine.specs.mesa_image_spec.Catalog.{Catalog, stock_at}
 use Rattle.mesa_engine.specs.mesa_engine_spec.Vault.{Origin}
 use Rattle.mesa_engine.specs.mesa_engine_spec.Written.{written_at}

@@ -8,11 +8,11 @@ use Rattle.mesa_session_laws.specs.Works.{WasGranted}
 use Rattle.mesa_session_laws.specs.mesa_copy.Copying.{IsRecastBounded}
 use Rattle.mesa_session_laws.specs.mesa_publishing.Grown.{HasBecome, HasSameColumns, StaysWithItsEpoch}
 use Rattle.mesa_session_laws.specs.mesa_publishing.Recasts.{HasItsRanges, stock_of_recast}
-use Rattle.mesa_history_spec.proofs.More.{runs-append}
-use Rattle.mesa_history_spec.specs.Law.{begun_at}
-use Rattle.mesa_history_spec.specs.Replay.{runs}
-use Rattle.mesa_history_spec.specs.Run.{Run, State, begins}
-use Rattle.mesa_history_spec.specs.Sources.{Written}
+use Rattle.mesa_session_laws.proofs.mesa_history_spec.More.{runs-append}
+use Rattle.mesa_session_laws.specs.mesa_history_spec.Law.{begun_at}
+use Rattle.mesa_session_laws.specs.mesa_history_spec.Replay.{runs}
+use Rattle.mesa_session_laws.specs.mesa_history_spec.Run.{Run, State, begins}
+use Rattle.mesa_session_laws.specs.mesa_history_spec.Sources.{Written}
 use Rattle.mesa_engine.specs.mesa_image_spec.Catalog.{Stock, stock_at}
 use Rattle.mesa_engine.specs.mesa_engine_spec.EngineState.{EngineState}
 use Rattle.mesa_engine.specs.mesa_engine_spec.Vault.{Origin}

@@ -9,7 +9,7 @@ use Rattle.mesa_core.specs.Handing.{store_after}
 use Rattle.mesa_core.specs.Standing.{IsCatalogAfter}
 use Rattle.mesa_disk.specs.Story.{Story}
 use Rattle.mesa_session_laws.specs.Known.{lineage_in}
-use Rattle.mesa_history_spec.specs.Run.{State}
+use Rattle.mesa_session_laws.specs.mesa_history_spec.Run.{State}
 use Rattle.mesa_engine.specs.mesa_image_spec.Catalog.{Catalog, no_stock, stock_at}
 use Rattle.mesa_engine.proofs.mesa_catalog.Stocks.{all_at}
 use Rattle.mesa_engine.specs.mesa_image_spec.Shape.{IsShaped}

@@ -2,9 +2,9 @@
 use Rattle.std.specs.Prelude.{◌≡◌, ℕ, ◌<◌, List, Option, None, length, Result, Ok, Err}
 use Rattle.std.specs.List.{AllByRecursion}
 use Rattle.mesa_session_laws.specs.mesa_compact.Bounded.{AreBounded}
-use Rattle.mesa_history_spec.specs.Claims.{HasClaim}
-use Rattle.mesa_history_spec.specs.Machine.{Claim, Merges}
-use Rattle.mesa_history_spec.specs.Run.{State}
+use Rattle.mesa_session_laws.specs.mesa_history_spec.Claims.{HasClaim}
+use Rattle.mesa_session_laws.specs.mesa_history_spec.Machine.{Claim, Merges}
+use Rattle.mesa_session_laws.specs.mesa_history_spec.Run.{State}
 use Rattle.mesa_engine.specs.mesa_image_spec.Moves.{last_of}
 use Rattle.mesa_engine.specs.mesa_engine_spec.EngineState.{EngineState}
 use Rattle.mesa_engine.specs.mesa_engine_spec.Vault.{Origin}

@@ -3,7 +3,7 @@ ghost use Rattle.std.specs.Prelude.{◌≡◌, ◌<◌, List, true, Err, Some, I
 ghost use Rattle.mesa_batch.specs.declared.words.RowWords.{RowWords as AnyWords};
 ghost use Rattle.mesa_recast_turns.specs.mesa_close_turns.mesa_write_turns.Writing.{KeepsFiles};
 ghost use Rattle.mesa_disk.specs.Story.{Steps};
-ghost use Rattle.mesa_history_spec.specs.Run.{Finished, First, Looked, command_at};
+ghost use Rattle.mesa_session_laws.specs.mesa_history_spec.Run.{Finished, First, Looked, command_at};
 ghost use Rattle.mesa_model.specs.declared.commands.Command.TheVariants as command;
 ghost use Rattle.mesa_model.specs.declared.entries.Kind.TheVariants as kind;
 ghost use Rattle.mesa_session_laws.specs.Sight.{sight_after};

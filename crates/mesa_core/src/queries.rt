@@ -3,9 +3,9 @@ ghost use Rattle.std.specs.Prelude.{◌≡◌, ◌<◌, ◌++◌, ◌∷◌, [],
 ghost use Rattle.mesa_recast_turns.specs.mesa_close_turns.mesa_query_turns.Closing.{closing_entry, closing_text};
 ghost use Rattle.mesa_recast_turns.specs.mesa_close_turns.mesa_query_turns.Opening.{HasItsFiles};
 ghost use Rattle.mesa_core.specs.Handing.{Tells};
-ghost use Rattle.mesa_history_spec.specs.Legal.{is_query};
+ghost use Rattle.mesa_session_laws.specs.mesa_history_spec.Legal.{is_query};
 ghost use Rattle.mesa_filter.specs.declared.words.QueryWords.{QueryWords};
-ghost use Rattle.mesa_history_spec.specs.Run.{Finished, First, command_at};
+ghost use Rattle.mesa_session_laws.specs.mesa_history_spec.Run.{Finished, First, command_at};
 ghost use Rattle.mesa_model.specs.declared.commands.Command.TheVariants as command;
 ghost use Rattle.mesa_model.specs.declared.entries.Kind.TheVariants as kind;
 ghost use Rattle.mesa_session_laws.specs.Pins.{HasAnswered, IsOpenQuery, TakesQuery, known_pin};

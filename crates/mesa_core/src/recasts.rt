@@ -7,8 +7,8 @@ ghost use Rattle.mesa_delta.specs.declared.error.FileError.TheVariants as file_e
 ghost use Rattle.mesa_session_laws.specs.Recasts.{CanBeRegrouped, HasRegrouped, known_recast};
 ghost use Rattle.mesa_session_laws.specs.Works.{WasGranted};
 ghost use Rattle.mesa_session_laws.specs.mesa_publishing.Recasts.{stock_of_recast};
-ghost use Rattle.mesa_history_spec.specs.Machine.{still_checked};
-ghost use Rattle.mesa_history_spec.specs.Run.{Finished, First, Granted, Renewed};
+ghost use Rattle.mesa_session_laws.specs.mesa_history_spec.Machine.{still_checked};
+ghost use Rattle.mesa_session_laws.specs.mesa_history_spec.Run.{Finished, First, Granted, Renewed};
 ghost use Rattle.mesa_model.specs.declared.entries.Kind.TheVariants as kind;
 ghost use Rattle.mesa_recast_turns.specs.Rested.{HasUnpaid, IsLonger, MayRest};
 ghost use Rattle.mesa_engine.specs.mesa_projection_laws.Rows.{no_rows};

@@ -3,7 +3,7 @@ ghost use Rattle.std.specs.Prelude.{◌≡◌, ◌<◌, ◌++◌, ◌∷◌, [],
 ghost use Rattle.mesa_recast_turns.specs.mesa_close_turns.Swept.{ClaimHolds, HasStood, IsSwept};
 ghost use Rattle.mesa_recast_turns.specs.mesa_close_turns.Unmerged.{closing_cause};
 ghost use Rattle.mesa_core.specs.Handing.{IsGranted};
-ghost use Rattle.mesa_history_spec.specs.Run.{Finished, First, Granted, Renewed};
+ghost use Rattle.mesa_session_laws.specs.mesa_history_spec.Run.{Finished, First, Granted, Renewed};
 ghost use Rattle.mesa_model.specs.declared.entries.Kind.TheVariants as kind;
 ghost use Rattle.mesa_session_laws.specs.Works.{CanBeMerged, HasMerged, WasGranted, known_task};
 ghost use Rattle.mesa_engine.specs.mesa_projection_laws.Rows.{no_rows};

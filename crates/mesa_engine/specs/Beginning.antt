@@ -3,7 +3,7 @@ use Rattle.std.specs.Prelude.{◌≡◌, ℕ, ◌+◌, ◌<◌, ◌≤◌, List,
 use Rattle.mesa_disk.specs.Story.{Story}
 use Rattle.mesa_disk.specs.declared.area.Area.{Area}
 use Rattle.mesa_metadata.specs.mesa_catalog.mesa_history_spec.Claims.{HasRanges}
-use Rattle.mesa_lease.specs.Book.{begun}
+use Rattle.mesa_metadata.specs.mesa_lease.Book.{begun}
 use Rattle.mesa_model.specs.Warehouse.{max_tables}
 use Rattle.mesa_metadata.specs.mesa_catalog.mesa_image_spec.Catalog.{Catalog}
 use Rattle.mesa_metadata.specs.mesa_catalog.mesa_image_spec.Held.{IsHeld}

@@ -1,12 +1,13 @@
 pub use Rattle.mesa_metadata.specs.mesa_catalog as mesa_catalog
 pub use Rattle.mesa_metadata.specs.mesa_engine_spec as mesa_engine_spec
-pub use Rattle.mesa_invariant_spec.specs.mesa_history_spec as mesa_history_spec
+pub use Rattle.mesa_metadata.specs.mesa_invariant_spec.mesa_history_spec as mesa_history_spec
 pub use Rattle.mesa_metadata.specs.mesa_image_spec as mesa_image_spec
-pub use Rattle.mesa_invariant_spec.specs as mesa_invariant_spec
+pub use Rattle.mesa_metadata.specs.mesa_invariant_spec as mesa_invariant_spec
 pub use Rattle.mesa_metadata.specs as mesa_metadata
-pub use Rattle.mesa_invariant_spec.specs.mesa_output_spec as mesa_output_spec
-pub use Rattle.mesa_invariant_spec.specs.mesa_projection_laws as mesa_projection_laws
+pub use Rattle.mesa_metadata.specs.mesa_invariant_spec.mesa_output_spec as mesa_output_spec
+pub use Rattle.mesa_metadata.specs.mesa_invariant_spec.mesa_projection_laws as mesa_projection_laws
 pub use Rattle.mesa_script.specs as mesa_script
+pub use Rattle.mesa_metadata.specs.mesa_trash as mesa_trash
 pub mod Failure
 pub mod Printing
 pub mod Engine

@@ -30,7 +30,7 @@ use Rattle.mesa_image_spec.specs.mesa_history_spec.Run.{State}
 use Rattle.mesa_image_spec.specs.mesa_record.declared.record.Part.{Part}
 use Rattle.mesa_image_spec.specs.mesa_record.declared.record.Record.TheVariants as record_of
 use Rattle.mesa_image_spec.specs.mesa_record.Rules.{IsTypedChange}
-use Rattle.mesa_span.specs.Ranges.{new_ranges}
+use Rattle.mesa_image_spec.specs.mesa_span.Ranges.{new_ranges}
 use Rattle.mesa_image_spec.specs.Catalog.{Catalog, Stock, applied, new_stock, no_stock, ranges_of, stock_at, stock_changed, stock_from, stock_viewed, stocks_loaded}
 use Rattle.mesa_image_spec.specs.Contents.{kept_of, table_of}
 use Rattle.mesa_image_spec.specs.Fitting.{alter_fits}

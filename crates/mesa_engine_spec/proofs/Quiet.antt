@@ -3,7 +3,7 @@ use Rattle.std.proofs.Common.{◌≡◌, ℕ, ◌+◌, ◌*◌, ◌≤◌, List,
 use Rattle.std.specs.List.{AllByRecursion}
 use Rattle.std.proofs.lemmas.List.{length-append}
 use Rattle.mesa_invariant_spec.specs.mesa_disk.Story.{Story, Unmoved}
-use Rattle.mesa_lease.specs.Book.{Book}
+use Rattle.mesa_image_spec.specs.mesa_lease.Book.{Book}
 use Rattle.mesa_image_spec.specs.mesa_model.declared.entries.Entry.{Entry}
 use Rattle.mesa_image_spec.specs.mesa_history_spec.Run.{begins}
 use Rattle.mesa_image_spec.specs.Catalog.{Catalog}

@@ -2,7 +2,7 @@
 use Rattle.std.proofs.Common.{◌≡◌, ℕ, ◌<◌, List, [], map, Bool, refl, sym, ◌∙◌, ap, Option, Some, None, IsTrue}
 use Rattle.std.specs.Prelude.{option_map, slice_set, slice_index_or}
 use Rattle.std.proofs.lemmas.List.{map-set}
-use Rattle.mesa_lease.specs.Book.{ended}
+use Rattle.mesa_image_spec.specs.mesa_lease.Book.{ended}
 use Rattle.mesa_image_spec.proofs.mesa_schema.Lists.{map_at}
 use Rattle.mesa_image_spec.specs.mesa_schema.Recasts.{Recast}
 use Rattle.mesa_trash.specs.declared.trash.Dropped.{Dropped}

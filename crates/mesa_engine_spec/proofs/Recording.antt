@@ -7,7 +7,7 @@ use Rattle.mesa_invariant_spec.specs.mesa_disk.Image.{Image}
 use Rattle.mesa_invariant_spec.specs.mesa_disk.Story.{Story, Steps}
 use Rattle.mesa_trash.specs.mesa_commit.Images.{Has}
 use Rattle.mesa_trash.specs.mesa_commit.Turn.{MovesOnly}
-use Rattle.mesa_lease.specs.Book.{Book}
+use Rattle.mesa_image_spec.specs.mesa_lease.Book.{Book}
 use Rattle.mesa_image_spec.specs.mesa_model.declared.entries.Entry.{Entry}
 use Rattle.mesa_image_spec.specs.mesa_model.declared.replies.Reply.{Reply}
 use Rattle.mesa_image_spec.specs.mesa_history_spec.Counting.{one_if}

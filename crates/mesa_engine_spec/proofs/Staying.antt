@@ -4,7 +4,7 @@ use Rattle.std.specs.Prelude.{filter}
 use Rattle.mesa_trash.specs.mesa_commit.Images.{Has}
 use Rattle.mesa_invariant_spec.specs.mesa_disk.Image.{Image}
 use Rattle.mesa_invariant_spec.specs.mesa_disk.Story.{Story, Unmoved}
-use Rattle.mesa_lease.specs.Book.{Book}
+use Rattle.mesa_image_spec.specs.mesa_lease.Book.{Book}
 use Rattle.mesa_image_spec.specs.mesa_model.declared.entries.Entry.{Entry}
 use Rattle.mesa_image_spec.specs.Contents.{kept_of}
 use Rattle.mesa_image_spec.specs.Fitting.{shelved}

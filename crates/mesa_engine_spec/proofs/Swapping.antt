@@ -2,12 +2,12 @@
 use Rattle.std.proofs.Common.{◌≡◌, ℕ, ◌<◌, List, map, Bool, true, false, refl, sym, ◌∙◌, ap, Option, Some, None, IsTrue}
 use Rattle.std.specs.Prelude.{slice_set, slice_index_or, if◌then◌else◌, ◌==◌}
 use Rattle.std.proofs.lemmas.List.{map-set}
-use Rattle.mesa_lease.specs.Book.{Book, ended, last_of, with_last}
-use Rattle.mesa_lease.specs.declared.lease.Lease.{Lease}
+use Rattle.mesa_image_spec.specs.mesa_lease.Book.{Book, ended, last_of, with_last}
+use Rattle.mesa_image_spec.specs.mesa_lease.declared.lease.Lease.{Lease}
 use Rattle.mesa_image_spec.proofs.mesa_schema.Lists.{map_at}
-use Rattle.mesa_span.specs.declared.works.Work.{Work}
-use Rattle.mesa_span.specs.declared.works.Work.TheVariants as range
-use Rattle.mesa_span.specs.Work.{swapped}
+use Rattle.mesa_image_spec.specs.mesa_span.declared.works.Work.{Work}
+use Rattle.mesa_image_spec.specs.mesa_span.declared.works.Work.TheVariants as range
+use Rattle.mesa_image_spec.specs.mesa_span.Work.{swapped}
 use Rattle.mesa_trash.specs.declared.trash.Dropped.{Dropped}
 use Rattle.mesa_invariant_spec.specs.mesa_disk.Story.{Story}
 use Rattle.mesa_image_spec.specs.mesa_model.declared.entries.Entry.{Entry}

@@ -5,9 +5,9 @@ use Rattle.mesa_invariant_spec.specs.mesa_disk.Image.{Image}
 use Rattle.mesa_invariant_spec.specs.mesa_disk.Story.{Story, Steps}
 use Rattle.mesa_trash.specs.mesa_commit.Turn.{MovesOnly}
 use Rattle.mesa_trash.specs.declared.trash.Dropped.{Dropped}
-use Rattle.mesa_lease.specs.Book.{ended}
-use Rattle.mesa_span.specs.declared.works.Work.{Work}
-use Rattle.mesa_span.specs.declared.works.Work.TheVariants as range
+use Rattle.mesa_image_spec.specs.mesa_lease.Book.{ended}
+use Rattle.mesa_image_spec.specs.mesa_span.declared.works.Work.{Work}
+use Rattle.mesa_image_spec.specs.mesa_span.declared.works.Work.TheVariants as range
 use Rattle.mesa_image_spec.specs.mesa_model.declared.commands.Command.{Command}
 use Rattle.mesa_image_spec.specs.mesa_model.declared.commands.Command.TheVariants as command
 use Rattle.mesa_image_spec.specs.mesa_model.declared.commands.RecastWords.{RecastWords}

@@ -1,7 +1,7 @@
 -- What a vault has in its memory, and the books that it stands for.
 use Rattle.std.specs.Prelude.{ℕ, ◌+◌, ◌*◌, ◌^◌, List, [], ◌++◌, map, Option}
 use Rattle.mesa_invariant_spec.specs.mesa_disk.declared.area.Area.{Area}
-use Rattle.mesa_lease.specs.Book.{Book}
+use Rattle.mesa_image_spec.specs.mesa_lease.Book.{Book}
 use Rattle.mesa_image_spec.specs.mesa_model.Warehouse.{Table, Store, Pin}
 use Rattle.mesa_image_spec.specs.mesa_model.Pins.{store_at}
 use Rattle.mesa_image_spec.specs.Catalog.{Stock, Catalog, ranges_of}

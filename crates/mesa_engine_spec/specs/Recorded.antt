@@ -3,7 +3,7 @@ use Rattle.std.specs.Prelude.{◌≡◌, ℕ, ◌+◌, ◌<◌, ◌≤◌, List,
 use Rattle.mesa_trash.specs.mesa_commit.Turn.{made_ids}
 use Rattle.mesa_image_spec.specs.Catalog.{Catalog}
 use Rattle.mesa_image_spec.specs.Shape.{IsCatalog}
-use Rattle.mesa_lease.specs.Book.{Book}
+use Rattle.mesa_image_spec.specs.mesa_lease.Book.{Book}
 use Rattle.mesa_image_spec.specs.Countable.{AreCounted}
 use Rattle.mesa_image_spec.specs.Ids.{HasOwnIds, named}
 use Rattle.mesa_image_spec.specs.Recordable.{AreRecordable}

@@ -11,7 +11,7 @@ use Rattle.mesa_disk.specs.Image.{Image, file_of}
 use Rattle.mesa_disk.specs.Files.{AreGone, IsNoneOf}
 use Rattle.mesa_disk.specs.Story.{Story, Steps}
 use Rattle.mesa_disk.proofs.Rounds.{not_equal}
-use Rattle.mesa_commit.specs.Turn.{MovesOnly}
+use Rattle.mesa_image_spec.specs.mesa_commit.Turn.{MovesOnly}
 use Rattle.mesa_trash.specs.Holding.{Among}
 use Rattle.mesa_trash.specs.Filed.{AreNamedOrWait}
 use Rattle.mesa_image_spec.specs.Catalog.{Catalog}

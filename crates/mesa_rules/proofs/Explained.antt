@@ -10,7 +10,7 @@ use Rattle.mesa_filter.specs.declared.terms.Term.{Term}
 use Rattle.mesa_filter.specs.Asked.{filter_refusal}
 use Rattle.mesa_filter.specs.Filter.{filter_of}
 use Rattle.mesa_span.specs.Plan.{plan}
-use Rattle.mesa_batch.specs.Glance.{Known}
+use Rattle.mesa_catalog.specs.mesa_batch.Glance.{Known}
 use Rattle.mesa_model.specs.declared.commands.ExplainWords.{ExplainWords}
 use Rattle.mesa_model.specs.declared.replies.Refusal.{Refusal}
 use Rattle.mesa_model.specs.declared.replies.Reply.TheVariants as reply

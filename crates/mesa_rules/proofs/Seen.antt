@@ -9,7 +9,7 @@ use Rattle.mesa_list.specs.Bytes.{same_bytes}
 use Rattle.mesa_schema.specs.declared.views.View.{View}
 use Rattle.mesa_schema.specs.Columns.{place_of}
 use Rattle.mesa_schema.specs.Names.{has_name}
-use Rattle.mesa_batch.specs.Glance.{Known}
+use Rattle.mesa_catalog.specs.mesa_batch.Glance.{Known}
 use Rattle.mesa_model.specs.Relations.{Relation, is_taken, relation_from, table_number}
 use Rattle.mesa_filter.specs.declared.words.VersionWord.{VersionWord}
 use Rattle.mesa_list.specs.Checks.{◌>>=◌, ◌>>◌, refuse_if}

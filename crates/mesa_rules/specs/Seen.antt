@@ -1,7 +1,7 @@
 -- What a warehouse and a catalogue have in common, by which commands are refused.
 use Rattle.std.specs.Prelude.{◌≡◌, ℕ, List, [], ◌∷◌, map, max, Option, None}
 use Rattle.mesa_schema.specs.Columns.{place_of}
-use Rattle.mesa_batch.specs.Glance.{Known}
+use Rattle.mesa_catalog.specs.mesa_batch.Glance.{Known}
 use Rattle.mesa_model.specs.Warehouse.{Table, Store, Warehouse}
 use Rattle.mesa_catalog.specs.mesa_image_spec.Catalog.{Stock, Catalog}
 use Rattle.mesa_catalog.specs.Lookups.{known_as}

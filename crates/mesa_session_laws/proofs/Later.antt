@@ -1,19 +1,19 @@
 -- What stands written of a range stays, while its table isn't recast.
 use Rattle.std.proofs.Common.{◌≡◌, ◌∙◌, ℕ, ◌<◌, ◌≤◌, List, [], ◌∷◌, ◌++◌, true, refl, sym, ap, subst, Option}
 use Rattle.std.specs.List.{AllByRecursion}
-use Rattle.mesa_schema.specs.Changes.{Lineage, columns_of, epoch_of}
-use Rattle.mesa_model.specs.declared.commands.Script.{Script}
-use Rattle.mesa_model.specs.declared.entries.Entry.{Entry}
-use Rattle.mesa_history_spec.specs.Claims.{HasClaim, HasRanges, is_live}
-use Rattle.mesa_history_spec.specs.Law.{begun_at, writing_by, written_in, written_through}
-use Rattle.mesa_history_spec.specs.Machine.{Claim}
-use Rattle.mesa_history_spec.specs.Replay.{go, runs}
-use Rattle.mesa_history_spec.specs.Run.{Run, State, begins}
-use Rattle.mesa_history_spec.specs.Sources.{Source, Written, range_rows, sources_from}
-use Rattle.mesa_history_spec.proofs.Claims.{begins_hold, runs_hold}
+use Rattle.mesa_publishing.specs.mesa_schema.Changes.{Lineage, columns_of, epoch_of}
+use Rattle.mesa_publishing.specs.mesa_model.declared.commands.Script.{Script}
+use Rattle.mesa_publishing.specs.mesa_model.declared.entries.Entry.{Entry}
+use Rattle.mesa_publishing.specs.mesa_history_spec.Claims.{HasClaim, HasRanges, is_live}
+use Rattle.mesa_publishing.specs.mesa_history_spec.Law.{begun_at, writing_by, written_in, written_through}
+use Rattle.mesa_publishing.specs.mesa_history_spec.Machine.{Claim}
+use Rattle.mesa_publishing.specs.mesa_history_spec.Replay.{go, runs}
+use Rattle.mesa_publishing.specs.mesa_history_spec.Run.{Run, State, begins}
+use Rattle.mesa_publishing.specs.mesa_history_spec.Sources.{Source, Written, range_rows, sources_from}
+use Rattle.mesa_publishing.proofs.mesa_history_spec.Claims.{begins_hold, runs_hold}
 use Rattle.mesa_history_laws.proofs.Begun.{claims_keep_begun}
-use Rattle.mesa_history_spec.proofs.More.{runs-append}
-use Rattle.mesa_span.specs.declared.works.Work.{Work}
+use Rattle.mesa_publishing.proofs.mesa_history_spec.More.{runs-append}
+use Rattle.mesa_publishing.specs.mesa_span.declared.works.Work.{Work}
 use Rattle.mesa_publishing.specs.mesa_plans.mesa_image_spec.Moves.{last_of, first_of}
 use Rattle.mesa_history_laws.proofs.Ranges.{ranges_hold}
 use Rattle.mesa_publishing.specs.mesa_engine_spec.Vault.{Origin}
@@ -23,7 +23,7 @@ use Rattle.mesa_tasks.specs.Recasts.{recast_table}
 use Rattle.mesa_tasks.specs.declared.merging.Task.{Task}
 use Rattle.mesa_tasks.specs.declared.recasting.Recast.{Recast}
 use Rattle.mesa_tasks.specs.declared.recasting.RecastRange.{RecastRange}
-use Rattle.mesa_invariant_spec.specs.Invariant.{run_at}
+use Rattle.mesa_publishing.specs.mesa_invariant_spec.Invariant.{run_at}
 use Rattle.mesa_publishing.specs.mesa_engine_spec.Written.{written_at}
 
 -- ---- what is written behind a history

@@ -1,3 +1,4 @@
+pub use Rattle.mesa_publishing.proofs.mesa_history_spec as mesa_history_spec
 pub mod Behind
 pub mod Turning
 pub mod Ending

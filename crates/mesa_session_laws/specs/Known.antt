@@ -1,14 +1,14 @@
 -- What is known of granted tasks.
 use Rattle.std.specs.Prelude.{◌≡◌, ℕ, ◌+◌, List, [], ◌∷◌, Option, None}
 use Rattle.std.specs.List.{AllByRecursion}
-use Rattle.mesa_schema.specs.Changes.{Lineage, epoch_of}
-use Rattle.mesa_schema.specs.declared.views.View.{View}
-use Rattle.mesa_copy.specs.mesa_compact.mesa_merge.Inputs.{Known}
-use Rattle.mesa_copy.specs.Copying.{IsRecastBounded}
+use Rattle.mesa_publishing.specs.mesa_schema.Changes.{Lineage, epoch_of}
+use Rattle.mesa_publishing.specs.mesa_schema.declared.views.View.{View}
+use Rattle.mesa_publishing.specs.mesa_copy.mesa_compact.mesa_merge.Inputs.{Known}
+use Rattle.mesa_publishing.specs.mesa_copy.Copying.{IsRecastBounded}
 use Rattle.mesa_session_laws.specs.Recasts.{KnownRecast, known_recast}
-use Rattle.mesa_model.specs.Warehouse.{Store, table_at}
+use Rattle.mesa_publishing.specs.mesa_model.Warehouse.{Store, table_at}
 use Rattle.mesa_session_laws.specs.Works.{KnownTask, known_task}
-use Rattle.mesa_copy.specs.mesa_compact.Tasks.{KnownView}
+use Rattle.mesa_publishing.specs.mesa_copy.mesa_compact.Tasks.{KnownView}
 use Rattle.mesa_publishing.specs.Finished.{HasRange}
 use Rattle.mesa_publishing.specs.Recasts.{HasItsRanges}
 use Rattle.mesa_tasks.specs.mesa_history_spec.Sources.{Written}

@@ -1,6 +1,6 @@
 ghost use Rattle.std.specs.Prelude.{◌≡◌, ◌+◌, ◌<◌, ◌≤◌, ℕ, List, [], ◌∷◌, ◌++◌, length, IfOk, OnOk, Some};
-ghost use Rattle.mesa_fault.specs.Causes.{HasCause, Rose};
-ghost use Rattle.mesa_key.specs.Spelling.{AreBytes};
+ghost use Rattle.mesa_disk.specs.mesa_fault.Causes.{HasCause, Rose};
+ghost use Rattle.mesa_disk.specs.mesa_key.Spelling.{AreBytes};
 ghost use Rattle.mesa_disk.specs.Image.{Image};
 ghost use Rattle.mesa_disk.specs.Files.{files_of, AreAbsent, AreGone, AreThere, HasDistinctIds};
 ghost use Rattle.mesa_disk.specs.Story.{Spans, Steps};

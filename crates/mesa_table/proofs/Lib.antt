@@ -1,3 +1,4 @@
+pub use Rattle.mesa_image_spec.proofs as mesa_image_spec
 pub mod Tests
 pub mod Counts
 pub mod Singles

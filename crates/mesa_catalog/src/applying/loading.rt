@@ -1,7 +1,7 @@
 // Taking in what a batch brings.
 ghost use Rattle.std.specs.Prelude.{◌≡◌, ◌≢◌, ◌+◌, ◌<◌, ℕ, find, length, map, position, slice_get, IfSome};
 ghost use Rattle.std.specs.List.{AllByRecursion};
-ghost use Rattle.mesa_image_spec.specs.Catalog.{stocks_loaded};
+ghost use Rattle.mesa_table.specs.mesa_image_spec.Catalog.{stocks_loaded};
 ghost use Rattle.mesa_table.specs.declared.ready.ReadyPart.{ReadyPart as Piece};
 ghost use Rattle.mesa_table.specs.Meaning.{IsTable, stock_of};
 ghost use Rattle.mesa_table.specs.Readied.{HasSpare, IsPartOf, is_part_of, part_in};

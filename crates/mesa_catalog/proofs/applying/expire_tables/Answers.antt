@@ -1,5 +1,5 @@
 use Rattle.std.proofs.Common.{◌<◌, arith, length, map}
-use Rattle.mesa_image_spec.specs.Catalog.{stock_from}
+use Rattle.mesa_table.specs.mesa_image_spec.Catalog.{stock_from}
 use Rattle.mesa_table.specs.Meaning.{IsTable, stock_of}
 use Rattle.mesa_catalog.proofs.Expired.{expired_all, expired_step}
 use Rattle.mesa_catalog.proofs.Stocks.{all_at, all_set}

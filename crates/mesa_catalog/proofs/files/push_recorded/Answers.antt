@@ -1,5 +1,5 @@
 use Rattle.std.proofs.Common.{map}
-use Rattle.mesa_image_spec.specs.Fitting.{stock_shelved}
+use Rattle.mesa_table.specs.mesa_image_spec.Fitting.{stock_shelved}
 use Rattle.mesa_table.specs.declared.table.Table.{Table}
 use Rattle.mesa_table.specs.Files.{recorded_of}
 use Rattle.mesa_table.specs.Meaning.{stock_of}

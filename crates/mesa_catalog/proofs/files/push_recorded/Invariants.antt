@@ -1,6 +1,6 @@
 use Rattle.std.proofs.Common.{◌≡◌, ℕ, ◌++◌, map, take}
 use Rattle.std.specs.Prelude.{flat_map}
-use Rattle.mesa_image_spec.specs.Fitting.{stock_shelved}
+use Rattle.mesa_table.specs.mesa_image_spec.Fitting.{stock_shelved}
 use Rattle.mesa_table.specs.declared.table.Table.{Table}
 use Rattle.mesa_table.specs.Files.{recorded_of}
 use Rattle.mesa_table.specs.Meaning.{stock_of}

@@ -2,7 +2,7 @@ use Rattle.std.proofs.Common.{◌≡◌, ℕ, ◌∙◌, ap, sym, arith, Bool, t
 use Rattle.std.specs.Prelude.{◌==◌}
 use Rattle.std.specs.List.{list_any}
 use Rattle.std.proofs.lemmas.Bool.Decides.{nat_tests}
-use Rattle.mesa_image_spec.specs.Fitting.{has_number, run_of_id}
+use Rattle.mesa_table.specs.mesa_image_spec.Fitting.{has_number, run_of_id}
 use Rattle.mesa_table.specs.declared.table.Table.{Table}
 use Rattle.mesa_table.specs.Named.{table_ids}
 use Rattle.mesa_catalog.specs.Named.{held_ids, ids_brought}

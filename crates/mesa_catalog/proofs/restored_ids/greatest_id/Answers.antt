@@ -2,8 +2,8 @@ use Rattle.std.proofs.Common.{ℕ, ◌++◌, ◌∙◌, ◌≤◌, ap, sym, subs
 use Rattle.std.specs.Prelude.{◌==◌, ◌&&◌, flat_map, nat_le, is_some, IfSome}
 use Rattle.std.specs.List.{AllByRecursion, list_all}
 use Rattle.std.proofs.lemmas.List.Sorted.{IsNonDecreasingBy-from_sort_by_key}
-use Rattle.mesa_image_spec.specs.Fitting.{run_of_id}
-use Rattle.mesa_image_spec.specs.Ids.{named, times}
+use Rattle.mesa_table.specs.mesa_image_spec.Fitting.{run_of_id}
+use Rattle.mesa_table.specs.mesa_image_spec.Ids.{named, times}
 use Rattle.mesa_table.specs.Meaning.{IsTable}
 use Rattle.mesa_table.specs.Named.{table_ids}
 use Rattle.mesa_catalog.specs.Meaning.{catalogue_of}

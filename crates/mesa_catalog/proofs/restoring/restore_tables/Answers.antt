@@ -2,8 +2,8 @@ use Rattle.std.proofs.Common.{◌≡◌, [], ◌∙◌, ap, sym, subst, arith}
 use Rattle.std.specs.List.{AllByRecursion, list_all}
 use Rattle.std.proofs.lemmas.Result.{err_from_is_err_and}
 use Rattle.std.proofs.lemmas.List.{nil_from_length}
-use Rattle.mesa_image_spec.specs.Checkpoint.{stock_stated}
-use Rattle.mesa_image_spec.specs.CheckpointFits.{table_fits}
+use Rattle.mesa_table.specs.mesa_image_spec.Checkpoint.{stock_stated}
+use Rattle.mesa_table.specs.mesa_image_spec.CheckpointFits.{table_fits}
 use Rattle.mesa_table.specs.Meaning.{IsTable, stock_of}
 use Rattle.mesa_table.proofs.Taken.{first_fails, first_passes, moved_all, moved_on}
 use Rattle.mesa_catalog.proofs.Stocks.{all_pushed}

@@ -1,8 +1,8 @@
 use Rattle.std.proofs.Common.{◌≡◌, ◌++◌, map}
 use Rattle.std.specs.VecDeque.{deque_len}
 use Rattle.std.specs.List.{AllByRecursion, list_all}
-use Rattle.mesa_image_spec.specs.Checkpoint.{stock_stated}
-use Rattle.mesa_image_spec.specs.CheckpointFits.{table_fits}
+use Rattle.mesa_table.specs.mesa_image_spec.Checkpoint.{stock_stated}
+use Rattle.mesa_table.specs.mesa_image_spec.CheckpointFits.{table_fits}
 use Rattle.mesa_table.specs.Meaning.{IsTable, stock_of}
 use Rattle.mesa_catalog.proofs.restoring.restore_tables.Given as goal
 

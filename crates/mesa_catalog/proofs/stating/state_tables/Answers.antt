@@ -1,6 +1,6 @@
 use Rattle.std.proofs.Common.{◌++◌, ◌∷◌, [], ◌∙◌, ap, sym, subst, map}
 use Rattle.std.proofs.lemmas.List.{take_all}
-use Rattle.mesa_image_spec.specs.Checkpoint.{stating_table}
+use Rattle.mesa_table.specs.mesa_image_spec.Checkpoint.{stating_table}
 use Rattle.mesa_table.specs.Meaning.{IsTable, stock_of}
 use Rattle.mesa_catalog.proofs.Restored.{mapped_more}
 use Rattle.mesa_catalog.proofs.Stocks.{all_at}

@@ -1,6 +1,6 @@
 use Rattle.std.proofs.Common.{◌≡◌, ℕ, map, take}
 use Rattle.std.specs.List.{AllByRecursion}
-use Rattle.mesa_image_spec.specs.Checkpoint.{stating_table}
+use Rattle.mesa_table.specs.mesa_image_spec.Checkpoint.{stating_table}
 use Rattle.mesa_table.specs.Meaning.{IsTable, stock_of}
 use Rattle.mesa_catalog.proofs.stating.state_tables.Given as goal
 

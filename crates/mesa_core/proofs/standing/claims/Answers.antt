@@ -1,8 +1,8 @@
 use Rattle.std.proofs.Common.{◌≡◌, not, sym, ap, subst, false}
 use Rattle.mesa_engine.specs.Engine.{Standing, starts_of}
-use Rattle.mesa_history_spec.specs.Claims.{HasClaimAt}
-use Rattle.mesa_history_spec.specs.Machine.{Machine}
-use Rattle.mesa_history_spec.specs.Run.{place_of}
+use Rattle.mesa_session_laws.specs.mesa_history_spec.Claims.{HasClaimAt}
+use Rattle.mesa_session_laws.specs.mesa_history_spec.Machine.{Machine}
+use Rattle.mesa_session_laws.specs.mesa_history_spec.Run.{place_of}
 use Rattle.mesa_engine.proofs.mesa_engine_spec.Beginning.{vault_claims}
 use Rattle.mesa_engine.specs.mesa_engine_spec.Vault.{Starts, outset_of}
 use Rattle.mesa_engine.specs.mesa_projection_laws.Rows.{no_rows}

@@ -2,7 +2,7 @@ use Rattle.std.proofs.Common.{◌≢◌, ◌+◌, ◌<◌, ◌++◌, ◌∙◌, 
 use Rattle.std.specs.List.{AllByRecursion}
 use Rattle.std.proofs.lemmas.List.{append-nil, drop_all, get_or_default, take_all}
 use Rattle.mesa_record.specs.declared.record.Part.{Part}
-use Rattle.mesa_image_spec.specs.Catalog.{stock_loaded, stocks_loaded}
+use Rattle.mesa_table.specs.mesa_image_spec.Catalog.{stock_loaded, stocks_loaded}
 use Rattle.mesa_table.specs.Meaning.{IsTable, stock_of}
 use Rattle.mesa_table.specs.Readied.{part_in}
 use Rattle.std.specs.Prelude.{◌==◌, option_map}

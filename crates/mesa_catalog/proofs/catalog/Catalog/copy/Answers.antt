@@ -2,8 +2,8 @@ use Rattle.std.proofs.Common.{◌≡◌, ◌≤◌, ◌∙◌, ap, sym, subst, a
 use Rattle.std.specs.Prelude.{None}
 use Rattle.std.specs.List.{AllByRecursion}
 use Rattle.std.proofs.lemmas.List.{length-map}
-use Rattle.mesa_image_spec.specs.Catalog.{Catalog}
-use Rattle.mesa_image_spec.specs.Ids.{named, times}
+use Rattle.mesa_table.specs.mesa_image_spec.Catalog.{Catalog}
+use Rattle.mesa_table.specs.mesa_image_spec.Ids.{named, times}
 use Rattle.mesa_table.specs.Meaning.{IsTable, stock_of}
 use Rattle.mesa_catalog.specs.declared.shelves.Shelves.{Shelves}
 use Rattle.mesa_catalog.specs.Kept.{Reserved}

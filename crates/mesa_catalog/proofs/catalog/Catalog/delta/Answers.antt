@@ -1,5 +1,5 @@
 use Rattle.std.proofs.Common.{◌∙◌, ap, sym, subst}
-use Rattle.mesa_image_spec.specs.Catalog.{Stock}
+use Rattle.mesa_table.specs.mesa_image_spec.Catalog.{Stock}
 use Rattle.mesa_table.specs.Meaning.{IsTable, stock_of}
 use Rattle.mesa_table.specs.Ranged.{delta_at}
 use Rattle.mesa_catalog.specs.Kept.{Reserved}

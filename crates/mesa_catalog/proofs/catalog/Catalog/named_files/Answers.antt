@@ -1,7 +1,7 @@
 use Rattle.std.proofs.Common.{◌++◌, ◌∙◌, ap, sym, subst, arith}
 use Rattle.std.specs.Prelude.{flat_map}
 use Rattle.std.specs.List.{AllByRecursion}
-use Rattle.mesa_image_spec.specs.Ids.{named}
+use Rattle.mesa_table.specs.mesa_image_spec.Ids.{named}
 use Rattle.mesa_table.specs.Meaning.{IsTable}
 use Rattle.mesa_table.specs.Named.{table_ids}
 use Rattle.mesa_catalog.specs.Kept.{Reserved}

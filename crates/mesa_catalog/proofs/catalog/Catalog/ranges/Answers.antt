@@ -1,6 +1,6 @@
 use Rattle.std.proofs.Common.{◌∙◌, ap, sym, arith, length}
 use Rattle.std.proofs.lemmas.Bool.Decides.{nat_tests}
-use Rattle.mesa_image_spec.specs.Catalog.{ranges_of, stock_at}
+use Rattle.mesa_table.specs.mesa_image_spec.Catalog.{ranges_of, stock_at}
 use Rattle.mesa_catalog.specs.Kept.{Reserved}
 use Rattle.mesa_table.proofs.Tests.{if_ok}
 use Rattle.mesa_catalog.proofs.catalog.Catalog.ranges.Goals as goal

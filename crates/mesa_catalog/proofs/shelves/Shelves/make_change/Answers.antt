@@ -2,7 +2,7 @@ use Rattle.std.proofs.Common.{◌++◌, ◌∷◌, [], ◌∙◌, ap, refl, sym,
 use Rattle.mesa_schema.specs.Columns.{Columns}
 use Rattle.mesa_schema.specs.Changes.{Lineage, columns_of}
 use Rattle.mesa_batch.specs.Totals.{totals_after}
-use Rattle.mesa_image_spec.specs.Catalog.{Stock}
+use Rattle.mesa_table.specs.mesa_image_spec.Catalog.{Stock}
 use Rattle.mesa_catalog.specs.Meaning.{catalogue_of}
 use Rattle.mesa_table.specs.Meaning.{widths_of}
 use Rattle.mesa_catalog.proofs.Made.{change_last, change_made, change_record, change_there, widths_changed}

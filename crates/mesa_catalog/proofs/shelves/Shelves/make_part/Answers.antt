@@ -1,7 +1,7 @@
 use Rattle.std.proofs.Common.{◌∙◌, ap, sym}
 use Rattle.std.specs.Prelude.{is_none}
 use Rattle.mesa_batch.specs.Totals.{over_bound}
-use Rattle.mesa_image_spec.specs.Catalog.{Stock}
+use Rattle.mesa_table.specs.mesa_image_spec.Catalog.{Stock}
 use Rattle.mesa_table.proofs.Tests.{both}
 use Rattle.mesa_catalog.proofs.shelves.Shelves.make_part.Goals as goal
 

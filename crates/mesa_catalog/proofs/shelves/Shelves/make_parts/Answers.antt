@@ -3,8 +3,8 @@ use Rattle.std.specs.Prelude.{◌&&◌}
 use Rattle.std.specs.List.{AllByRecursion}
 use Rattle.std.proofs.lemmas.List.{map_push, take_all, take_more}
 use Rattle.mesa_record.specs.declared.record.Part.{Part}
-use Rattle.mesa_image_spec.specs.Catalog.{stock_at}
-use Rattle.mesa_image_spec.specs.Fitting.{is_there, part_fits}
+use Rattle.mesa_table.specs.mesa_image_spec.Catalog.{stock_at}
+use Rattle.mesa_table.specs.mesa_image_spec.Fitting.{is_there, part_fits}
 use Rattle.mesa_catalog.specs.Meaning.{catalogue_of}
 use Rattle.mesa_catalog.specs.Readied.{IsMadePart}
 use Rattle.mesa_table.specs.Readied.{part_in}

@@ -4,8 +4,8 @@ use Rattle.std.proofs.lemmas.Bool.Decides.{nat_tests}
 use Rattle.mesa_schema.specs.Changes.{epoch_of}
 use Rattle.mesa_schema.specs.Recasts.{recast_checked, recast_lineage}
 use Rattle.mesa_record.specs.declared.record.Record.TheVariants as record_of
-use Rattle.mesa_image_spec.specs.Catalog.{Stock, recast_in, stock_at}
-use Rattle.mesa_image_spec.specs.Fitting.{is_there, ranges_renewed, recast_fits}
+use Rattle.mesa_table.specs.mesa_image_spec.Catalog.{Stock, recast_in, stock_at}
+use Rattle.mesa_table.specs.mesa_image_spec.Fitting.{is_there, ranges_renewed, recast_fits}
 use Rattle.mesa_table.specs.Readied.{IsRecast, recasting_in}
 use Rattle.mesa_table.proofs.Tests.{both}
 use Rattle.mesa_catalog.specs.Meaning.{catalogue_of}

@@ -1,7 +1,7 @@
 use Rattle.std.proofs.Common.{◌∙◌, ap, refl, sym, arith, length}
 use Rattle.mesa_schema.specs.declared.views.View.{View}
 use Rattle.mesa_schema.specs.Changes.{Lineage}
-use Rattle.mesa_image_spec.specs.Catalog.{Stock}
+use Rattle.mesa_table.specs.mesa_image_spec.Catalog.{Stock}
 use Rattle.mesa_catalog.specs.Meaning.{catalogue_of}
 use Rattle.mesa_catalog.proofs.Made.{view_made, view_record, view_there}
 use Rattle.mesa_catalog.proofs.shelves.Shelves.make_view.Goals as goal

@@ -1,5 +1,5 @@
 use Rattle.std.proofs.Common.{◌∙◌, ap, sym}
-use Rattle.mesa_image_spec.specs.Fitting.{may_be_work}
+use Rattle.mesa_table.specs.mesa_image_spec.Fitting.{may_be_work}
 use Rattle.mesa_catalog.specs.Meaning.{catalogue_of}
 use Rattle.mesa_table.specs.Meaning.{stock_of}
 use Rattle.mesa_catalog.proofs.shelves.Shelves.may_be_work.Goals as goal

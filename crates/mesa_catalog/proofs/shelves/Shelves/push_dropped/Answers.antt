@@ -1,8 +1,8 @@
 use Rattle.std.proofs.Common.{◌++◌, ◌∙◌, ap, sym}
 use Rattle.std.specs.Prelude.{flat_map}
 use Rattle.mesa_record.specs.declared.record.Record.TheVariants as record_of
-use Rattle.mesa_image_spec.specs.Catalog.{Stock}
-use Rattle.mesa_image_spec.specs.Ids.{delta_ids, dropped_deltas, dropped_ids}
+use Rattle.mesa_table.specs.mesa_image_spec.Catalog.{Stock}
+use Rattle.mesa_table.specs.mesa_image_spec.Ids.{delta_ids, dropped_deltas, dropped_ids}
 use Rattle.mesa_table.proofs.Pushes.{on_ok}
 use Rattle.mesa_catalog.specs.Meaning.{catalogue_of}
 use Rattle.mesa_catalog.proofs.Dropped.{dropped_held}

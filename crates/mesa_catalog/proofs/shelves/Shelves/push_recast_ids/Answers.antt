@@ -1,5 +1,5 @@
 use Rattle.std.proofs.Common.{◌++◌, ◌∙◌, ap, sym}
-use Rattle.mesa_image_spec.specs.Ids.{recast_dropped}
+use Rattle.mesa_table.specs.mesa_image_spec.Ids.{recast_dropped}
 use Rattle.mesa_table.proofs.Pushes.{on_ok}
 use Rattle.mesa_catalog.proofs.Dropped.{recast_held}
 use Rattle.mesa_catalog.proofs.shelves.Shelves.push_recast_ids.Goals as goal

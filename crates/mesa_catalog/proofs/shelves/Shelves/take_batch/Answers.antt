@@ -2,7 +2,7 @@ use Rattle.std.proofs.Common.{◌+◌, ◌∙◌, List, ap, sym, subst, arith, l
 use Rattle.std.specs.Prelude.{slice_get, IfSome}
 use Rattle.std.specs.List.{AllByRecursion}
 use Rattle.std.proofs.lemmas.List.{with_items_is}
-use Rattle.mesa_image_spec.specs.Catalog.{stocks_loaded}
+use Rattle.mesa_table.specs.mesa_image_spec.Catalog.{stocks_loaded}
 use Rattle.mesa_table.specs.declared.table.Table.{Table}
 use Rattle.mesa_table.specs.declared.ready.ReadyPart.{ReadyPart}
 use Rattle.mesa_catalog.specs.declared.ready.Ready.TheVariants as ready_of

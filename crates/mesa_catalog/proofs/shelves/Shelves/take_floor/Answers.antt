@@ -3,7 +3,7 @@ use Rattle.std.specs.Prelude.{nat_le, nat_lt}
 use Rattle.std.specs.List.{AllByRecursion}
 use Rattle.std.proofs.lemmas.Bool.Decides.{nat_tests}
 use Rattle.std.proofs.lemmas.List.{with_items_is}
-use Rattle.mesa_image_spec.specs.Catalog.{stock_from}
+use Rattle.mesa_table.specs.mesa_image_spec.Catalog.{stock_from}
 use Rattle.mesa_table.specs.Meaning.{IsTable, stock_of}
 use Rattle.mesa_catalog.specs.Meaning.{catalogue_of}
 use Rattle.mesa_catalog.specs.Readied.{record_in}

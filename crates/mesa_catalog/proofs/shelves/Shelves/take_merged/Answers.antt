@@ -1,7 +1,7 @@
 use Rattle.std.proofs.Common.{◌≡◌, ◌∙◌, ap, sym, subst, arith}
 use Rattle.std.proofs.lemmas.List.{length-set}
-use Rattle.mesa_image_spec.specs.Catalog.{Stock, merged_delta, stock_swapped}
-use Rattle.mesa_image_spec.specs.Fitting.{may_be_work}
+use Rattle.mesa_table.specs.mesa_image_spec.Catalog.{Stock, merged_delta, stock_swapped}
+use Rattle.mesa_table.specs.mesa_image_spec.Fitting.{may_be_work}
 use Rattle.mesa_catalog.specs.declared.ready.Ready.TheVariants as ready_of
 use Rattle.mesa_table.specs.Meaning.{IsTable, stock_of}
 use Rattle.mesa_catalog.specs.Meaning.{catalogue_of}

@@ -2,8 +2,8 @@ use Rattle.std.proofs.Common.{◌∙◌, ◌<◌, ap, sym, subst, arith}
 use Rattle.std.specs.Prelude.{nat_le, nat_lt}
 use Rattle.std.proofs.lemmas.Bool.Decides.{nat_tests}
 use Rattle.std.proofs.lemmas.List.{length-set}
-use Rattle.mesa_image_spec.specs.Catalog.{stock_at, stock_from}
-use Rattle.mesa_image_spec.specs.Fitting.{expire_fits, is_there}
+use Rattle.mesa_table.specs.mesa_image_spec.Catalog.{stock_at, stock_from}
+use Rattle.mesa_table.specs.mesa_image_spec.Fitting.{expire_fits, is_there}
 use Rattle.mesa_table.specs.Meaning.{IsTable, stock_of}
 use Rattle.mesa_catalog.specs.Meaning.{catalogue_of}
 use Rattle.mesa_catalog.specs.Readied.{record_in}

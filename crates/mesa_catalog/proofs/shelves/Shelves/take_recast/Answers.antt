@@ -1,7 +1,7 @@
 use Rattle.std.proofs.Common.{◌∙◌, ap, sym, subst, arith}
 use Rattle.std.proofs.lemmas.List.{length-set}
-use Rattle.mesa_image_spec.specs.Catalog.{Stock, stock_recast}
-use Rattle.mesa_image_spec.specs.Fitting.{recast_fits}
+use Rattle.mesa_table.specs.mesa_image_spec.Catalog.{Stock, stock_recast}
+use Rattle.mesa_table.specs.mesa_image_spec.Fitting.{recast_fits}
 use Rattle.mesa_table.specs.Meaning.{IsTable, stock_of}
 use Rattle.mesa_table.specs.Readied.{IsRecast, recasting_in}
 use Rattle.mesa_catalog.specs.Meaning.{catalogue_of}

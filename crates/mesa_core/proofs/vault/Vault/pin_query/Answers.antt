@@ -2,8 +2,8 @@ use Rattle.std.proofs.Common.{◌≡◌, ◌∙◌, ap, sym, subst, Some}
 use Rattle.std.specs.Prelude.{IfSome}
 use Rattle.mesa_recast_turns.specs.mesa_close_turns.mesa_query_turns.Opening.{HasItsFiles}
 use Rattle.mesa_filter.specs.declared.words.QueryWords.{QueryWords}
-use Rattle.mesa_history_spec.specs.Legal.{is_query}
-use Rattle.mesa_history_spec.specs.Run.{First, command_at}
+use Rattle.mesa_session_laws.specs.mesa_history_spec.Legal.{is_query}
+use Rattle.mesa_session_laws.specs.mesa_history_spec.Run.{First, command_at}
 use Rattle.mesa_model.specs.declared.commands.Command.TheVariants as command
 use Rattle.mesa_model.specs.declared.commands.Script.{Script}
 use Rattle.mesa_session_laws.specs.Pins.{TakesQuery}

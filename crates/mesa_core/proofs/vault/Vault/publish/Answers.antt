@@ -1,6 +1,6 @@
 use Rattle.std.proofs.Common.{◌≡◌, ◌∙◌, Some, sym, ap, subst}
 use Rattle.mesa_batch.specs.Glance.{Sight}
-use Rattle.mesa_history_spec.specs.Run.{Looked, command_at}
+use Rattle.mesa_session_laws.specs.mesa_history_spec.Run.{Looked, command_at}
 use Rattle.mesa_model.specs.declared.commands.Command.TheVariants as command
 use Rattle.mesa_model.specs.declared.commands.Script.{Script}
 use Rattle.mesa_session_laws.specs.Sight.{sight_after}

@@ -5,8 +5,8 @@ use Rattle.mesa_delta.specs.declared.error.FileError.TheVariants as file_error
 use Rattle.mesa_session_laws.specs.Recasts.{HasRegrouped, known_recast}
 use Rattle.mesa_session_laws.specs.Works.{WasGranted}
 use Rattle.mesa_session_laws.specs.mesa_publishing.Recasts.{stock_of_recast}
-use Rattle.mesa_history_spec.specs.Machine.{still_checked}
-use Rattle.mesa_history_spec.specs.Run.{Renewed}
+use Rattle.mesa_session_laws.specs.mesa_history_spec.Machine.{still_checked}
+use Rattle.mesa_session_laws.specs.mesa_history_spec.Run.{Renewed}
 use Rattle.mesa_model.specs.declared.commands.Command.TheVariants as command
 use Rattle.mesa_model.specs.declared.entries.Kind.TheVariants as kind
 use Rattle.mesa_recast_turns.specs.mesa_close_turns.Swept.{ClaimHolds, HasStood, IsSwept}
