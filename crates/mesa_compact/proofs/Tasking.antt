@@ -7,7 +7,7 @@ use Rattle.mesa_merge.proofs.Inputs.{SameEnd}
 use Rattle.mesa_tasks.specs.declared.merging.CompactError.{CompactError}
 use Rattle.mesa_merge.specs.Sums.{sum_damage}
 use Rattle.mesa_tasks.specs.declared.merging.TaskView.{TaskView}
-use Rattle.mesa_compact.specs.Damaged.{IsGroupsTotalOf, IsNewestOf, LeavesAmong, RowLeaves, ViewLeaves}
+use Rattle.mesa_compact.specs.Damaged.{AreMerged, BeginMerged, IsGroupsTotalOf, IsNewestOf, LeavesAmong, RowLeaves, ViewLeaves}
 use Rattle.mesa_compact.specs.Tasks.{IsFilesDamage, IsViewDamage}
 use Rattle.mesa_compact.specs.Writing.{HasCauses}
 use Rattle.mesa_compact.proofs.Causing.{caused_left, caused_on, caused_right}
@@ -96,29 +96,29 @@ known_table bytes l (i ∷ is) zero k h e =
     sym (ap (λ (x : Known). x.table) same) ∙ h.0.1
 known_table bytes l (i ∷ is) (suc n) k h e = known_table bytes l is n k h.1 e
 
--- what leaves its type where the merged rows, or the groups of a view, are written
-pub total_damage : {R : Type 0} (bytes : R → Option (List ℕ)) (l : Lineage) (is js : List (Input R)) (rows : List Row) (newest : ℕ) (d : Damage) → knowns_of bytes js ≡ knowns_of bytes is → IsNewestOf (knowns_of bytes is) newest
-    → AreInputsOf bytes l is → IsMergeOf bytes (columns_of l) is rows → d ≡ sum_damage newest → LeavesAmong (RowLeaves (columns_of l)) rows ⊎ ViewLeaves l rows → IsGroupsTotalOf (knowns_of bytes js) d
-total_damage bytes l is js rows newest d known last inputs merge told leaves =
+-- the total of a table's first merged rows, or of a view's, is told of the newest of the inputs
+pub total_damage : {R : Type 0} (bytes : R → Option (List ℕ)) (l : Lineage) (is js : List (Input R)) (rows : List Row) (newest : ℕ) (d : Damage) → knowns_of bytes js ≡ knowns_of bytes is → IsNewestOf (knowns_of bytes is) newest → AreInputsOf bytes l is → d ≡ sum_damage newest
+    → (BeginMerged (columns_of l) (knowns_of bytes is) rows × LeavesAmong (RowLeaves (columns_of l)) rows) ⊎ (AreMerged (columns_of l) (knowns_of bytes is) rows × ViewLeaves l rows) → IsGroupsTotalOf (knowns_of bytes js) d
+total_damage bytes l is js rows newest d known last inputs told leaves =
     let table : last.file.table ≡ l = known_table bytes l is _ last.file inputs last.last in
-    let merged : (contents : List (List Row)) → AreTold (knowns_of bytes is) contents → rows ≡ folded (aggs_of (columns_of l)) (lifted_parts (knowns_of bytes is) contents) =
-    λ contents all. merge contents (told_inputs bytes is contents all) ∙ ap (folded (aggs_of (columns_of l))) (known_parts bytes is contents) in
     let here : IsGroupsTotalOf (knowns_of bytes is) d = record {
       newest = newest;
       last = last;
       rows = rows;
-      merged = subst (λ (t : Lineage). (contents : List (List Row)) → AreTold (knowns_of bytes is) contents → rows ≡ folded (aggs_of (columns_of t)) (lifted_parts (knowns_of bytes is) contents)) (sym table) merged;
-      leaves = subst (λ (t : Lineage). LeavesAmong (RowLeaves (columns_of t)) rows ⊎ ViewLeaves t rows) (sym table) leaves;
+      leaves = subst (λ (t : Lineage). (BeginMerged (columns_of t) (knowns_of bytes is) rows × LeavesAmong (RowLeaves (columns_of t)) rows) ⊎ (AreMerged (columns_of t) (knowns_of bytes is) rows × ViewLeaves t rows)) (sym table) leaves;
       told = told;
     } in
     subst (λ (ks : List Known). IsGroupsTotalOf ks d) (sym known) here
 
+pub merged_knowns : {R : Type 0} (bytes : R → Option (List ℕ)) (l : Lineage) (is : List (Input R)) (rows : List Row) → IsMergeOf bytes (columns_of l) is rows → AreMerged (columns_of l) (knowns_of bytes is) rows
+merged_knowns bytes l is rows merge = λ contents all. merge contents (told_inputs bytes is contents all) ∙ ap (folded (aggs_of (columns_of l))) (known_parts bytes is contents)
+
 -- damage that is told of the views' files, or of the newest of the table's
 pub files_damage : {R : Type 0} (bytes : R → Option (List ℕ)) (size : R → ℕ) (l : Lineage) (is js : List (Input R)) (ws : List (TaskView R)) (rows : List Row) (newest : ℕ) (d : Damage) → knowns_of bytes js ≡ knowns_of bytes is → IsNewestOf (knowns_of bytes is) newest
-    → AreInputsOf bytes l is → IsMergeOf bytes (columns_of l) is rows → IsViewDamage bytes size ws d ⊎ ((d ≡ sum_damage newest) × (LeavesAmong (RowLeaves (columns_of l)) rows ⊎ ViewLeaves l rows)) → IsFilesDamage bytes size js ws d
+    → AreInputsOf bytes l is → IsMergeOf bytes (columns_of l) is rows → IsViewDamage bytes size ws d ⊎ ((d ≡ sum_damage newest) × ViewLeaves l rows) → IsFilesDamage bytes size js ws d
 files_damage bytes size l is js ws rows newest d known last inputs merge told = elim told [
   | inl view ↦ inr (inl view)
-  | inr total ↦ inr (inr (total_damage bytes l is js rows newest d known last inputs merge total.0 total.1))
+  | inr total ↦ inr (inr (total_damage bytes l is js rows newest d known last inputs total.0 (inr (merged_knowns bytes l is rows merge, total.1))))
 ]
 
 -- the same of views that were lent, and came back

@@ -71,11 +71,18 @@ pub record IsNewestOf (knowns : List Known) (id : ℕ) : Type 0 where
   pub last : slice_get knowns (length knowns - 1) ≡ Some file
   pub is : id ≡ file.file.file
 
--- A total over merged rows, or over the groups of a view, really leaves its type where they are written once all inputs are merged: where the inputs are told, the rows are the fold of all their rows. The newest of the inputs is told.
+-- Rows are the merge of inputs, where these are told.
+abbrev pub AreMerged : Columns → List Known → List Row → Type 0
+AreMerged s knowns rows = (contents : List (List Row)) → AreTold knowns contents → rows ≡ folded (aggs_of s) (lifted_parts knowns contents)
+
+-- they are the first ones of it
+abbrev pub BeginMerged : Columns → List Known → List Row → Type 0
+BeginMerged s knowns rows = (contents : List (List Row)) → AreTold knowns contents → (rest : List Row) × (folded (aggs_of s) (lifted_parts knowns contents) ≡ rows ++ rest)
+
+-- A total over rows of several inputs really leaves its type: with one of the first rows of their merge, or where the groups of a view are written once all are merged. The newest of the inputs is told.
 pub record IsGroupsTotalOf (knowns : List Known) (d : Damage) : Type 0 where
   pub newest : ℕ
   pub last : IsNewestOf knowns newest
   pub rows : List Row
-  pub merged : (contents : List (List Row)) → AreTold knowns contents → rows ≡ folded (aggs_of (columns_of last.file.table)) (lifted_parts knowns contents)
-  pub leaves : LeavesAmong (RowLeaves (columns_of last.file.table)) rows ⊎ ViewLeaves last.file.table rows
+  pub leaves : (BeginMerged (columns_of last.file.table) knowns rows × LeavesAmong (RowLeaves (columns_of last.file.table)) rows) ⊎ (AreMerged (columns_of last.file.table) knowns rows × ViewLeaves last.file.table rows)
   pub told : d ≡ sum_damage newest

@@ -118,7 +118,7 @@ returns-in-Ok-view_files-clause-causes g c =
     let put = subst (λ (gs : List (Option Groups)). HavePut gs made.0) (sym (refill groups.len groups.items c.merged_file.new.groups (sym groups.ok.0) (c.merged_file.auto.groups ∙ ap length c.deref_mut.ensures.value))) made.3 in
     let merge = subst (λ (s : Columns). IsMergeOf g.R.FileReader.bytes s c.args.inputs.now.items made.0) c.present-2.ensures.columns made.1 in
     let newest = subst (λ (is : List (Input g.row.R.Denot)). IsNewestOf (knowns_of g.R.FileReader.bytes is) c.newest_of-newest.result) c.deref-2.ensures.value c.newest_of-newest.ensures in
-    files_damage g.R.FileReader.bytes g.R.FileReader.size c.args.evolving.now _ _ c.view_files.new.views made.0 c.newest_of-newest.result d c.in-Ok-merged_file.ensures.known newest c.requires.inputs merge (elim told [ inl view ↦ inl view | inr total ↦ inr (total.0, inr (total.1 made.0 put)) ]))
+    files_damage g.R.FileReader.bytes g.R.FileReader.size c.args.evolving.now _ _ c.view_files.new.views made.0 c.newest_of-newest.result d c.in-Ok-merged_file.ensures.known newest c.requires.inputs merge (elim told [ inl view ↦ inl view | inr total ↦ inr (total.0, total.1 made.0 put) ]))
 
 -- ---- the table's file is written, and not all of the views'
 
@@ -131,7 +131,7 @@ returns-clause-causes g c =
     let put = subst (λ (gs : List (Option Groups)). HavePut gs made.0) (sym (refill groups.len groups.items c.merged_file.new.groups (sym groups.ok.0) (c.merged_file.auto.groups ∙ ap length c.deref_mut.ensures.value))) made.3 in
     let merge = subst (λ (s : Columns). IsMergeOf g.R.FileReader.bytes s c.args.inputs.now.items made.0) c.present-2.ensures.columns made.1 in
     let newest = subst (λ (is : List (Input g.row.R.Denot)). IsNewestOf (knowns_of g.R.FileReader.bytes is) c.newest_of-newest.result) c.deref-2.ensures.value c.newest_of-newest.ensures in
-    files_damage g.R.FileReader.bytes g.R.FileReader.size c.args.evolving.now _ _ c.view_files.new.views made.0 c.newest_of-newest.result d c.in-Ok-merged_file.ensures.known newest c.requires.inputs merge (elim told [ inl view ↦ inl view | inr total ↦ inr (total.0, inr (total.1 made.0 put)) ]))
+    files_damage g.R.FileReader.bytes g.R.FileReader.size c.args.evolving.now _ _ c.view_files.new.views made.0 c.newest_of-newest.result d c.in-Ok-merged_file.ensures.known newest c.requires.inputs merge (elim told [ inl view ↦ inl view | inr total ↦ inr (total.0, total.1 made.0 put) ]))
 
 pub returns-clause-ids : goal.returns-clause-ids
 returns-clause-ids g c =
