@@ -6,7 +6,7 @@
 PROGRAM is the built program, by default crates/mesa/out/mesa, which `rt run` leaves there. ROWS is 10,000,000 by default.
 The rows lie in ten files, neighbouring keys in different ones. Each merge is made on a copy of one store. Its time is what
 its run takes beyond an empty one, the best of two. The files that are left have to be the same, byte for byte, however many
-parts there are. The peak tells what the rows take that are held until all parts are merged; in one part none are."""
+parts there are. The peak tells what the rows of two rounds take, which are held where there are parts; in one part none are."""
 import hashlib
 import pathlib
 import shutil
@@ -61,8 +61,8 @@ def main():
         load(program, folder, rows)
         empty = again(program, folder, [])
         print(f"the files have {stored(folder, '.mesa'):,} bytes; an empty run peaks at {empty.peak:.1f} MB")
-        print("| parts | merging, s | processor s | times as quick | peak MB | of which bytes a row |")
-        print("|---|---|---|---|---|---|")
+        print("| parts | merging, s | processor s | times as quick | peak MB |")
+        print("|---|---|---|---|---|")
         first, files = None, None
         for parts in PARTS:
             work, left = merge(program, folder, parts)
@@ -70,8 +70,7 @@ def main():
             first, files = first or seconds, files or left
             if left != files:
                 sys.exit(f"the files of a merge in {parts} parts differ from those of one in {PARTS[0]}")
-            held = (work.peak - empty.peak) * 1e6 / rows
-            print(f"| {parts} | {seconds:.2f} | {busy:.2f} | {first / seconds:.2f} | {work.peak:.0f} | {held:.0f} |", flush=True)
+            print(f"| {parts} | {seconds:.2f} | {busy:.2f} | {first / seconds:.2f} | {work.peak:.0f} |", flush=True)
 
 
 if __name__ == "__main__":

@@ -1,6 +1,7 @@
 -- Rows that are collected from a merge between two ends.
-use Rattle.std.proofs.Common.{◌≡◌, ℕ, List, [], ◌∷◌, ◌++◌, refl, sym, subst, ◌∙◌, true}
-use Rattle.std.specs.Prelude.{Bool, Err, IsTrue, Ok, Option}
+use Rattle.std.proofs.Common.{◌≡◌, ◌<◌, ◌≤◌, ℕ, arith, length, List, [], ◌∷◌, ◌++◌, refl, sym, subst, ◌∙◌, true}
+use Rattle.std.proofs.lemmas.Result.{IfOk-weaker}
+use Rattle.std.specs.Prelude.{Bool, Err, IsTrue, None, Ok, Option, Result, slice_get}
 use Rattle.std.specs.List.{AllByRecursion}
 use Rattle.mesa_schema.specs.declared.rows.Row.{Row}
 use Rattle.mesa_schema.specs.Columns.{Columns, aggs_of}
@@ -16,7 +17,7 @@ use Rattle.mesa_merge.specs.Faults.{HaveFaultCause, NoneFell, SomeRose}
 use Rattle.mesa_merge.specs.Merged.{HasMergedBetween, row_in}
 use Rattle.mesa_merge.specs.declared.merge.Merge.{Merge}
 use Rattle.mesa_merge.proofs.Inputs.{none_fell}
-use Rattle.mesa_split.specs.Parts.{HasCut}
+use Rattle.mesa_split.specs.Parts.{HasCut, HasPiece, low_at}
 
 -- want of memory, with which no count of faults changes
 pub memory_caused : {T : Type 0} (before now : List ℕ) → now ≡ before → HaveFaultCause {T = T} {E = FileError} (λ e. e ≡ Read) before now (Err Memory)
@@ -41,6 +42,28 @@ not_read bytes faults size s low high is each = record {
 -- rows, with which none does either
 pub gained_cause : {T : Type 0} (before now : List ℕ) (v : T) → now ≡ before → HaveFaultCause {T = T} {E = FileError} (λ e. e ≡ Read) before now (Ok v)
 gained_cause before now v same = record { later = subst (NoneFell before) (sym same) (none_fell before); failed = tt; quiet = same; other = tt }
+
+-- rows between the cuts at a place are the piece there
+pub piece_cut : {R : Type 0} (bytes : R → Option (List ℕ)) (faults size : R → ℕ) (s : Columns) (cuts : List (List ℕ)) (at place : ℕ) (old new : List (Input R)) (r : Result (List Row) FileError) → place ≡ at → place ≤ length cuts → HasCut bytes faults size s (low_at None cuts place) (slice_get cuts place) old new r → HasPiece bytes faults size s cuts at old new r
+piece_cut bytes faults size s cuts at place old new r same le h = subst (λ n. HasPiece bytes faults size s cuts n old new r) same (record {
+  rows = IfOk-weaker r _ _ (λ rows part. ((λ _. part), λ lt. absurd (omega (arith, le, lt)))) h.rows;
+  known = h.known;
+  inputs = h.inputs;
+  cause = h.cause;
+  damaged = h.damaged;
+  accepts = h.accepts;
+})
+
+-- behind the last piece there is none
+pub piece_none : {R : Type 0} (bytes : R → Option (List ℕ)) (faults size : R → ℕ) (s : Columns) (cuts : List (List ℕ)) (at : ℕ) (is : List (Input R)) (rows : List Row) → length cuts < at → rows ≡ [] → AllByRecursion (IsInput bytes) is → HasPiece bytes faults size s cuts at is is (Ok rows)
+piece_none bytes faults size s cuts at is rows lt none each = record {
+  rows = ((λ le. absurd (omega (arith, le, lt))), λ _. none);
+  known = refl;
+  inputs = each;
+  cause = gained_cause _ _ rows refl;
+  damaged = tt;
+  accepts = tt;
+}
 
 -- an error that is handed on
 pub failed_cause : {T U : Type 0} (first before now : List ℕ) (e : FileError) → before ≡ first → HaveFaultCause {T = T} {E = FileError} (λ x. x ≡ Read) before now (Err e) → HaveFaultCause {T = U} {E = FileError} (λ x. x ≡ Read) first now (Err e)

@@ -1,7 +1,8 @@
 -- Keys that are taken one by one, and the input that has the most blocks.
-use Rattle.std.proofs.Common.{◌≡◌, inl, inr, ℕ, ◌+◌, ◌-◌, ◌*◌, ◌/◌, ◌<◌, ◌≤◌, ◌⊎◌, List, [], ◌∷◌, ◌++◌, length, map, take, get_or, refl, sym, ap, subst, ◌∙◌, arith, Bool, true, false, add-one, Bor}
+use Rattle.std.proofs.Common.{◌≡◌, inl, inr, ℕ, ◌+◌, ◌-◌, ◌*◌, ◌<◌, ◌≤◌, ◌⊎◌, List, [], ◌∷◌, ◌++◌, length, map, take, get_or, min, refl, sym, ap, subst, ◌∙◌, arith, Bool, true, false, add-one, Bor}
+use Rattle.std.proofs.Math.Nat.{mul-le-mul_right}
 use Rattle.std.proofs.Math.Seq.{take-suc}
-use Rattle.std.proofs.lemmas.List.{get_or-map, length-map, map-append}
+use Rattle.std.proofs.lemmas.List.{map-append}
 use Rattle.std.proofs.lemmas.List.Elements.{Contains-append_left, Contains-push}
 use Rattle.std.proofs.lemmas.List.FromFn.{length-map-range_with_len, map-range_with_len_more}
 use Rattle.std.specs.Prelude.{Option, None, Some, IfNone, IfSome, slice_get, if◌then◌else◌}
@@ -9,11 +10,10 @@ use Rattle.std.specs.List.{AllByRecursion, Contains, range_with_len}
 use Rattle.mesa_cursor.specs.Cut.{CutsRise, IsLow}
 use Rattle.mesa_cursor.proofs.Cutting.{is_less}
 use Rattle.mesa_delta.specs.Indexed.{Indexed}
-use Rattle.mesa_delta.specs.Places.{entry_of, short_of, shorts_of}
+use Rattle.mesa_delta.specs.Places.{shorts_of}
 use Rattle.mesa_delta.specs.Reading.{index_of}
 use Rattle.mesa_delta.specs.declared.input.Input.{Input}
-use Rattle.mesa_delta.specs.declared.place.Entry.{Entry}
-use Rattle.mesa_split.specs.Sampling.{AreCutsOf, HasMost, end_of, indexes_of, lies_above, part_key, risen, spread, with_key}
+use Rattle.mesa_split.specs.Sampling.{AreCutsOf, ArePieceCuts, AreRounds, HasMost, end_of, indexes_of, lies_above, part_key, risen, spread, with_key}
 
 cons_if : (b : Bool) (k : List ℕ) (xs ys : List (List ℕ)) → (k ∷ (if b then xs else ys)) ≡ (if b then k ∷ xs else k ∷ ys)
 cons_if true k xs ys = refl
@@ -74,12 +74,6 @@ pub cut_more : (parts : ℕ) (shorts cuts new : List (List ℕ)) (part : ℕ) (k
 cut_more parts shorts cuts new part key le before is put =
     put ∙ (λ i. with_key None (before i) (is i)) ∙ sym (risen_more None (spread_to parts shorts part) (part_key parts shorts part)) ∙ ap (risen None) (sym (spread_more parts shorts part le))
 
--- the short key of the block with which a part begins
-pub short_at : (es : List Entry) (parts part block : ℕ) → block < length es → block ≡ length es * part / parts → (entry_of es block).short ≡ part_key parts (shorts_of es) part
-short_at es parts part block lt is =
-    sym (get_or-map short_of es block (record { short = []; offset = 0; len = 0; digest = [] }) [] lt)
-    ∙ ap (λ n. get_or (shorts_of es) n []) (is ∙ ap (λ n. n * part / parts) (sym (length-map es short_of)))
-
 -- ---- the input with the most blocks
 
 all_more : (n : ℕ) (m : ℕ) (xs : List Indexed) → n ≤ m → AllByRecursion (λ (x : Indexed). length x.entries ≤ n) xs → AllByRecursion (λ (x : Indexed). length x.entries ≤ m) xs
@@ -133,3 +127,18 @@ cuts_few parts shorts cuts is = subst (λ l. length l ≤ parts - 1) (sym is) (s
 
 pub cuts_rise : (parts : ℕ) (shorts cuts : List (List ℕ)) → cuts ≡ risen None (spread parts shorts) → CutsRise None cuts
 cuts_rise parts shorts cuts is = subst (CutsRise None) (sym is) (risen_rise None (spread parts shorts))
+
+-- ---- cuts of pieces
+
+-- rounds of one part more than there are cuts
+rounds_are : (parts pieces cuts : ℕ) → AreRounds parts pieces → 0 < pieces → pieces < 4294967296 → parts ≡ min (cuts + 1) 18446744073709551615 → (rounds : ℕ) × (2 ≤ rounds) × (pieces ≡ rounds * (cuts + 1))
+rounds_are parts pieces cuts (inl none) some fits is = absurd (omega (arith, none, some))
+rounds_are parts pieces cuts (inr h) some fits is =
+    let more : 2 * parts ≤ pieces = subst (λ n. 2 * parts ≤ n) (sym h.2) (mul-le-mul_right parts h.1) in
+    let all : parts ≡ cuts + 1 = omega (arith, more, fits, is) in
+    (h.0, h.1, h.2 ∙ ap (λ n. h.0 * n) all)
+
+pub cuts_finer : (xs : List Indexed) (index : Indexed) (parts pieces : ℕ) (cuts finer : List (List ℕ)) → AreRounds parts pieces → 0 < pieces → pieces < 4294967296 → parts ≡ min (length cuts + 1) 18446744073709551615 → HasMost xs index → finer ≡ risen None (spread pieces (shorts_of index.entries)) → ArePieceCuts xs cuts finer
+cuts_finer xs index parts pieces cuts finer h some fits is most are =
+    let rounds = rounds_are parts pieces (length cuts) h some fits is in
+    inr (rounds.0, rounds.1, subst (λ n. AreCutsOf xs n finer) rounds.2 (cuts_some xs index pieces finer most are))

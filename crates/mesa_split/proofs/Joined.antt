@@ -21,7 +21,7 @@ abbrev AllFrom : Option (List ℕ) → List Row → Type 0
 AllFrom low rows = AllByRecursion (λ (row : Row). is_from low row.key ≡ true) rows
 
 -- rows below a key and rows from it on
-join_rise : (key : List ℕ) (xs ys : List Row) → keys_rise xs ≡ true → keys_rise ys ≡ true → AllByRecursion (λ (row : Row). is_lt (byte_cmp row.key key) ≡ true) xs → AllFrom (Some key) ys → keys_rise (xs ++ ys) ≡ true
+pub join_rise : (key : List ℕ) (xs ys : List Row) → keys_rise xs ≡ true → keys_rise ys ≡ true → AllByRecursion (λ (row : Row). is_lt (byte_cmp row.key key) ≡ true) xs → AllFrom (Some key) ys → keys_rise (xs ++ ys) ≡ true
 join_rise key [] ys p q under from = q
 join_rise key (x ∷ []) [] p q under from = refl
 join_rise key (x ∷ []) (y ∷ ys) p q under from = and_from (is_lt (byte_cmp x.key y.key)) (keys_rise (y ∷ ys)) (ap is_lt (below_at x.key key y.key (is_less x.key key under.0) from.0)) q
@@ -29,7 +29,7 @@ join_rise key (x ∷ z ∷ xs) ys p q under from =
     let parts = and_parts (is_lt (byte_cmp x.key z.key)) (keys_rise (z ∷ xs)) p in
     and_from (is_lt (byte_cmp x.key z.key)) (keys_rise (z ∷ (xs ++ ys))) parts.0 (join_rise key (z ∷ xs) ys parts.1 q under.1 from)
 
-ends : (low : Option (List ℕ)) (high : Option (List ℕ)) (rows : List Row) → AllByRecursion (λ (row : Row). IsTrue (lies_in low high row.key)) rows → AllFrom low rows × AllByRecursion (λ (row : Row). is_under high row.key ≡ true) rows
+pub ends : (low : Option (List ℕ)) (high : Option (List ℕ)) (rows : List Row) → AllByRecursion (λ (row : Row). IsTrue (lies_in low high row.key)) rows → AllFrom low rows × AllByRecursion (λ (row : Row). is_under high row.key ≡ true) rows
 ends low high [] all = (tt, tt)
 ends low high (x ∷ xs) all =
     let both = and_parts (is_from low x.key) (is_under high x.key) all.0 in

@@ -3,7 +3,16 @@ pub mod Written
 pub mod Cuts
 pub mod Buffers
 pub mod Loans
+pub mod Numbers
+pub mod Pieces
+pub mod Staying
+pub mod Holding
+pub mod Rounding
+pub mod Running
 pub mod Verdicts
 pub mod Splitting
+pub mod Ranges
+pub mod Tables
+pub mod Splits
 pub mod Alike
 pub mod Collected

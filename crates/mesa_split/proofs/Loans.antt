@@ -1,13 +1,17 @@
 -- Inputs that are lent and given back.
-use Rattle.std.proofs.Common.{◌≡◌, ℕ, zero, suc, ◌+◌, ◌<◌, ◌≤◌, List, [], ◌∷◌, ◌++◌, length, map, get_or, set, take, refl, sym, ap, subst, ◌∙◌, arith, add-one, Global, Vec}
+use Rattle.std.proofs.Common.{◌≡◌, inl, inr, ℕ, zero, suc, ◌+◌, ◌<◌, ◌≤◌, List, [], ◌∷◌, ◌++◌, length, map, get_or, set, take, refl, sym, ap, subst, ◌∙◌, arith, add-one, Global, Vec}
 use Rattle.std.proofs.lemmas.List.{length-map, map-append}
-use Rattle.std.specs.Prelude.{Option, None, Some, slice_get}
+use Rattle.std.specs.Prelude.{Option, None, Some, Result, slice_get}
 use Rattle.std.specs.List.{AllByRecursion}
-use Rattle.mesa_schema.specs.Columns.{Columns}
+use Rattle.mesa_file.specs.declared.damage.Damage.{Damage}
+use Rattle.mesa_schema.specs.declared.rows.Row.{Row}
+use Rattle.mesa_delta.specs.declared.error.FileError.{FileError}
+use Rattle.mesa_delta.specs.declared.error.FileError.TheVariants.{Read}
 use Rattle.mesa_delta.specs.declared.input.Input.{Input}
+use Rattle.mesa_merge.specs.Damaged.{IsDamageOf}
+use Rattle.mesa_merge.specs.Faults.{HaveFaultCause, faults_of}
 use Rattle.mesa_tasks.specs.declared.merging.Spare.{Spare}
-use Rattle.mesa_split.specs.Lending.{AreEmpty, AreLent, answers_of, items_of, lists_in, lists_of, low_at, returned}
-use Rattle.mesa_split.specs.Parts.{HasCut, HaveCut}
+use Rattle.mesa_split.specs.Lending.{AreEmpty, AreLent, IsDamageIn, Moved, counts_in, items_of, lists_in, lists_of, own_in, returned}
 use Rattle.mesa_split.specs.declared.parts.Part.{Part}
 
 -- ---- lists
@@ -32,10 +36,6 @@ pub any_at : {A : Type 0} (xs : List A) (i : ℕ) (d e : A) → i < length xs �
 any_at [] i d e lt = absurd (omega (arith, lt))
 any_at (x ∷ xs) zero d e lt = refl
 any_at (x ∷ xs) (suc i) d e lt = any_at xs i d e (omega (arith, lt))
-
-low_next : (k : List ℕ) (ks : List (List ℕ)) (i : ℕ) → low_at (Some k) ks i ≡ slice_get (k ∷ ks) i
-low_next k ks zero = refl
-low_next k ks (suc i) = refl
 
 module _ {R : Type 0} where
   -- ---- one list more is lent
@@ -132,13 +132,6 @@ module _ {R : Type 0} where
   pub parts_count : (ps : List (Part R)) → length (lists_in ps) ≡ length ps
   parts_count ps = length-map ps (λ (p : Part R). p.inputs)
 
-  pub answers_more : (ps : List (Part R)) (n : ℕ) (p : Part R) → slice_get ps n ≡ Some p → answers_of (take (n + 1) ps) ≡ answers_of (take n ps) ++ p.rows ∷ []
-  answers_more ps n p is = rw add-one (steps ps n is) where
-    steps : (ps : List (Part R)) (n : ℕ) → slice_get ps n ≡ Some p → answers_of (take (suc n) ps) ≡ answers_of (take n ps) ++ p.rows ∷ []
-    steps [] n is = absurd cc
-    steps (x ∷ xs) zero is = let same : x ≡ p = cc in ap (λ (q : Part R). q.rows ∷ []) same
-    steps (x ∷ xs) (suc n) is = ap (λ rs. x.rows ∷ rs) (steps xs n is)
-
   pub list_at : (ps : List (Part R)) (n : ℕ) (p : Part R) (d : Vec (Input R) Global) → slice_get ps n ≡ Some p → p.inputs ≡ get_or (lists_in ps) n d
   list_at [] n p d is = absurd cc
   list_at (x ∷ xs) zero p d is = let same : p ≡ x = cc in ap (λ (q : Part R). q.inputs) same
@@ -146,46 +139,73 @@ module _ {R : Type 0} where
 
   -- ---- all at once
 
-  module _ (bytes : R → Option (List ℕ)) (faults size : R → ℕ) (s : Columns) where
-    -- of each part its inputs were merged between its ends
-    abbrev Each : Option (List ℕ) → List (List ℕ) → List (Part R) → List (Part R) → Type 0
-    Each low keys ps qs = (i : ℕ) (d : Part R) → i < length ps → HasCut bytes faults size s (low_at low keys i) (slice_get keys i) (get_or ps i d).inputs.items (get_or qs i d).inputs.items (get_or qs i d).rows
+  -- what was known of all lists stays where that of the parts does
+  pub lent_same : {A : Type 0} (f : List (Input R) → A) (olds nows : List (Vec (Input R) Global)) (ps qs : List (Part R)) → AreLent olds nows (lists_in ps) → map (λ (q : Part R). f q.inputs.items) qs ≡ map (λ (p : Part R). f p.inputs.items) ps
+      → map f (items_of (returned nows (lists_in qs))) ≡ map f (items_of olds)
+  lent_same f olds nows [] [] lent same = ap (λ (ls : List (Vec (Input R) Global)). map f (items_of ls)) (returned_none nows ∙ lent)
+  lent_same f olds nows [] (q ∷ qs) lent same = absurd cc
+  lent_same f [] nows (p ∷ ps) qs lent same = absurd lent
+  lent_same f (o ∷ os) [] (p ∷ ps) qs lent same = absurd lent
+  lent_same f (o ∷ os) (n ∷ ns) (p ∷ ps) [] lent same = absurd cc
+  lent_same {A = A} f (o ∷ os) (n ∷ ns) (p ∷ ps) (q ∷ qs) lent same = λ i.
+      (ap (head (f q.inputs.items)) same ∙ ap (λ (l : Vec (Input R) Global). f l.items) lent.0) i ∷ lent_same f os ns ps qs lent.2 (ap tail same) i where
+        head : A → List A → A
+        head d [] = d
+        head d (x ∷ xs) = x
 
-    each_next : (low : Option (List ℕ)) (k : List ℕ) (ks : List (List ℕ)) (p q : Part R) (ps qs : List (Part R)) → Each low (k ∷ ks) (p ∷ ps) (q ∷ qs) → Each (Some k) ks ps qs
-    each_next low k ks p q ps qs each = λ i d lt.
-        subst (λ l. HasCut bytes faults size s l (slice_get ks i) (get_or ps i d).inputs.items (get_or qs i d).inputs.items (get_or qs i d).rows) (sym (low_next k ks i)) (each (suc i) d (omega (arith, lt)))
+        tail : List A → List A
+        tail [] = []
+        tail (x ∷ xs) = xs
 
-    -- where the first lists were lent to parts, merged and given back, lists were merged side by side
-    pub have_cut : (low : Option (List ℕ)) (keys : List (List ℕ)) (olds nows : List (Vec (Input R) Global)) (ps qs : List (Part R)) → length ps ≡ length keys + 1 → length qs ≡ length ps → AreLent olds nows (lists_in ps) → Each low keys ps qs
-        → HaveCut bytes faults size s low keys (items_of olds) (items_of (returned nows (lists_in qs))) (answers_of qs)
-    have_cut low keys olds nows [] qs count same lent each = absurd (omega (arith, count))
-    have_cut low keys olds nows (p ∷ ps) [] count same lent each = absurd (omega (arith, same))
-    have_cut low keys [] nows (p ∷ ps) (q ∷ qs) count same lent each = absurd lent
-    have_cut low keys (o ∷ os) [] (p ∷ ps) (q ∷ qs) count same lent each = absurd lent
-    have_cut low [] (o ∷ os) (n ∷ ns) (p ∷ []) (q ∷ []) count same lent each = (
-      subst (λ (l : Vec (Input R) Global). HasCut bytes faults size s low None l.items q.inputs.items q.rows) lent.0 (each 0 p (omega arith)),
-      ap items_of (returned_none ns ∙ lent.2),
-    )
-    have_cut low [] (o ∷ os) (n ∷ ns) (p ∷ []) (q ∷ r ∷ qs) count same lent each = absurd (omega (arith, same))
-    have_cut low [] (o ∷ os) (n ∷ ns) (p ∷ t ∷ ps) (q ∷ qs) count same lent each = absurd (omega (arith, count))
-    have_cut low (k ∷ ks) (o ∷ os) (n ∷ ns) (p ∷ ps) (q ∷ qs) count same lent each = (
-      subst (λ (l : Vec (Input R) Global). HasCut bytes faults size s low (Some k) l.items q.inputs.items q.rows) lent.0 (each 0 p (omega arith)),
-      have_cut (Some k) ks os ns ps qs (omega (arith, count)) (omega (arith, same)) lent.2 (each_next low k ks p q ps qs each),
-    )
+  -- so do the counts move
+  pub lent_moved : (faults : R → ℕ) (olds nows : List (Vec (Input R) Global)) (ps qs : List (Part R)) (rs : List (Result (List Row) FileError)) → AreLent olds nows (lists_in ps) → Moved (counts_in faults ps) (counts_in faults qs) rs
+      → Moved (map (faults_of faults) (items_of olds)) (map (faults_of faults) (items_of (returned nows (lists_in qs)))) rs
+  lent_moved faults olds nows ps qs [] lent h = lent_same (faults_of faults) olds nows ps qs lent h
+  lent_moved faults olds nows [] qs (r ∷ rs) lent h = absurd h
+  lent_moved faults olds nows (p ∷ ps) [] (r ∷ rs) lent h = absurd h
+  lent_moved faults [] nows (p ∷ ps) (q ∷ qs) (r ∷ rs) lent h = absurd lent
+  lent_moved faults (o ∷ os) [] (p ∷ ps) (q ∷ qs) (r ∷ rs) lent h = absurd lent
+  lent_moved faults (o ∷ os) (n ∷ ns) (p ∷ ps) (q ∷ qs) (r ∷ rs) lent h = (
+    subst (λ (l : Vec (Input R) Global). HaveFaultCause {T = List Row} {E = FileError} (λ e. e ≡ Read) (faults_of faults l.items) (faults_of faults q.inputs.items) r) lent.0 h.0,
+    lent_moved faults os ns ps qs rs lent.2 h.1,
+  )
 
-    -- each part's inputs may be merged where all lists may
-    pub parts_ready : (P : List (Input R) → Type 0) (olds nows : List (Vec (Input R) Global)) (ps : List (Part R)) → AreLent olds nows (lists_in ps) → ((i : ℕ) (d : Vec (Input R) Global) → i < length olds → P (get_or olds i d).items) → (i : ℕ) (d : Part R) → i < length ps → P (get_or ps i d).inputs.items
-    parts_ready P olds nows [] lent all i d lt = absurd (omega (arith, lt))
-    parts_ready P [] nows (p ∷ ps) lent all i d lt = absurd lent
-    parts_ready P (o ∷ os) [] (p ∷ ps) lent all i d lt = absurd lent
-    parts_ready P (o ∷ os) (n ∷ ns) (p ∷ ps) lent all zero d lt = subst (λ (l : Vec (Input R) Global). P l.items) (sym lent.0) (all 0 o (omega arith))
-    parts_ready P (o ∷ os) (n ∷ ns) (p ∷ ps) lent all (suc i) d lt = parts_ready P os ns ps lent.2 (λ j e less. all (suc j) e (omega (arith, less))) i d (omega (arith, lt))
+  -- what holds of all lists, and of what the parts have, holds of all once they are back
+  pub lent_all : (P : List (Input R) → Type 0) (olds nows : List (Vec (Input R) Global)) (ps qs : List (Part R)) → AreLent olds nows (lists_in ps) → length qs ≡ length ps → AllByRecursion P (items_of olds) → AllByRecursion (λ (q : Part R). P q.inputs.items) qs → AllByRecursion P (items_of (returned nows (lists_in qs)))
+  lent_all P olds nows [] [] lent same all each = subst (λ (ls : List (Vec (Input R) Global)). AllByRecursion P (items_of ls)) (sym (returned_none nows ∙ lent)) all
+  lent_all P olds nows [] (q ∷ qs) lent same all each = absurd (omega (arith, same))
+  lent_all P olds nows (p ∷ ps) [] lent same all each = absurd (omega (arith, same))
+  lent_all P [] nows (p ∷ ps) (q ∷ qs) lent same all each = absurd lent
+  lent_all P (o ∷ os) [] (p ∷ ps) (q ∷ qs) lent same all each = absurd lent
+  lent_all P (o ∷ os) (n ∷ ns) (p ∷ ps) (q ∷ qs) lent same all each = (each.0, lent_all P os ns ps qs lent.2 (omega (arith, same)) all.1 each.1)
 
--- what holds of all lists
-pub lists_ready : {R : Type 0} (P : List (Input R) → Type 0) (own : Vec (Input R) Global) (ss : List (Spare R)) → P own.items → AllByRecursion (λ (s : Spare R). P s.inputs.items) ss → (i : ℕ) (d : Vec (Input R) Global) → i < length (lists_of own ss) → P (get_or (lists_of own ss) i d).items
-lists_ready {R = R} P own ss one all zero d lt = one
-lists_ready {R = R} P own ss one all (suc i) d lt = at ss all i (omega (arith, lt)) where
-  at : (ss : List (Spare R)) → AllByRecursion (λ (s : Spare R). P s.inputs.items) ss → (i : ℕ) → i < length (map (λ (s : Spare R). s.inputs) ss) → P (get_or (map (λ (s : Spare R). s.inputs) ss) i d).items
-  at [] all i lt = absurd (omega (arith, lt))
-  at (s ∷ ss) all zero lt = all.0
-  at (s ∷ ss) all (suc i) lt = at ss all.1 i (omega (arith, lt))
+  -- what holds of all lists holds of those that the parts got
+  pub parts_all : (P : List (Input R) → Type 0) (olds nows : List (Vec (Input R) Global)) (ps : List (Part R)) → AreLent olds nows (lists_in ps) → AllByRecursion P (items_of olds) → AllByRecursion (λ (p : Part R). P p.inputs.items) ps
+  parts_all P olds nows [] lent all = tt
+  parts_all P [] nows (p ∷ ps) lent all = absurd lent
+  parts_all P (o ∷ os) [] (p ∷ ps) lent all = absurd lent
+  parts_all P (o ∷ os) (n ∷ ns) (p ∷ ps) lent all = (subst (λ (l : Vec (Input R) Global). P l.items) (sym lent.0) all.0, parts_all P os ns ps lent.2 all.1)
+
+  -- damage that a part's inputs have is of one of the lists
+  pub damaged_list : (bytes : R → Option (List ℕ)) (size : R → ℕ) (olds nows : List (Vec (Input R) Global)) (ps qs : List (Part R)) (d : Damage) → AreLent olds nows (lists_in ps) → length qs ≡ length ps → IsDamageIn bytes size qs d
+      → (at : ℕ) × (n : List (Input R)) × (slice_get (items_of (returned nows (lists_in qs))) at ≡ Some n) × IsDamageOf bytes size n d
+  damaged_list bytes size olds nows ps [] d lent same some = absurd some
+  damaged_list bytes size olds nows [] (q ∷ qs) d lent same some = absurd (omega (arith, same))
+  damaged_list bytes size [] nows (p ∷ ps) (q ∷ qs) d lent same some = absurd lent
+  damaged_list bytes size (o ∷ os) [] (p ∷ ps) (q ∷ qs) d lent same some = absurd lent
+  damaged_list bytes size (o ∷ os) (n ∷ ns) (p ∷ ps) (q ∷ qs) d lent same some = elim some [
+    | inl here ↦ (0, q.inputs.items, refl, here)
+    | inr more ↦ (let there = damaged_list bytes size os ns ps qs d lent.2 (omega (arith, same)) more in (suc there.0, there.1, there.2, there.3))
+  ]
+
+  -- the first part has the own inputs
+  pub own_lent : (own now : Vec (Input R) Global) (os ns : List (Spare R)) (ps : List (Part R)) → AreLent (lists_of own os) (lists_of now ns) (lists_in ps) → 0 < length ps → own_in ps ≡ own.items
+  own_lent own now os ns [] lent some = absurd (omega (arith, some))
+  own_lent own now os ns (p ∷ ps) lent some = ap (λ (l : Vec (Input R) Global). l.items) lent.0
+
+-- what holds of the own inputs and of the spares' holds of all lists
+pub lists_all : {R : Type 0} (P : List (Input R) → Type 0) (own : Vec (Input R) Global) (ss : List (Spare R)) → P own.items → AllByRecursion (λ (s : Spare R). P s.inputs.items) ss → AllByRecursion P (items_of (lists_of own ss))
+lists_all {R = R} P own ss one all = (one, each ss all) where
+  each : (ss : List (Spare R)) → AllByRecursion (λ (s : Spare R). P s.inputs.items) ss → AllByRecursion P (items_of (map (λ (s : Spare R). s.inputs) ss))
+  each [] all = tt
+  each (s ∷ ss) all = (all.0, each ss all.1)

@@ -1,6 +1,6 @@
 -- A task that was merged in parts.
 use Rattle.std.proofs.Common.{◌≡◌, ◌⊎◌, inl, inr, ℕ, zero, suc, ◌<◌, List, [], ◌∷◌, ◌++◌, get_or, map, refl, sym, ap, subst, ◌∙◌, arith, Global, Vec}
-use Rattle.std.specs.Prelude.{Err, Option, None, Result, Some, slice_get, flat_map, option_map}
+use Rattle.std.specs.Prelude.{Option, None, Result, Some, slice_get, flat_map, option_map}
 use Rattle.std.specs.List.{AllByRecursion}
 use Rattle.sha2.specs.Sha256.{sha256}
 use Rattle.mesa_schema.specs.declared.rows.Row.{Row}
@@ -11,19 +11,16 @@ use Rattle.mesa_schema.specs.Lineages.{IsLineage}
 use Rattle.mesa_schema.specs.Rows.{AreRowsOf}
 use Rattle.mesa_schema.proofs.PresentRows.{present_form}
 use Rattle.mesa_fold.specs.Bound.{FoldsTotals}
-use Rattle.mesa_fold.specs.mesa_batch.Totals.{abs_total, sum_bound}
 use Rattle.mesa_delta.specs.mesa_block.Layout.{Layout}
 use Rattle.mesa_delta.specs.mesa_block.Rows.{IsRow}
 use Rattle.mesa_delta.specs.Indexed.{IsIndexOf}
 use Rattle.mesa_delta.specs.Summary.{file_layout}
-use Rattle.mesa_delta.specs.declared.error.FileError.{FileError}
-use Rattle.mesa_delta.specs.declared.error.FileError.TheVariants.{Damaged, Read}
 use Rattle.mesa_delta.specs.declared.input.Input.{Input}
 use Rattle.mesa_cursor.specs.Cursors.{IsInput, lift_by}
-use Rattle.mesa_cursor.specs.Cut.{CutsRise}
+use Rattle.mesa_cursor.proofs.Cutting.{cut_none}
 use Rattle.mesa_file.specs.declared.damage.Damage.{Damage}
 use Rattle.mesa_merge.specs.Damaged.{IsDamageOf}
-use Rattle.mesa_merge.specs.Faults.{HaveFaultCause, faults_of}
+use Rattle.mesa_merge.specs.Faults.{faults_of}
 use Rattle.mesa_merge.specs.Inputs.{AreInputs as AreMergeable}
 use Rattle.mesa_merge.specs.Inputs.{AreTold, Known, known_of, knowns_of, lifted_parts}
 use Rattle.mesa_merge.proofs.Bounds.{full_all}
@@ -39,20 +36,17 @@ use Rattle.mesa_tasks.specs.GivingBack.{own_inputs, spare_inputs}
 use Rattle.mesa_tasks.specs.Tasks.{HaveMerged, IsMerged}
 use Rattle.mesa_tasks.specs.declared.made.MadeFiles.{MadeFiles}
 use Rattle.mesa_tasks.specs.declared.merging.CompactError.{CompactError}
-use Rattle.mesa_tasks.specs.declared.merging.CompactError.TheVariants.{File}
 use Rattle.mesa_tasks.specs.declared.merging.Spare.{Spare}
 use Rattle.mesa_tasks.proofs.Spares.{spares_are, spares_told}
 use Rattle.mesa_compact.specs.Bounded.{AreBounded}
 use Rattle.mesa_compact.specs.Damaged.{IsMergeDamage}
 use Rattle.mesa_compact.specs.Tasks.{KnownView, known_spares, known_view, known_views}
 use Rattle.mesa_compact.specs.Writing.{HasCauses}
-use Rattle.mesa_compact.proofs.Causing.{caused_file, caused_left, caused_on, caused_right}
+use Rattle.mesa_compact.proofs.Causing.{caused_left, caused_on, caused_right}
 use Rattle.mesa_compact.proofs.Viewing.{faults_append, mergeable, of_table}
-use Rattle.mesa_split.specs.Lending.{items_of, lists_of, views_of}
-use Rattle.mesa_split.specs.Parts.{ArePartsOf, HaveCut, gained}
-use Rattle.mesa_split.specs.Split.{IsGained, IsSpareDamage}
-use Rattle.mesa_split.proofs.Joined.{parts_fold}
-use Rattle.mesa_split.proofs.Verdicts.{Tells, have_parts}
+use Rattle.mesa_split.specs.Lending.{Tells, items_of, lists_of, views_of}
+use Rattle.mesa_split.specs.Parts.{IsPartOf}
+use Rattle.mesa_split.specs.Split.{IsSpareDamage}
 
 -- ---- what is told
 
@@ -103,10 +97,10 @@ lists_each {R = R} bytes own ss all spares = (all, each ss spares) where
   each [] spares = tt
   each (s ∷ ss) spares = (spares_each bytes own.items s.inputs.items spares.0, each ss spares.1)
 
--- the parts, one after the other, are the merge of the inputs
-pub parts_merge : {R : Type 0} (bytes : R → Option (List ℕ)) (s : Columns) (cuts : List (List ℕ)) (is : List (Input R)) (parts : List (List Row)) → CutsRise None cuts → ArePartsOf s None cuts (knowns_of bytes is) parts → IsMergeOf bytes s is (rows_of parts)
-parts_merge bytes s cuts is parts rise are = λ contents told.
-    parts_fold s cuts (knowns_of bytes is) parts contents rise are (told_knowns bytes is contents told) ∙ ap (folded (aggs_of s)) (present_knowns bytes is contents)
+-- the rows of the whole range are the merge of the inputs
+pub whole_merge : {R : Type 0} (bytes : R → Option (List ℕ)) (s : Columns) (is : List (Input R)) (rows : List Row) → IsPartOf s None None (knowns_of bytes is) rows → IsMergeOf bytes s is rows
+whole_merge bytes s is rows part = λ contents told.
+    part.told contents (told_knowns bytes is contents told) ∙ cut_none (folded (aggs_of s) (lifted_parts (knowns_of bytes is) contents)) ∙ ap (folded (aggs_of s)) (present_knowns bytes is contents)
 
 -- ---- sums
 
@@ -128,14 +122,18 @@ told_formed bytes l (i ∷ is) (rows ∷ contents) line are told zero =
     subst (λ (t : Lineage). AreRowsOf (columns_of t) (map (lifted own i.epoch (epoch_of own)) rows)) are.0.1 (lifted_forms own i.epoch rows (subst IsLineage (sym are.0.1) line) form)
 told_formed bytes l (i ∷ is) (rows ∷ contents) line are told (suc j) = told_formed bytes l is contents line are.1 told.1 j
 
--- where the inputs keep the bound, so do the rows of the parts
-pub parts_keep : {R : Type 0} (bytes : R → Option (List ℕ)) (l : Lineage) (cuts : List (List ℕ)) (is : List (Input R)) (parts : List (List Row)) → FoldsTotals → IsLineage l → AreInputsOf bytes l is → CutsRise None cuts → ArePartsOf (columns_of l) None cuts (knowns_of bytes is) parts
-    → AreBounded (columns_of l) (knowns_of bytes is) → KeepsSums (columns_of l) (rows_of parts)
-parts_keep bytes l cuts is parts law line are rise made b = λ c sum.
+-- where the inputs keep the bound, so do the rows that they fold to
+pub fold_keeps : {R : Type 0} (bytes : R → Option (List ℕ)) (l : Lineage) (is : List (Input R)) → FoldsTotals → IsLineage l → AreInputsOf bytes l is → (b : AreBounded (columns_of l) (knowns_of bytes is)) → KeepsSums (columns_of l) (folded (aggs_of (columns_of l)) (lifted_parts (knowns_of bytes is) b.contents))
+fold_keeps bytes l is law line are b = λ c sum.
     let s : Columns = columns_of l in
     let all : List (List Row) = lifted_parts (knowns_of bytes is) b.contents in
-    let same : rows_of parts ≡ folded (aggs_of s) all = parts_fold s cuts (knowns_of bytes is) parts b.contents rise made b.told in
-    subst (λ rows. abs_total c rows < sum_bound) (sym same) (omega (arith, law (aggs_of s) all c sum (full_all s all (told_formed bytes l is b.contents line are b.told) (aggs_count s)), b.bound c sum))
+    omega (arith, law (aggs_of s) all c sum (full_all s all (told_formed bytes l is b.contents line are b.told) (aggs_count s)), b.bound c sum)
+
+-- and the rows of the whole range
+pub whole_keeps : {R : Type 0} (bytes : R → Option (List ℕ)) (l : Lineage) (is : List (Input R)) (rows : List Row) → FoldsTotals → IsLineage l → AreInputsOf bytes l is → IsPartOf (columns_of l) None None (knowns_of bytes is) rows → AreBounded (columns_of l) (knowns_of bytes is) → KeepsSums (columns_of l) rows
+whole_keeps bytes l is rows law line are part b =
+    let same = part.told b.contents b.told ∙ cut_none (folded (aggs_of (columns_of l)) (lifted_parts (knowns_of bytes is) b.contents)) in
+    subst (KeepsSums (columns_of l)) (sym same) (fold_keeps bytes l is law line are b)
 
 -- ---- lists before and after
 
@@ -277,30 +275,7 @@ module _ {R : Type 0} (bytes : R → Option (List ℕ)) where
   spares_read t [] all = tt
   spares_read t (s ∷ ss) all = (all.0.inputs, spares_read t ss all.1)
 
--- ---- the parts of a task that were all merged
-
-pub made_parts : {R : Type 0} (bytes : R → Option (List ℕ)) (faults size : R → ℕ) (l : Lineage) (s : Columns) (cuts keys : List (List ℕ)) (old new : Vec (Input R) Global) (os ns : List (Spare R)) (rs : List (Result (List Row) FileError)) → s ≡ columns_of l → keys ≡ cuts
-    → HaveCut bytes faults size s None keys (items_of (lists_of old os)) (items_of (lists_of new ns)) rs → AllByRecursion (λ (x : Spare R). AreSpareInputs bytes old.items x.inputs.items) os → AllByRecursion IsGained rs → ArePartsOf (columns_of l) None cuts (knowns_of bytes old.items) (map gained rs)
-made_parts bytes faults size l s cuts keys old new os ns rs columns same cut spares all =
-    let here = subst (λ (t : Columns). HaveCut bytes faults size t None keys (items_of (lists_of old os)) (items_of (lists_of new ns)) rs) columns cut in
-    subst (λ (ks : List (List ℕ)). ArePartsOf (columns_of l) None ks (knowns_of bytes old.items) (map gained rs)) same
-    (have_parts bytes faults size (columns_of l) old.items None keys (items_of (lists_of old os)) (items_of (lists_of new ns)) rs here (lists_tell bytes old os spares) all)
-
 -- ---- causes
-
-pub split_failed : {R T U : Type 0} (faults : R → ℕ) (IsTold : Damage → Type 0) (a : ℕ) (old new more : List (Input R)) (ss os ns us : List (Spare R)) (e : FileError) → os ≡ ss → us ≡ ns
-    → HaveFaultCause {T = T} {E = FileError} (λ x. x ≡ Read) (faults_of faults (old ++ more ++ flat_map spare_inputs os)) (faults_of faults (new ++ more ++ flat_map spare_inputs ns)) (Err e) → ((d : Damage) → e ≡ Damaged d → IsTold d)
-    → HasCauses {T = U} a a (faults_of faults (old ++ more ++ flat_map spare_inputs ss)) (faults_of faults (new ++ more ++ flat_map spare_inputs us)) IsTold (Err (File e))
-split_failed {T = T} {U = U} faults IsTold a old new more ss os ns us e lent back cause told =
-    let before = subst (λ xs. HaveFaultCause {T = T} {E = FileError} (λ x. x ≡ Read) (faults_of faults (old ++ more ++ flat_map spare_inputs xs)) (faults_of faults (new ++ more ++ flat_map spare_inputs ns)) (Err e)) lent cause in
-    let now = subst (λ xs. HaveFaultCause {T = T} {E = FileError} (λ x. x ≡ Read) (faults_of faults (old ++ more ++ flat_map spare_inputs ss)) (faults_of faults (new ++ more ++ flat_map spare_inputs xs)) (Err e)) (sym back) before in
-    caused_file {T = T} {U = U} IsTold a a _ _ _ e refl refl now told
-
--- the counts stay where all parts were merged
-pub split_quiet : {R : Type 0} (faults : R → ℕ) (old new more : List (Input R)) (ss os ns us : List (Spare R)) → os ≡ ss → us ≡ ns
-    → faults_of faults (new ++ more ++ flat_map spare_inputs ns) ≡ faults_of faults (old ++ more ++ flat_map spare_inputs os) → faults_of faults (new ++ more ++ flat_map spare_inputs us) ≡ faults_of faults (old ++ more ++ flat_map spare_inputs ss)
-split_quiet faults old new more ss os ns us lent back quiet =
-    ap (λ xs. faults_of faults (new ++ more ++ flat_map spare_inputs xs)) back ∙ quiet ∙ ap (λ xs. faults_of faults (old ++ more ++ flat_map spare_inputs xs)) lent
 
 pub split_written : {R T U : Type 0} (faults : R → ℕ) (IsTold Told : Damage → Type 0) (a b : ℕ) (is js vs ws : List (Input R)) (os ns : List (Spare R)) (r : Result T CompactError) (q : Result U CompactError)
     → faults_of faults (js ++ vs ++ flat_map spare_inputs ns) ≡ faults_of faults (is ++ vs ++ flat_map spare_inputs os) → HasCauses a b (faults_of faults vs) (faults_of faults ws) IsTold r → SameEnd r q → ((d : Damage) → IsTold d → Told d)

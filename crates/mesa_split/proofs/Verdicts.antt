@@ -1,6 +1,6 @@
 -- What holds of lists of inputs that were merged side by side.
 use Rattle.std.proofs.Common.{◌≡◌, inl, inr, ℕ, zero, suc, ◌+◌, ◌<◌, ◌≤◌, List, [], ◌∷◌, ◌++◌, length, length-append, get_or, take, add-one, map, refl, sym, ap, subst, ◌∙◌, arith, append_assoc, Global, Vec}
-use Rattle.std.specs.Prelude.{Option, None, Some, slice_get, Result, Ok, Err, IfErr, flat_map}
+use Rattle.std.specs.Prelude.{Option, None, Some, slice_get, Result, Ok, Err, IfErr, IfOk, flat_map}
 use Rattle.std.specs.List.{AllByRecursion}
 use Rattle.mesa_file.specs.declared.damage.Damage.{Damage}
 use Rattle.mesa_schema.specs.declared.rows.Row.{Row}
@@ -22,8 +22,9 @@ use Rattle.mesa_tasks.specs.declared.merging.TaskView.{TaskView}
 use Rattle.mesa_compact.specs.Bounded.{AreBounded}
 use Rattle.mesa_compact.proofs.Viewing.{faults_append}
 use Rattle.mesa_split.proofs.Collected.{memory_caused}
-use Rattle.mesa_split.specs.Lending.{items_of, lists_of, views_of}
-use Rattle.mesa_split.specs.Parts.{ArePartsOf, HasCut, HaveCut, IsPartOf, gained, joined}
+use Rattle.mesa_split.specs.Lending.{AllTell, HavePieces, IsDamageIn, Moved, Tells, answers_of, counts_in, items_of, knowns_in, lists_of, views_of}
+use Rattle.mesa_split.specs.Parts.{HasPiece, IsPartOf, IsPieceOf, gained, joined, low_at}
+use Rattle.mesa_split.specs.declared.parts.Part.{Part}
 use Rattle.mesa_split.specs.Split.{IsFailureOf, IsGained, IsNotBy, IsSomeBy}
 
 -- ---- counts of faults, list by list
@@ -47,13 +48,6 @@ rose_there [] [] us vs h g = g
 rose_there [] (y ∷ ys) us vs h g = absurd h
 rose_there (x ∷ xs) [] us vs h g = absurd h
 rose_there (x ∷ xs) (y ∷ ys) us vs h g = inr (rose_there xs ys us vs h.1 g)
-
--- the counts of each list that was merged moved as its answer says, and the others stay
-abbrev Moved : List (List ℕ) → List (List ℕ) → Answers → Type 0
-Moved bs ns [] = ns ≡ bs
-Moved [] ns (r ∷ rs) = ⊥
-Moved (b ∷ bs) [] (r ∷ rs) = ⊥
-Moved (b ∷ bs) (n ∷ ns) (r ∷ rs) = HaveFaultCause {T = List Row} {E = FileError} (λ e. e ≡ Read) b n r × Moved bs ns rs
 
 -- all counts, with further ones behind each list
 abbrev flat : List (List ℕ) → List (List ℕ) → List ℕ
@@ -85,14 +79,14 @@ flat_rose (b ∷ bs) (n ∷ ns) (t ∷ ts) (r ∷ rs) h some = elim some [
 ]
 
 -- where no read failed, no count moved
-moved_same : (bs ns : List (List ℕ)) (rs : Answers) → Moved bs ns rs → AllByRecursion (IsNotBy Read) rs → ns ≡ bs
+pub moved_same : (bs ns : List (List ℕ)) (rs : Answers) → Moved bs ns rs → AllByRecursion (IsNotBy Read) rs → ns ≡ bs
 moved_same bs ns [] h none = h
 moved_same [] ns (r ∷ rs) h none = absurd h
 moved_same (b ∷ bs) [] (r ∷ rs) h none = absurd h
 moved_same (b ∷ bs) (n ∷ ns) (Ok v ∷ rs) h none = λ i. h.0.quiet i ∷ moved_same bs ns rs h.1 none.1 i
 moved_same (b ∷ bs) (n ∷ ns) (Err e ∷ rs) h none = λ i. h.0.other (λ is. none.0 (ap Err is)) i ∷ moved_same bs ns rs h.1 none.1 i
 
-gained_not : (rs : Answers) → AllByRecursion IsGained rs → AllByRecursion (IsNotBy Read) rs
+pub gained_not : (rs : Answers) → AllByRecursion IsGained rs → AllByRecursion (IsNotBy Read) rs
 gained_not [] all = tt
 gained_not (Ok v ∷ rs) all = ((λ (is : Ok v ≡ Err Read). cc), gained_not rs all.1)
 gained_not (Err e ∷ rs) all = absurd all.0
@@ -170,94 +164,66 @@ module _ {R : Type 0} (faults : R → ℕ) where
   unread_lists {T = T} old new more os ns views same =
       memory_caused {T = T} _ _ (flat_lists new more ns ∙ (λ i. flat (counts_of (items_of (same i))) (faults_of faults more ∷ map rest_of (views i))) ∙ sym (flat_lists old more os))
 
--- ---- what was merged side by side
+-- ---- pieces that were merged side by side
 
--- other inputs tell the rows that these do
-abbrev pub Tells : {R : Type 0} → (R → Option (List ℕ)) → List (Input R) → List (Input R) → Type 0
-Tells bytes own other = (contents : List (List Row)) → AreTold (knowns_of bytes own) contents → AreTold (knowns_of bytes other) contents × (lifted_parts (knowns_of bytes other) contents ≡ lifted_parts (knowns_of bytes own) contents)
+part_told : {R : Type 0} (bytes : R → Option (List ℕ)) (s : Columns) (own other : List (Input R)) (low high : Option (List ℕ)) (rows : List Row) → Tells bytes own other → IsPartOf s low high (knowns_of bytes other) rows → IsPartOf s low high (knowns_of bytes own) rows
+part_told bytes s own other low high rows tells p = record {
+  form = p.form;
+  rise = p.rise;
+  within = p.within;
+  told = λ contents told. (let both = tells contents told in p.told contents both.0 ∙ ap (λ parts. cut low high (folded (aggs_of s) parts)) both.1);
+}
 
-module _ {R : Type 0} (bytes : R → Option (List ℕ)) (faults size : R → ℕ) (s : Columns) where
-  abbrev Cut : Option (List ℕ) → List (List ℕ) → List (List (Input R)) → List (List (Input R)) → Answers → Type 0
-  Cut low keys os ns rs = HaveCut bytes faults size s low keys os ns rs
+-- the rows of a piece, told by the own inputs
+pub piece_told : {R : Type 0} (bytes : R → Option (List ℕ)) (s : Columns) (cuts : List (List ℕ)) (at : ℕ) (own other : List (Input R)) (r : Result (List Row) FileError) → Tells bytes own other → IfOk r (IsPieceOf s cuts at (knowns_of bytes other)) → IsGained r → IsPieceOf s cuts at (knowns_of bytes own) (gained r)
+piece_told bytes s cuts at own other (Ok rows) tells h all = ((λ le. part_told bytes s own other (low_at None cuts at) (slice_get cuts at) rows tells (h.0 le)), h.1)
+piece_told bytes s cuts at own other (Err e) tells h all = absurd all
 
-  pub have_moved : (low : Option (List ℕ)) (keys : List (List ℕ)) (os ns : List (List (Input R))) (rs : Answers) → Cut low keys os ns rs → Moved (map (faults_of faults) os) (map (faults_of faults) ns) rs
-  have_moved low keys [] ns rs h = absurd h
-  have_moved low keys (o ∷ os) [] rs h = absurd h
-  have_moved low keys (o ∷ os) (n ∷ ns) [] h = absurd h
-  have_moved low [] (o ∷ os) (n ∷ ns) (r ∷ []) h = (h.0.cause, ap (map (faults_of faults)) h.1)
-  have_moved low [] (o ∷ os) (n ∷ ns) (r ∷ q ∷ rs) h = absurd h
-  have_moved low (k ∷ ks) (o ∷ os) (n ∷ ns) (r ∷ rs) h = (h.0.cause, have_moved (Some k) ks os ns rs h.1)
+module _ {R : Type 0} (bytes : R → Option (List ℕ)) (faults size : R → ℕ) (s : Columns) (cuts : List (List ℕ)) where
+  abbrev Pieces : ℕ → List (Part R) → List (Part R) → Type 0
+  Pieces at os ns = HavePieces bytes faults size s cuts at os ns
 
-  pub have_known : (low : Option (List ℕ)) (keys : List (List ℕ)) (os ns : List (List (Input R))) (rs : Answers) → Cut low keys os ns rs → map (knowns_of bytes) ns ≡ map (knowns_of bytes) os
-  have_known low keys [] ns rs h = absurd h
-  have_known low keys (o ∷ os) [] rs h = absurd h
-  have_known low keys (o ∷ os) (n ∷ ns) [] h = absurd h
-  have_known low [] (o ∷ os) (n ∷ ns) (r ∷ []) h = λ i. h.0.known i ∷ map (knowns_of bytes) (h.1 i)
-  have_known low [] (o ∷ os) (n ∷ ns) (r ∷ q ∷ rs) h = absurd h
-  have_known low (k ∷ ks) (o ∷ os) (n ∷ ns) (r ∷ rs) h = λ i. h.0.known i ∷ have_known (Some k) ks os ns rs h.1 i
+  pub pieces_moved : (at : ℕ) (os ns : List (Part R)) → Pieces at os ns → Moved (counts_in faults os) (counts_in faults ns) (answers_of ns)
+  pieces_moved at [] [] h = refl
+  pieces_moved at [] (n ∷ ns) h = absurd h
+  pieces_moved at (o ∷ os) [] h = absurd h
+  pieces_moved at (o ∷ os) (n ∷ ns) h = (h.0.cause, pieces_moved (suc at) os ns h.1)
 
-  pub have_inputs : (low : Option (List ℕ)) (keys : List (List ℕ)) (os ns : List (List (Input R))) (rs : Answers) → Cut low keys os ns rs → AllByRecursion (AllByRecursion (IsInput bytes)) os → AllByRecursion (AllByRecursion (IsInput bytes)) ns
-  have_inputs low keys [] ns rs h all = absurd h
-  have_inputs low keys (o ∷ os) [] rs h all = absurd h
-  have_inputs low keys (o ∷ os) (n ∷ ns) [] h all = absurd h
-  have_inputs low [] (o ∷ os) (n ∷ ns) (r ∷ []) h all = (h.0.inputs, subst (AllByRecursion (AllByRecursion (IsInput bytes))) (sym h.1) all.1)
-  have_inputs low [] (o ∷ os) (n ∷ ns) (r ∷ q ∷ rs) h all = absurd h
-  have_inputs low (k ∷ ks) (o ∷ os) (n ∷ ns) (r ∷ rs) h all = (h.0.inputs, have_inputs (Some k) ks os ns rs h.1 all.1)
+  pub pieces_known : (at : ℕ) (os ns : List (Part R)) → Pieces at os ns → knowns_in bytes ns ≡ knowns_in bytes os
+  pieces_known at [] [] h = refl
+  pieces_known at [] (n ∷ ns) h = absurd h
+  pieces_known at (o ∷ os) [] h = absurd h
+  pieces_known at (o ∷ os) (n ∷ ns) h = λ i. h.0.known i ∷ pieces_known (suc at) os ns h.1 i
 
-  damaged_by_one : (low high : Option (List ℕ)) (o n : List (Input R)) (r : Result (List Row) FileError) (d : Damage) → HasCut bytes faults size s low high o n r → r ≡ Err (Damaged d) → IsDamageOf bytes size n d
-  damaged_by_one low high o n r d h is = (subst (λ (x : Result (List Row) FileError). IfErr x (λ e. (y : Damage) → e ≡ Damaged y → IsDamageOf bytes size n y)) is h.damaged) d refl
+  pub pieces_inputs : (at : ℕ) (os ns : List (Part R)) → Pieces at os ns → AllByRecursion (λ (p : Part R). AllByRecursion (IsInput bytes) p.inputs.items) ns
+  pieces_inputs at [] [] h = tt
+  pieces_inputs at [] (n ∷ ns) h = absurd h
+  pieces_inputs at (o ∷ os) [] h = absurd h
+  pieces_inputs at (o ∷ os) (n ∷ ns) h = (h.0.inputs, pieces_inputs (suc at) os ns h.1)
 
   -- damage that a part met is of its inputs
-  pub have_damaged : (low : Option (List ℕ)) (keys : List (List ℕ)) (os ns : List (List (Input R))) (rs : Answers) (d : Damage) → Cut low keys os ns rs → IsSomeBy (Damaged d) rs → (at : ℕ) × (n : List (Input R)) × (slice_get ns at ≡ Some n) × IsDamageOf bytes size n d
-  have_damaged low keys [] ns rs d h some = absurd h
-  have_damaged low keys (o ∷ os) [] rs d h some = absurd h
-  have_damaged low keys (o ∷ os) (n ∷ ns) [] d h some = absurd h
-  have_damaged low [] (o ∷ os) (n ∷ ns) (r ∷ []) d h some = elim some [
-    | inl is ↦ (0, n, refl, damaged_by_one low None o n r d h.0 is)
-    | inr none ↦ absurd none
-  ]
-  have_damaged low [] (o ∷ os) (n ∷ ns) (r ∷ q ∷ rs) d h some = absurd h
-  have_damaged low (k ∷ ks) (o ∷ os) (n ∷ ns) (r ∷ rs) d h some = elim some [
-    | inl is ↦ (0, n, refl, damaged_by_one low (Some k) o n r d h.0 is)
-    | inr more ↦ (let there = have_damaged (Some k) ks os ns rs d h.1 more in (suc there.0, there.1, there.2, there.3))
+  pub pieces_damaged : (at : ℕ) (os ns : List (Part R)) (d : Damage) → Pieces at os ns → IsSomeBy (Damaged d) (answers_of ns) → IsDamageIn bytes size ns d
+  pieces_damaged at [] [] d h some = absurd some
+  pieces_damaged at [] (n ∷ ns) d h some = absurd h
+  pieces_damaged at (o ∷ os) [] d h some = absurd h
+  pieces_damaged at (o ∷ os) (n ∷ ns) d h some = elim some [
+    | inl is ↦ inl ((subst (λ (x : Result (List Row) FileError). IfErr x (λ e. (y : Damage) → e ≡ Damaged y → IsDamageOf bytes size n.inputs.items y)) is h.0.damaged) d refl)
+    | inr more ↦ inr (pieces_damaged (suc at) os ns d h.1 more)
   ]
 
-  part_told : (own other : List (Input R)) (low high : Option (List ℕ)) (rows : List Row) → Tells bytes own other → IsPartOf s low high (knowns_of bytes other) rows → IsPartOf s low high (knowns_of bytes own) rows
-  part_told own other low high rows tells p = record {
-    form = p.form;
-    rise = p.rise;
-    within = p.within;
-    told = λ contents told. (let both = tells contents told in p.told contents both.0 ∙ ap (λ parts. cut low high (folded (aggs_of s) parts)) both.1);
-  }
-
-  pub have_parts : (own : List (Input R)) (low : Option (List ℕ)) (keys : List (List ℕ)) (os ns : List (List (Input R))) (rs : Answers) → Cut low keys os ns rs → AllByRecursion (Tells bytes own) os → AllByRecursion IsGained rs → ArePartsOf s low keys (knowns_of bytes own) (map gained rs)
-  have_parts own low keys [] ns rs h tells all = absurd h
-  have_parts own low keys (o ∷ os) [] rs h tells all = absurd h
-  have_parts own low keys (o ∷ os) (n ∷ ns) [] h tells all = absurd h
-  have_parts own low [] (o ∷ os) (n ∷ ns) (Ok rows ∷ []) h tells all = part_told own o low None rows tells.0 h.0.rows
-  have_parts own low [] (o ∷ os) (n ∷ ns) (Err e ∷ []) h tells all = absurd all.0
-  have_parts own low [] (o ∷ os) (n ∷ ns) (r ∷ q ∷ rs) h tells all = absurd h
-  have_parts own low (k ∷ ks) (o ∷ os) (n ∷ ns) (Ok rows ∷ rs) h tells all = (part_told own o low (Some k) rows tells.0 h.0.rows, have_parts own (Some k) ks os ns rs h.1 tells.1 all.1)
-  have_parts own low (k ∷ ks) (o ∷ os) (n ∷ ns) (Err e ∷ rs) h tells all = absurd all.0
-
-  accepted_one : (own other n : List (Input R)) (low high : Option (List ℕ)) (r : Result (List Row) FileError) (d : Damage) → Tells bytes own other → HasCut bytes faults size s low high other n r → r ≡ Err (Damaged d) → AreBounded s (knowns_of bytes own) → ⊥
-  accepted_one own other n low high r d tells h is b =
+  accepted_one : (own other n : List (Input R)) (at : ℕ) (r : Result (List Row) FileError) (d : Damage) → Tells bytes own other → HasPiece bytes faults size s cuts at other n r → r ≡ Err (Damaged d) → AreBounded s (knowns_of bytes own) → ⊥
+  accepted_one own other n at r d tells h is b =
       let both = tells b.contents b.told in
       (subst (λ (x : Result (List Row) FileError). IfErr x (λ e. (y : Damage) → e ≡ Damaged y → (contents : List (List Row)) → AreTold (knowns_of bytes other) contents
       → KeepsBound (aggs_of s) [] (rows_of (lifted_parts (knowns_of bytes other) contents)) → ⊥)) is h.accepts) d refl b.contents both.0 (subst (λ parts. KeepsBound (aggs_of s) [] (rows_of parts)) (sym both.1) b.bound)
 
-  pub have_accepts : (own : List (Input R)) (low : Option (List ℕ)) (keys : List (List ℕ)) (os ns : List (List (Input R))) (rs : Answers) (d : Damage) → Cut low keys os ns rs → AllByRecursion (Tells bytes own) os → IsSomeBy (Damaged d) rs → AreBounded s (knowns_of bytes own) → ⊥
-  have_accepts own low keys [] ns rs d h tells some b = absurd h
-  have_accepts own low keys (o ∷ os) [] rs d h tells some b = absurd h
-  have_accepts own low keys (o ∷ os) (n ∷ ns) [] d h tells some b = absurd h
-  have_accepts own low [] (o ∷ os) (n ∷ ns) (r ∷ []) d h tells some b = elim some [
-    | inl is ↦ accepted_one own o n low None r d tells.0 h.0 is b
-    | inr none ↦ absurd none
-  ]
-  have_accepts own low [] (o ∷ os) (n ∷ ns) (r ∷ q ∷ rs) d h tells some b = absurd h
-  have_accepts own low (k ∷ ks) (o ∷ os) (n ∷ ns) (r ∷ rs) d h tells some b = elim some [
-    | inl is ↦ accepted_one own o n low (Some k) r d tells.0 h.0 is b
-    | inr more ↦ have_accepts own (Some k) ks os ns rs d h.1 tells.1 more b
+  pub pieces_accept : (own : List (Input R)) (at : ℕ) (os ns : List (Part R)) (d : Damage) → Pieces at os ns → AllTell bytes own os → IsSomeBy (Damaged d) (answers_of ns) → AreBounded s (knowns_of bytes own) → ⊥
+  pieces_accept own at [] [] d h tells some b = absurd some
+  pieces_accept own at [] (n ∷ ns) d h tells some b = absurd h
+  pieces_accept own at (o ∷ os) [] d h tells some b = absurd h
+  pieces_accept own at (o ∷ os) (n ∷ ns) d h tells some b = elim some [
+    | inl is ↦ accepted_one own o.inputs.items n.inputs.items at n.rows d tells.0 h.0 is b
+    | inr more ↦ pieces_accept own (suc at) os ns d h.1 tells.1 more b
   ]
 
 -- ---- part by part

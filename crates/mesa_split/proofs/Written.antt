@@ -99,16 +99,6 @@ joined_split rs zero = refl
 joined_split [] (suc i) = refl
 joined_split (x ∷ xs) (suc i) = ap (λ ys. gained x ++ ys) (joined_split xs i) ∙ sym (append_assoc (gained x) (joined (take i xs)) (joined (drop i xs)))
 
-pub joined_up_to : (rs : Answers) (i : ℕ) → keys_rise (joined rs) ≡ true → keys_rise (joined (take i rs)) ≡ true
-joined_up_to rs i h = front_rise (joined (take i rs)) (joined (drop i rs)) (ap keys_rise (sym (joined_split rs i)) ∙ h)
-
-pub joined_sums : (s : Columns) (rs : Answers) (i : ℕ) → KeepsSums s (joined rs) → KeepsSums s (joined (take i rs))
-joined_sums s rs i h = sums_front s (joined (take i rs)) (joined (drop i rs)) (subst (KeepsSums s) (joined_split rs i) h)
-
--- what leaves its type among the first parts does among all
-pub joined_leaves : (Leaves : List Row → Row → Type 0) (rs : Answers) (i : ℕ) → LeavesAmong Leaves (joined (take i rs)) → LeavesAmong Leaves (joined rs)
-joined_leaves Leaves rs i h = subst (LeavesAmong Leaves) (sym (joined_split rs i)) (among_before Leaves (joined (take i rs)) (joined (drop i rs)) h)
-
 all_front : (P : Row → Type 0) (xs ys : List Row) → AllByRecursion P (xs ++ ys) → AllByRecursion P xs × AllByRecursion P ys
 all_front P [] ys all = (tt, all)
 all_front P (x ∷ xs) ys all = let more = all_front P xs ys all.1 in ((all.0, more.0), more.1)
@@ -118,6 +108,21 @@ joined_form P [] i r all lt is = absurd (omega (arith, lt))
 joined_form P (x ∷ xs) zero r all lt is = subst (λ (y : Result (List Row) FileError). AllByRecursion P (gained y)) (sym is) (all_front P (gained x) (joined xs) all).0
 joined_form P (x ∷ xs) (suc i) r all lt is = joined_form P xs i r (all_front P (gained x) (joined xs) all).1 (omega (arith, lt)) is
 
--- none of the rows so far, and none of the next part
-pub none_more : (rows more : List Row) → rows ≡ [] → more ≡ [] → rows ++ more ≡ []
-none_more rows more none next = λ i. none i ++ next i
+-- ---- parts behind rows
+
+-- the rows of the first parts and of one more, behind others
+pub behind_one : (given : List Row) (rs : Answers) (i : ℕ) (r : Result (List Row) FileError) (rows : List Row) → i < length rs → r ≡ get_or rs i r → rows ≡ gained r → (given ++ joined (take i rs)) ++ rows ≡ given ++ joined (take (i + 1) rs)
+behind_one given rs i r rows lt is same =
+    append_assoc given (joined (take i rs)) rows ∙ ap (λ xs. given ++ xs) (ap (λ xs. joined (take i rs) ++ xs) same ∙ sym (joined_one rs i r lt is))
+
+pub behind_rise : (given : List Row) (rs : Answers) (i : ℕ) → keys_rise (given ++ joined rs) ≡ true → keys_rise (given ++ joined (take i rs)) ≡ true
+behind_rise given rs i h =
+    front_rise (given ++ joined (take i rs)) (joined (drop i rs)) (ap keys_rise (append_assoc given (joined (take i rs)) (joined (drop i rs)) ∙ ap (λ xs. given ++ xs) (sym (joined_split rs i))) ∙ h)
+
+pub behind_sums : (s : Columns) (given : List Row) (rs : Answers) (i : ℕ) → KeepsSums s (given ++ joined rs) → KeepsSums s (given ++ joined (take i rs))
+behind_sums s given rs i h =
+    sums_front s (given ++ joined (take i rs)) (joined (drop i rs)) (subst (KeepsSums s) (ap (λ xs. given ++ xs) (joined_split rs i) ∙ sym (append_assoc given (joined (take i rs)) (joined (drop i rs)))) h)
+
+pub behind_leaves : (Leaves : List Row → Row → Type 0) (given : List Row) (rs : Answers) (i : ℕ) → LeavesAmong Leaves (given ++ joined (take i rs)) → LeavesAmong Leaves (given ++ joined rs)
+behind_leaves Leaves given rs i h =
+    subst (LeavesAmong Leaves) (append_assoc given (joined (take i rs)) (joined (drop i rs)) ∙ ap (λ xs. given ++ xs) (sym (joined_split rs i))) (among_before Leaves (given ++ joined (take i rs)) (joined (drop i rs)) h)

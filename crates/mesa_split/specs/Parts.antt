@@ -1,5 +1,5 @@
 -- Parts of merged inputs.
-use Rattle.std.specs.Prelude.{◌≡◌, ℕ, List, [], ◌∷◌, map, IfErr, IfOk, Result, Ok, Err, Option, None, Some, IsTrue}
+use Rattle.std.specs.Prelude.{◌≡◌, ◌<◌, ◌≤◌, ℕ, zero, suc, List, [], ◌∷◌, length, map, slice_get, take, IfErr, IfOk, Result, Ok, Err, Option, None, Some, IsTrue}
 use Rattle.std.specs.List.{AllByRecursion}
 use Rattle.mesa_file.specs.declared.damage.Damage.{Damage}
 use Rattle.mesa_schema.specs.declared.rows.Row.{Row}
@@ -11,7 +11,7 @@ use Rattle.mesa_delta.specs.declared.error.FileError.{FileError}
 use Rattle.mesa_delta.specs.declared.error.FileError.TheVariants.{Damaged, Read}
 use Rattle.mesa_delta.specs.declared.input.Input.{Input}
 use Rattle.mesa_cursor.specs.Cursors.{IsInput}
-use Rattle.mesa_cursor.specs.Cut.{cut, lies_in}
+use Rattle.mesa_cursor.specs.Cut.{cut, cuts_from, is_under, lies_in}
 use Rattle.mesa_merge.specs.Damaged.{IsDamageOf}
 use Rattle.mesa_merge.specs.Faults.{HaveFaultCause, faults_of}
 use Rattle.mesa_merge.specs.Inputs.{AreTold, Known, knowns_of, lifted_parts}
@@ -23,9 +23,14 @@ pub record IsPartOf (s : Columns) (low high : Option (List ℕ)) (knowns : List 
   pub within : AllByRecursion (λ (row : Row). IsTrue (lies_in low high row.key)) rows
   pub told : (contents : List (List Row)) → AreTold knowns contents → rows ≡ cut low high (folded (aggs_of s) (lifted_parts knowns contents))
 
--- What came of the merge of inputs between two keys, by the inputs before and after: their rows there, or why there are none.
-pub record HasCut {R : Type 0} (bytes : R → Option (List ℕ)) (faults size : R → ℕ) (s : Columns) (low high : Option (List ℕ)) (old new : List (Input R)) (answer : Result (List Row) FileError) : Type 0 where
-  pub rows : IfOk answer (IsPartOf s low high (knowns_of bytes old))
+-- the least key of the piece at a place: the cut before it, and for the first piece this end
+abbrev pub low_at : Option (List ℕ) → List (List ℕ) → ℕ → Option (List ℕ)
+low_at low keys zero = low
+low_at low keys (suc i) = slice_get keys i
+
+-- What came of the merge of inputs to rows of which this holds, by the inputs before and after: such rows, or why there are none.
+pub record HasTried {R : Type 0} (bytes : R → Option (List ℕ)) (faults size : R → ℕ) (s : Columns) (Fits : List Row → Type 0) (old new : List (Input R)) (answer : Result (List Row) FileError) : Type 0 where
+  pub rows : IfOk answer Fits
   -- The inputs stay the same, whatever is answered.
   pub known : knowns_of bytes new ≡ knowns_of bytes old
   pub inputs : AllByRecursion (IsInput bytes) new
@@ -35,14 +40,25 @@ pub record HasCut {R : Type 0} (bytes : R → Option (List ℕ)) (faults size : 
   pub accepts : IfErr answer (λ e. (d : Damage) → e ≡ Damaged d → (contents : List (List Row)) → AreTold (knowns_of bytes old) contents
       → KeepsBound (aggs_of s) [] (rows_of (lifted_parts (knowns_of bytes old) contents)) → ⊥)
 
--- Lists of inputs were merged side by side at these cuts, from this end on, one list for each part; further lists stay as they are.
-abbrev pub HaveCut : {R : Type 0} → (R → Option (List ℕ)) → (R → ℕ) → (R → ℕ) → Columns → Option (List ℕ) → List (List ℕ) → List (List (Input R)) → List (List (Input R)) → List (Result (List Row) FileError) → Type 0
-HaveCut bytes faults size s low keys [] news answers = ⊥
-HaveCut bytes faults size s low keys (old ∷ olds) [] answers = ⊥
-HaveCut bytes faults size s low keys (old ∷ olds) (new ∷ news) [] = ⊥
-HaveCut bytes faults size s low [] (old ∷ olds) (new ∷ news) (answer ∷ []) = HasCut bytes faults size s low None old new answer × (news ≡ olds)
-HaveCut bytes faults size s low [] (old ∷ olds) (new ∷ news) (answer ∷ next ∷ answers) = ⊥
-HaveCut bytes faults size s low (key ∷ keys) (old ∷ olds) (new ∷ news) (answer ∷ answers) = HasCut bytes faults size s low (Some key) old new answer × HaveCut bytes faults size s (Some key) keys olds news answers
+-- What came of the merge of inputs between two keys.
+abbrev pub HasCut : {R : Type 0} → (R → Option (List ℕ)) → (R → ℕ) → (R → ℕ) → Columns → Option (List ℕ) → Option (List ℕ) → List (Input R) → List (Input R) → Result (List Row) FileError → Type 0
+HasCut bytes faults size s low high old new answer = HasTried bytes faults size s (IsPartOf s low high (knowns_of bytes old)) old new answer
+
+-- Rows are the piece at a place among those into which cuts divide the fold of inputs: one more than there are cuts, and none behind them.
+abbrev pub IsPieceOf : Columns → List (List ℕ) → ℕ → List Known → List Row → Type 0
+IsPieceOf s cuts at knowns rows = (at ≤ length cuts → IsPartOf s (low_at None cuts at) (slice_get cuts at) knowns rows) × (length cuts < at → rows ≡ [])
+
+-- what came of the merge of that piece
+abbrev pub HasPiece : {R : Type 0} → (R → Option (List ℕ)) → (R → ℕ) → (R → ℕ) → Columns → List (List ℕ) → ℕ → List (Input R) → List (Input R) → Result (List Row) FileError → Type 0
+HasPiece bytes faults size s cuts at old new answer = HasTried bytes faults size s (IsPieceOf s cuts at (knowns_of bytes old)) old new answer
+
+-- Rows are the first so many pieces, one after the other: they have the columns' form, their keys rise and lie below the next piece, and where the inputs' bytes are told, each the file of its index, they are the first parts of the fold of these files' rows.
+pub record AreFirst (s : Columns) (cuts : List (List ℕ)) (at : ℕ) (knowns : List Known) (rows : List Row) : Type 0 where
+  pub form : AreRowsOf s rows
+  pub rise : IsTrue (keys_rise rows)
+  pub under : AllByRecursion (λ (row : Row). IsTrue (is_under (low_at None cuts at) row.key)) rows
+  pub none : at ≡ 0 → rows ≡ []
+  pub told : (contents : List (List Row)) → AreTold knowns contents → rows ≡ rows_of (take at (cuts_from None cuts (folded (aggs_of s) (lifted_parts knowns contents))))
 
 -- Lists of rows are the parts of the fold of inputs at these cuts, from this end on.
 abbrev pub ArePartsOf : Columns → Option (List ℕ) → List (List ℕ) → List Known → List (List Row) → Type 0

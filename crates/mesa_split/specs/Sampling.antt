@@ -1,5 +1,5 @@
 -- Keys at which inputs are cut.
-use Rattle.std.specs.Prelude.{◌≡◌, ℕ, ◌*◌, ◌/◌, ◌-◌, ◌≤◌, List, [], ◌∷◌, ◌++◌, length, map, get_or, Option, None, Some, Bool, true, if◌then◌else◌}
+use Rattle.std.specs.Prelude.{◌≡◌, ◌⊎◌, ℕ, ◌+◌, ◌*◌, ◌/◌, ◌-◌, ◌≤◌, List, [], ◌∷◌, ◌++◌, length, map, get_or, Option, None, Some, Bool, true, if◌then◌else◌}
 use Rattle.std.specs.List.{AllByRecursion, Contains, range_with_len}
 use Rattle.std.specs.Ordering.{is_lt}
 use Rattle.mesa_key.specs.Order.{byte_cmp}
@@ -39,6 +39,14 @@ pub record HasMost (indexes : List Indexed) (index : Indexed) : Type 0 where
 abbrev pub AreCutsOf : List Indexed → ℕ → List (List ℕ) → Type 0
 AreCutsOf [] parts cuts = cuts ≡ []
 AreCutsOf (first ∷ others) parts cuts = (index : Indexed) × HasMost (first ∷ others) index × (cuts ≡ risen None (spread parts (shorts_of index.entries)))
+
+-- So many pieces are two rounds or more, in each of which so many parts merge one; or there are none.
+abbrev pub AreRounds : ℕ → ℕ → Type 0
+AreRounds parts pieces = (pieces ≡ 0) ⊎ ((rounds : ℕ) × (2 ≤ rounds) × (pieces ≡ rounds * parts))
+
+-- The cuts between which inputs are merged piece by piece: those of the parts, of which each merges one piece; or the cuts of the inputs into as many pieces as each part merges in two rounds or more.
+abbrev pub ArePieceCuts : List Indexed → List (List ℕ) → List (List ℕ) → Type 0
+ArePieceCuts indexes cuts finer = (finer ≡ cuts) ⊎ ((rounds : ℕ) × (2 ≤ rounds) × AreCutsOf indexes (rounds * (length cuts + 1)) finer)
 
 -- the last of keys behind an end, or that end
 abbrev pub end_of : Option (List ℕ) → List (List ℕ) → Option (List ℕ)

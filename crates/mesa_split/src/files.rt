@@ -1,57 +1,91 @@
-// The file of the rows of parts.
-ghost use Rattle.std.specs.Prelude.{◌≡◌, ◌<◌, ℕ, List, [], length, map, IsTrue, IfErr, IfOk};
+// The file of the rows of a range.
+ghost use Rattle.std.specs.Prelude.{◌≡◌, ◌<◌, [], length, None};
 ghost use Rattle.std.specs.List.{AllByRecursion};
-ghost use Rattle.mesa_file.specs.declared.damage.Damage.{Damage as AnyDamage};
-ghost use Rattle.mesa_schema.specs.Rows.{AreRowsOf, keys_rise};
-ghost use Rattle.mesa_answer.specs.Answering.{KeepsSums};
-ghost use Rattle.mesa_merge.specs.Sums.{sum_damage};
-ghost use Rattle.mesa_tasks.specs.Made.{IsMadeFile};
-ghost use Rattle.mesa_compact.specs.Damaged.{LeavesAmong, RowLeaves};
-ghost use Rattle.mesa_compact.specs.Grouping.{HavePut, TakesRows, wanted_in};
-ghost use Rattle.mesa_compact.specs.Writing.{HasCauses, damaged_by};
-ghost use Rattle.mesa_split.specs.Parts.{joined};
+ghost use Rattle.mesa_delta.specs.Writing.{HasTaken, columns_of, draft_of, id_of};
+ghost use Rattle.mesa_cursor.specs.Cut.{CutsRise};
+ghost use Rattle.mesa_compact.specs.Grouping.{HavePut, TakesRows};
+ghost use Rattle.mesa_split.specs.Held.{held_bytes, sent_bytes};
+ghost use Rattle.mesa_split.specs.Lending.{AllTell, AreReady, own_in};
+ghost use Rattle.mesa_split.specs.Rounds.{HasRangeFile};
 
-use crate::flat::FlatRows;
-use crate::writing::write_parts;
+use crate::held::Held;
+use crate::parts::Part;
+use crate::rounds::pour_pieces;
 use mesa_answer::Groups;
 use mesa_compact::{begin_file, end_file, give_up};
-use mesa_delta::FileError;
-use mesa_disk::{Bench, Made};
+use mesa_delta::DeltaWriter;
+use mesa_disk::{Bench, Draft, FileReader, Made};
 use mesa_file::FileId;
-use mesa_schema::Schema;
+use mesa_schema::{KeyList, Schema};
 use mesa_tasks::{CompactError, MadeFile};
 use std::alloc::Global;
+use std::thread::Threads;
 
-/// The file of the rows of parts, one part after the other, through a new draft under this id. The rows are put into the groups as they are written.
-pub(crate) fn parts_file<M: Made, B: Bench<M>>(
+/// The file of all rows of a range, which parts merge piece by piece, through a new draft under this id. The rows are put into the groups as they are written. There is no file where there are no rows.
+pub(crate) fn range_file<T: Threads + Sync, M: Made, B: Bench<M>, R: FileReader>(
+    rt: &T,
     alloc: Global,
     bench: &mut B,
     id: FileId,
     schema: &Schema,
-    parts: &[Result<FlatRows, FileError>],
-    groups: &mut [Option<Groups>],
+    cuts: &KeyList,
+    parts: &mut [Part<R>],
+    groups: &mut Vec<Option<Groups>>,
     newest: FileId,
-) -> Result<MadeFile<M>, CompactError>
-    requires some { 0 < length (joined parts.now) }
-    requires form { AreRowsOf schema.now (joined parts.now) }
-    requires rise { IsTrue (keys_rise (joined parts.now)) }
-    requires none { HavePut groups.old [] }
-    requires takes { AllByRecursion (TakesRows schema.now) groups.old }
-    ensures made { IfOk result (λ made. IsMadeFile M.bytes M.id_of (record { columns = schema.now; rows = joined parts.now }) made × HavePut groups.new (joined parts.now)) }
-    ensures id { IfOk result (λ made. M.id_of made.made ≡ id) }
-    ensures wanted { map wanted_in groups.new ≡ map wanted_in groups.old }
-    ensures causes { (reads : List ℕ) → HasCauses (B.faults bench.old) (B.faults bench.new) reads reads (λ d. (d ≡ sum_damage newest) × LeavesAmong (RowLeaves schema.now) (joined parts.now)) result }
-    ensures accepts { IfErr result (λ e. (d : AnyDamage) → e ≡ damaged_by d → KeepsSums schema.now (joined parts.now) → ⊥) }
+) -> Result<Option<MadeFile<M>>, CompactError>
+    requires cuts { CutsRise None cuts.now }
+    requires some { 0 < length parts.old }
+    requires ready { AreReady R.bytes schema.now parts.old }
+    requires none { HavePut groups.old.items [] }
+    requires takes { AllByRecursion (TakesRows schema.now) groups.old.items }
+    requires tells { AllTell R.bytes (own_in parts.old) parts.old }
+    ensures { HasRangeFile M.bytes M.id_of R.bytes R.faults R.size schema.now id newest (own_in parts.old) parts.old parts.new groups.old.items groups.new.items (B.faults bench.old) (B.faults bench.new) result }
 {
-    let mut writer = match begin_file(alloc, bench, id, schema) {
+    let writer = match begin_file(alloc, bench, id, schema) {
         Ok(writer) => writer,
         Err(error) => return Err(error),
     };
-    match write_parts(alloc, &mut writer, parts, groups, newest) {
-        Ok(()) => end_file(bench, writer),
+    let (mut writer, mut draft) = held_over(alloc, writer);
+    let poured = pour_pieces(
+        rt,
+        alloc,
+        schema,
+        cuts,
+        parts,
+        &mut writer,
+        &mut draft,
+        groups,
+        newest,
+    );
+    let (writer, _held) = writer.over(draft);
+    match poured {
+        Ok(true) => match end_file(bench, writer) {
+            Ok(file) => Ok(Some(file)),
+            Err(error) => Err(error),
+        },
+        Ok(false) => {
+            give_up(bench, writer);
+            Ok(None)
+        }
         Err(error) => {
             give_up(bench, writer);
             Err(error)
         }
     }
+}
+
+// A writer that holds what it writes, and the draft that it had.
+fn held_over<M: Made, D: Draft<M>>(
+    alloc: Global,
+    writer: DeltaWriter<M, D>,
+) -> (DeltaWriter<M, Held<M, D>>, D)
+    requires { HasTaken D.bytes writer [] }
+    ensures taken { HasTaken (held_bytes D.bytes) result.0 [] }
+    ensures columns { columns_of result.0 ≡ columns_of writer }
+    ensures id { id_of result.0 ≡ id_of writer }
+    ensures sent { sent_bytes D.bytes (draft_of result.0) ≡ D.bytes result.1 }
+    ensures draft { result.1 ≡ draft_of writer }
+{
+    let held = Held::of(Vec::new(alloc), writer.draft());
+    writer.over(held)
 }

@@ -1,9 +1,8 @@
-// Parts of a range, merged side by side.
-ghost use Rattle.std.specs.Prelude.{◌≡◌, ◌<◌, ℕ, length, slice_get, slice_index_or, IfOk, None};
+// Pieces of a range, merged side by side.
+ghost use Rattle.std.specs.Prelude.{◌≡◌, ◌+◌, ◌<◌, ◌≤◌, ℕ, length, slice_get, slice_index_or, IfOk, None};
 ghost use Rattle.std.specs.Thread.{IsSend};
 ghost use Rattle.mesa_merge.specs.Inputs.{AreInputs};
-ghost use Rattle.mesa_split.specs.Lending.{low_at};
-ghost use Rattle.mesa_split.specs.Parts.{HasCut};
+ghost use Rattle.mesa_split.specs.Parts.{HasCut, HasPiece, low_at};
 ghost use Rattle.mesa_split.specs.declared.parts.Part.{Part as AnyPart};
 
 use crate::collecting::cut_rows;
@@ -20,49 +19,69 @@ use std::{mem, thread};
 /// How many threads merge a range at most.
 const THREADS: usize = 8;
 
-/// A part of a range: readers of all its files, and its rows once they are merged.
+/// Who merges one piece of a range after the other: readers of all its files, and the rows of the piece that was merged last.
 pub(crate) struct Part<R> {
     pub(crate) inputs: Vec<Input<R>>,
     pub(crate) rows: Result<FlatRows, FileError>,
 }
 
-/// Merges the parts at these cuts side by side, in a few threads. Each part's merge holds at most a block of each of its inputs.
-pub(crate) fn merge_parts<T: Threads + Sync, R: FileReader>(
+/// Merges the next pieces between these cuts side by side, in a few threads: each part one, from this piece on, and none where none is left. Each part's merge holds at most a block of each of its inputs.
+pub(crate) fn merge_pieces<T: Threads + Sync, R: FileReader>(
     rt: &T,
     alloc: Global,
     schema: &Schema,
     cuts: &[KeyBytes],
+    first: usize,
     parts: &mut [Part<R>],
 )
     requires { (i : ℕ) (d : AnyPart R) → i < length parts.old → AreInputs R.bytes schema.now (slice_index_or parts.old i d).inputs.items }
-    ensures { (i : ℕ) (d : AnyPart R) → i < length parts.old → HasCut R.bytes R.faults R.size schema.now (low_at None cuts.now i) (slice_get cuts.now i) (slice_index_or parts.old i d).inputs.items (slice_index_or parts.new i d).inputs.items (slice_index_or parts.new i d).rows }
+    ensures { (i : ℕ) (d : AnyPart R) → i < length parts.old → HasPiece R.bytes R.faults R.size schema.now cuts.now (first + i) (slice_index_or parts.old i d).inputs.items (slice_index_or parts.new i d).inputs.items (slice_index_or parts.new i d).rows }
 {
     let merge = |i: usize, part: &mut Part<R>|
         requires { IsSend R.row × AreInputs R.bytes schema.now part.now.inputs.items }
-        ensures { HasCut R.bytes R.faults R.size schema.entry.now (low_at None cuts.entry.now i) (slice_get cuts.entry.now i) part.entry.now.inputs.items part.exit.now.inputs.items part.exit.now.rows }
-    { merge_part(alloc, schema, cuts, i, part) };
+        ensures { HasPiece R.bytes R.faults R.size schema.entry.now cuts.entry.now (first + i) part.entry.now.inputs.items part.exit.now.inputs.items part.exit.now.rows }
+    { merge_piece(alloc, schema, cuts, first, i, part) };
     thread::for_each_mut(rt, parts, THREADS, &merge);
 }
 
-// Merges the part at a place.
-fn merge_part<R: FileReader>(
+// Merges the piece that is so many behind the first one.
+fn merge_piece<R: FileReader>(
     alloc: Global,
     schema: &Schema,
     cuts: &[KeyBytes],
-    place: usize,
+    first: usize,
+    behind: usize,
     part: &mut Part<R>,
 )
     requires { AreInputs R.bytes schema.now part.old.inputs.items }
-    ensures { HasCut R.bytes R.faults R.size schema.now (low_at None cuts.now place) (slice_get cuts.now place) part.old.inputs.items part.new.inputs.items part.new.rows }
+    ensures { HasPiece R.bytes R.faults R.size schema.now cuts.now (first + behind) part.old.inputs.items part.new.inputs.items part.new.rows }
 {
     let inputs = mem::replace(&mut part.inputs, Vec::new(alloc));
-    let (back, rows) = rows_at(alloc, schema, cuts, place, inputs);
+    let (back, rows) = piece_rows(alloc, schema, cuts, first, behind, inputs);
     let empty = mem::replace(&mut part.inputs, back);
     empty.destroy_empty();
     part.rows = rows;
 }
 
-// The rows of the part at a place, and its inputs again.
+// The rows of that piece, none where it isn't there, and the inputs again.
+fn piece_rows<R: FileReader>(
+    alloc: Global,
+    schema: &Schema,
+    cuts: &[KeyBytes],
+    first: usize,
+    behind: usize,
+    inputs: Vec<Input<R>>,
+) -> (Vec<Input<R>>, Result<FlatRows, FileError>)
+    requires { AreInputs R.bytes schema.now inputs.items }
+    ensures { HasPiece R.bytes R.faults R.size schema.now cuts.now (first + behind) inputs.items result.0.items result.1 }
+{
+    match first.checked_add(behind) {
+        Some(at) if at <= cuts.len() => rows_at(alloc, schema, cuts, at, inputs),
+        _ => (inputs, Ok(FlatRows::new(alloc))),
+    }
+}
+
+// The rows of the piece at a place, and its inputs again.
 fn rows_at<R: FileReader>(
     alloc: Global,
     schema: &Schema,
@@ -79,7 +98,7 @@ fn rows_at<R: FileReader>(
     }
 }
 
-// The ends of the part at a place.
+// The ends of the piece at a place.
 fn ends_at(
     cuts: &[KeyBytes],
     place: usize,

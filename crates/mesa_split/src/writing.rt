@@ -11,7 +11,7 @@ ghost use Rattle.mesa_compact.specs.Damaged.{LeavesAmong, RowLeaves};
 ghost use Rattle.mesa_compact.specs.Grouping.{TakesRows, wanted_in};
 ghost use Rattle.mesa_compact.specs.Writing.{HasCauses, damaged_by};
 ghost use Rattle.mesa_split.specs.Parts.{gained, joined};
-ghost use Rattle.mesa_split.specs.Written.{HasPoured};
+ghost use Rattle.mesa_split.specs.Written.{HasPoured, HasWritten};
 
 use crate::flat::FlatRows;
 use mesa_answer::Groups;
@@ -22,7 +22,7 @@ use mesa_file::FileId;
 use mesa_tasks::CompactError;
 use std::alloc::Global;
 
-/// Gives a writer the rows of parts, one part after the other, and puts them into the groups. A total that leaves its type is told of this file.
+/// Gives a writer the rows of more parts, one part after the other, and puts them into the groups. A total that leaves its type is told of this file.
 pub(crate) fn write_parts<M: Made, T: Draft<M>>(
     alloc: Global,
     writer: &mut DeltaWriter<M, T>,
@@ -30,17 +30,10 @@ pub(crate) fn write_parts<M: Made, T: Draft<M>>(
     groups: &mut [Option<Groups>],
     newest: FileId,
 ) -> Result<(), CompactError>
-    requires none { HasPoured T.bytes writer.old groups.old [] }
+    requires poured { (given : List AnyRow) × HasPoured T.bytes writer.old groups.old given × IsTrue (keys_rise (given ++ joined parts.now)) }
     requires form { AreRowsOf (columns_of writer.old) (joined parts.now) }
-    requires rise { IsTrue (keys_rise (joined parts.now)) }
     requires takes { AllByRecursion (TakesRows (columns_of writer.old)) groups.old }
-    ensures poured { OnOk result (HasPoured T.bytes writer.new groups.new (joined parts.now)) }
-    ensures columns { columns_of writer.new ≡ columns_of writer.old }
-    ensures id { id_of writer.new ≡ id_of writer.old }
-    ensures draft { T.id_of (draft_of writer.new) ≡ T.id_of (draft_of writer.old) }
-    ensures wanted { map wanted_in groups.new ≡ map wanted_in groups.old }
-    ensures causes { (reads : List ℕ) → HasCauses (T.faults (draft_of writer.old)) (T.faults (draft_of writer.new)) reads reads (λ d. (d ≡ sum_damage newest) × LeavesAmong (RowLeaves (columns_of writer.old)) (joined parts.now)) result }
-    ensures accepts { IfErr result (λ e. (d : AnyDamage) → e ≡ damaged_by d → KeepsSums (columns_of writer.old) (joined parts.now) → ⊥) }
+    ensures { HasWritten T.bytes T.id_of T.faults newest (joined parts.now) writer.old groups.old writer.new groups.new result }
 {
     let none = FlatRows::new(alloc);
     'parts: for part in parts {

@@ -44,10 +44,10 @@ fn all_told(rt: &impl Abort, alloc: Global, merged: Merged) -> Vec<Told> {
     all
 }
 
-// Stops the test where the files of a merge in parts, of one to eight, aren't those of a merge in one thread.
-fn expect_parts<T: Abort + Threads + Sync>(rt: &T, alloc: Global, two: &Two) {
+// Stops the test where the files of a merge in parts, of one to so many, aren't those of a merge in one thread.
+fn expect_parts<T: Abort + Threads + Sync>(rt: &T, alloc: Global, two: &Two, most: u8) {
     let wanted = all_told(rt, alloc, merged(rt, alloc, two, &[], None));
-    for parts in 1..=8 {
+    for parts in 1..=most {
         let case = Case {
             two: &*two,
             parts,
@@ -74,11 +74,20 @@ fn files_are_those_of_one_thread(rt: HostRuntime) {
     let alloc = rt.alloc();
     let older = rows(&rt, alloc, 3, 2500);
     let newer = rows(&rt, alloc, 2, 8500);
-    expect_parts(&rt, alloc, &two(Agg::Sum, &older, &newer));
-    expect_parts(&rt, alloc, &two(Agg::Replace, &older, &newer));
+    expect_parts(&rt, alloc, &two(Agg::Sum, &older, &newer), 8);
+    expect_parts(&rt, alloc, &two(Agg::Replace, &older, &newer), 8);
     let one = rows(&rt, alloc, 1, 1);
-    expect_parts(&rt, alloc, &two(Agg::Sum, &one, &newer));
-    expect_parts(&rt, alloc, &two(Agg::Sum, &one, &one));
+    expect_parts(&rt, alloc, &two(Agg::Sum, &one, &newer), 8);
+    expect_parts(&rt, alloc, &two(Agg::Sum, &one, &one), 8);
+}
+
+// Files of some 30 and 50 blocks, which one part merges in five rounds and two in two.
+#[test]
+fn files_of_many_rounds_are_those_of_one_thread(rt: HostRuntime) {
+    let alloc = rt.alloc();
+    let older = rows(&rt, alloc, 3, 30_000);
+    let newer = rows(&rt, alloc, 2, 50_000);
+    expect_parts(&rt, alloc, &two(Agg::Sum, &older, &newer), 3);
 }
 
 // A reader of the first part doesn't answer until one of the second was asked, or it has given up.

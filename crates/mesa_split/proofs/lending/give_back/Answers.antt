@@ -1,13 +1,10 @@
 use Rattle.std.proofs.Common.{◌≡◌, ◌+◌, ◌++◌, ◌≤◌, [], ◌∷◌, List, drop, map, take, refl, sym, ap, subst, ◌∙◌, arith, add-one}
-use Rattle.std.specs.Prelude.{Result}
-use Rattle.mesa_schema.specs.declared.rows.Row.{Row}
-use Rattle.mesa_delta.specs.declared.error.FileError.{FileError}
 use Rattle.mesa_tasks.specs.declared.merging.Spare.{Spare}
 use Rattle.mesa_compact.proofs.Putting.{map_set}
 use Rattle.mesa_compact.proofs.Viewing.{drop_some}
-use Rattle.mesa_split.specs.Lending.{answers_of, lists_in, lists_of, returned}
+use Rattle.mesa_split.specs.Lending.{lists_in, lists_of, returned}
 use Rattle.mesa_split.specs.declared.parts.Part.{Part}
-use Rattle.mesa_split.proofs.Loans.{answers_more, give_empty, give_step, list_at, lists_count, parts_count, returned_none}
+use Rattle.mesa_split.proofs.Loans.{give_empty, give_step, list_at, lists_count, parts_count, returned_none}
 use Rattle.mesa_split.proofs.lending.give_back.Goals as goal
 
 pub spares-init : goal.spares-init
@@ -17,15 +14,13 @@ spares-init g c =
     let spares = lists_of c.args.inputs.now c.args.spare.now in
     record {
       left = ap (drop 1) whole;
-      answers = c.push_reserved.ensures.items ∙ ap (λ (rs : List (Result (List Row) FileError)). rs ++ c.taken.result ∷ []) c.requires.none ∙ ap (λ (r : Result (List Row) FileError). r ∷ []) c.taken.ensures.answer ∙ ap (λ (ps : List (Part g.row.R.Denot)). answers_of (take 1 ps)) whole;
-      room = subst (λ n. c.args.further + 1 ≤ n) (sym c.push_reserved.ensures.capacity) c.requires.room;
-      lists = (λ k. c.taken.ensures.inputs k ∷ sym (returned_none (map (λ (s : Spare g.row.R.Denot). s.inputs) c.args.spare.now)) k) ∙ ap (λ (ps : List (Part g.row.R.Denot)). returned spares (take 1 (lists_in ps))) whole;
+      lists = (λ k. c.put_back.ensures k ∷ sym (returned_none (map (λ (s : Spare g.row.R.Denot). s.inputs) c.args.spare.now)) k) ∙ ap (λ (ps : List (Part g.row.R.Denot)). returned spares (take 1 (lists_in ps))) whole;
       views = refl;
     }
 
-pub spare_taken-requires-after_bounds : goal.spare_taken-requires-after_bounds
-spare_taken-requires-after_bounds g c κs within =
-    give_empty (lists_of c.args.inputs.now c.args.spare.now) (lists_in c.args.parts.items) c.taken.new.inputs c.spares.spare (c.args.further + 1) c.spares.i c.index-spare-i.result c.spares.invariant.lists c.requires.empty (omega (arith, c.spares-test.true)) (omega (arith, c.spares-test.true, c.requires.few, c.spares.auto.spare))
+pub spare_put_back-requires-after_bounds : goal.spare_put_back-requires-after_bounds
+spare_put_back-requires-after_bounds g c κs within =
+    give_empty (lists_of c.args.inputs.now c.args.spare.now) (lists_in c.args.parts.items) c.put_back.new.inputs c.spares.spare (c.args.further + 1) c.spares.i c.index-spare-i.result c.spares.invariant.lists c.requires.empty (omega (arith, c.spares-test.true)) (omega (arith, c.spares-test.true, c.requires.few, c.spares.auto.spare))
 
 pub spares-preserved : goal.spares-preserved
 spares-preserved g c =
@@ -37,14 +32,11 @@ spares-preserved g c =
     let own = c.args.inputs.now in
     let ss : List (Spare g.row.R.Denot) = c.args.spare.now in
     let next = drop_some parts c.pop_front-in-spares.new.self.items (i + 1) part (sym inv.left ∙ c.in-Some-pop_front.ensures.items) in
-    let t : Spare g.row.R.Denot = c.spare_taken.new.spare in
+    let t : Spare g.row.R.Denot = c.spare_put_back.new.spare in
     record {
       left = sym next.1 ∙ ap (λ n. drop n parts) (sym (add-one (i + 1)));
-      answers = c.push_reserved-in-spares.ensures.items ∙ ap (λ (rs : List (Result (List Row) FileError)). rs ++ c.spare_taken.result ∷ []) inv.answers
-          ∙ ap (λ (r : Result (List Row) FileError). answers_of (take (i + 1) parts) ++ r ∷ []) c.spare_taken.ensures.answer ∙ sym (answers_more parts (i + 1) part next.0);
-      room = subst (λ n. c.args.further + 1 ≤ n) (sym c.push_reserved-in-spares.ensures.capacity) inv.room;
-      lists = give_step (lists_of own ss) (lists_in parts) c.taken.new.inputs c.spares.spare i t inv.lists
+      lists = give_step (lists_of own ss) (lists_in parts) c.put_back.new.inputs c.spares.spare i t inv.lists
           (omega (arith, c.spares-test.true, c.requires.few, lists_count own ss)) (omega (arith, c.spares-test.true, c.requires.count, parts_count parts))
-          (c.spare_taken.ensures.inputs ∙ list_at parts (i + 1) part t.inputs next.0);
-      views = map_set (λ (s : Spare g.row.R.Denot). s.views) c.spares.spare i t d c.spare_taken.ensures.views ∙ inv.views;
+          (c.spare_put_back.ensures.inputs ∙ list_at parts (i + 1) part t.inputs next.0);
+      views = map_set (λ (s : Spare g.row.R.Denot). s.views) c.spares.spare i t d c.spare_put_back.ensures.views ∙ inv.views;
     }

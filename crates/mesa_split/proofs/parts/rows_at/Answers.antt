@@ -1,6 +1,6 @@
 use Rattle.std.proofs.Common.{None}
 use Rattle.std.specs.Prelude.{slice_get}
-use Rattle.mesa_split.specs.Lending.{low_at}
+use Rattle.mesa_split.specs.Parts.{low_at}
 use Rattle.mesa_split.proofs.Collected.{not_read}
 use Rattle.mesa_split.proofs.parts.rows_at.Goals as goal
 

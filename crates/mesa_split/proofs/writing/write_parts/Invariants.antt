@@ -1,4 +1,7 @@
-use Rattle.std.proofs.Common.{◌≡◌, map, take}
+use Rattle.std.proofs.Common.{◌≡◌, ◌++◌, List, map, take}
+use Rattle.std.specs.Prelude.{IsTrue}
+use Rattle.mesa_schema.specs.declared.rows.Row.{Row}
+use Rattle.mesa_schema.specs.Rows.{keys_rise}
 use Rattle.mesa_delta.specs.Writing.{columns_of, draft_of, id_of}
 use Rattle.mesa_compact.specs.Grouping.{wanted_in}
 use Rattle.mesa_split.specs.Parts.{joined}
@@ -7,7 +10,7 @@ use Rattle.mesa_split.proofs.writing.write_parts.Given as goal
 
 abbrev pub invariant-parts : goal.invariant-parts
 invariant-parts g l = record {
-  poured : HasPoured g.T.Draft.bytes l.writer l.groups (joined (take l.part-index l.parts));
+  poured : (given : List Row) → HasPoured g.T.Draft.bytes l.fn.writer l.fn.groups given → IsTrue (keys_rise (given ++ joined l.parts)) → HasPoured g.T.Draft.bytes l.writer l.groups (given ++ joined (take l.part-index l.parts));
   columns : columns_of l.writer ≡ columns_of l.fn.writer;
   id : id_of l.writer ≡ id_of l.fn.writer;
   draft : g.T.Draft.id_of (draft_of l.writer) ≡ g.T.Draft.id_of (draft_of l.fn.writer);
