@@ -6,7 +6,10 @@
 PROGRAM is the built program, by default crates/mesa/out/mesa, which `rt run` leaves there. The rows lie in 10 files of
 100,000, and in 1,000 files of 1,000, so that neighbouring keys are in different files. A merging's time is what its run
 takes beyond an empty one, the best of three; SHA-256's part is that of perf's samples of the whole run. A query's time is
-that of 500 in one run beyond an empty one, divided. The last table has 3,000,000 rows in three files."""
+that of 500 in one run beyond an empty one, divided. The last table has 3,000,000 rows in three files; its query is asked on
+one processor and on all that there are."""
+import os
+
 from measure import again, allow_open_files, anew, digest_part, given_program, machine, new_folder, run, stored
 
 ROWS = 1_000_000
@@ -53,9 +56,12 @@ def ask_all(program, folder):
     for part in range(3):
         lines = [row(i) for i in range(part * ROWS, (part + 1) * ROWS)]
         run(program, folder, [TABLE] * (part == 0) + lines + ["commit"])
-    empty, asked = again(program, folder, []), again(program, folder, ["query,t,,,item"])
-    seconds, busy = asked.beyond(empty)
-    print(f"| all of {3 * ROWS:,}, by item | {seconds * 1000:,.0f} | {busy * 1000:,.0f} | {asked.peak:.1f} | {empty.peak:.1f} |")
+    allowed = sorted(os.sched_getaffinity(0))
+    for processors in (1, len(allowed)):
+        os.sched_setaffinity(0, allowed[:processors])
+        empty, asked = again(program, folder, []), again(program, folder, ["query,t,,,item"])
+        seconds, busy = asked.beyond(empty)
+        print(f"| all of {3 * ROWS:,}, by item, on {processors} | {seconds * 1000:,.0f} | {busy * 1000:,.0f} | {asked.peak:.1f} | {empty.peak:.1f} |")
     size, part = stored(folder, ".mesa"), digest_part(program, folder, ["query,t,,,item"])
     print(f"the query of all reads {size:,} bytes, and SHA-256 is {part} of its time")
 

@@ -1,5 +1,6 @@
 // Tests of scanning files and of answering queries from them, over files that are spelled by their format.
 mod answering;
+mod beside;
 mod inputs;
 mod read_ahead;
 mod scanning;

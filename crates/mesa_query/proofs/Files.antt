@@ -248,7 +248,7 @@ file_fault e f before now is h = record {
 pub sum_quiet : {U : Type 0} (e : GatherError) (before now : ℕ) → e ≡ gather.Sum → HasFaultCause {T = U} (λ x. x ≡ gather.File Read) before now (Err e) → now ≡ before
 sum_quiet e before now is h = h.other (λ read. cc)
 
-length_knowns : {R : Type 0} (bytes : R → Option (List ℕ)) (files : List (PinnedInput R)) → length (knowns_of bytes (inputs_in files)) ≡ length files
+pub length_knowns : {R : Type 0} (bytes : R → Option (List ℕ)) (files : List (PinnedInput R)) → length (knowns_of bytes (inputs_in files)) ≡ length files
 length_knowns bytes [] = refl
 length_knowns bytes (file ∷ files) = ap suc (length_knowns bytes files)
 

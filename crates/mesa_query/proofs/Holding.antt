@@ -5,12 +5,13 @@ use Rattle.std.proofs.Math.Nat.{eq-or-lt_of_le}
 use Rattle.std.proofs.lemmas.Option.{get_or_from_slice_get, slice_get-get_or, slice_get_within}
 use Rattle.mesa_file.specs.declared.damage.Damage.{Damage}
 use Rattle.mesa_schema.specs.declared.rows.Row.{Row}
+use Rattle.mesa_schema.specs.Folded.{rows_of}
 use Rattle.mesa_filter.specs.declared.terms.Term.{Term}
 use Rattle.mesa_filter.specs.Filter.{filtered}
 use Rattle.mesa_delta.specs.Indexed.{Indexed}
 use Rattle.mesa_delta.specs.Reading.{index_of}
 use Rattle.mesa_scan.specs.Damaged.{IsDamaged}
-use Rattle.mesa_merge.specs.Inputs.{AreTold, IsTold, known_of, knowns_of}
+use Rattle.mesa_merge.specs.Inputs.{AreTold, IsTold, Known, known_of, knowns_of}
 use Rattle.mesa_answer.specs.Gathering.{Wanted}
 use Rattle.mesa_answer.specs.Sums.{HasGroup, SumLeavesAmong}
 use Rattle.mesa_answer.proofs.Leaving.{group_before, leaves_behind, leaves_group}
@@ -18,7 +19,8 @@ use Rattle.mesa_view.specs.SumDamage.{IsSumDamage}
 use Rattle.mesa_tasks.specs.declared.querying.PinnedInput.{PinnedInput}
 use Rattle.mesa_query.specs.Files.{AreMoved, IsDamageIn, IsMoved, inputs_in}
 use Rattle.mesa_query.specs.Sums.{HoldsGroup, IsNewestFrom, IsSumIn, LacksGroup, rows_matching}
-use Rattle.mesa_query.proofs.Files.{damage_before, file_damage, moved_further, moved_rows, moved_same, moved_told}
+use Rattle.mesa_query.specs.Relation.{parts_ungrouped}
+use Rattle.mesa_query.proofs.Files.{damage_before, file_damage, moved_count, moved_further, moved_known, moved_rows, moved_same, moved_told}
 use Rattle.mesa_query.proofs.Contents.{given_front, matching_first, told_count, told_here}
 
 -- ---- damage of one of the files
@@ -225,3 +227,34 @@ sum_in {R = R} bytes size w terms view key start now i file x given more id d lt
             told = subst (λ n. IsSumDamage n d) (newest.is ∙ file_moved bytes size was.was newest.file was.moved) told;
           }
     ]
+
+-- ---- files of which blocks were read before
+
+pub parts_moved : {R : Type 0} (bytes : R → Option (List ℕ)) (size : R → ℕ) (view : Option ℕ) (start now : List (PinnedInput R)) (contents : List (List Row)) → AreMoved bytes size start now → parts_ungrouped view now contents ≡ parts_ungrouped view start contents
+parts_moved bytes size view [] [] contents m = refl
+parts_moved bytes size view [] (y ∷ now) contents m = absurd m
+parts_moved bytes size view (s ∷ start) [] contents m = absurd m
+parts_moved bytes size view (s ∷ start) (y ∷ now) [] m = refl
+parts_moved bytes size view (s ∷ start) (y ∷ now) (rows ∷ contents) m = λ i. moved_rows bytes size view s y rows m.0 i ∷ parts_moved bytes size view start now contents m.1 i
+
+-- A sum that is told of them is one of theirs as they were.
+pub sum_before : {R : Type 0} (bytes : R → Option (List ℕ)) (size : R → ℕ) (w : Wanted) (terms : List Term) (view : Option ℕ) (start now : List (PinnedInput R)) (d : Damage) → AreMoved bytes size start now → IsSumIn bytes w terms view now d → IsSumIn bytes w terms view start d
+sum_before {R = R} bytes size w terms view start now d m h =
+    let long : length now ≡ length start = moved_count bytes size start now m in
+    let was = was_moved bytes size 0 h.at start now h.file long m (omega arith) h.one in
+    record {
+      key = h.key;
+      given = h.given;
+      leaves = h.leaves;
+      first = λ contents told.
+          subst (λ (parts : List (List Row)). (rest : List Row) × (filtered w.schema terms (rows_of parts) ≡ h.given ++ rest)) (parts_moved bytes size view start now contents m)
+          (h.first contents (subst (λ (ks : List Known). AreTold ks contents) (sym (moved_known bytes size start now m)) told));
+      at = h.at;
+      file = was.was;
+      one = was.there;
+      holds = holds_moved bytes size w terms view h.key was.was h.file was.moved h.holds;
+      newer = λ j other above there.
+          let is = now_moved bytes size 0 j start now other long m (omega arith) there in
+          lacks_moved bytes size w terms view h.key other is.now is.moved (h.newer j is.now above is.there);
+      told = subst (λ n. IsSumDamage n d) (file_moved bytes size was.was h.file was.moved) h.told;
+    }

@@ -8,3 +8,8 @@ pub mod Owned
 pub mod Answered
 pub mod AllGroups
 pub mod Differing
+pub mod PieceRows
+pub mod Decoded
+pub mod JobSteps
+pub mod ReadBlocks
+pub mod Joined

@@ -1,5 +1,6 @@
 -- Files of the relation itself, and of its table.
-use Rattle.std.proofs.Common.{◌≡◌, ℕ, List, ◌++◌, refl, sym, ◌∙◌, ap, subst, true, false}
+use Rattle.std.proofs.Common.{◌≡◌, ℕ, List, [], ◌∷◌, ◌++◌, refl, sym, ◌∙◌, ap, subst, true, false}
+use Rattle.std.specs.List.{AllByRecursion}
 use Rattle.std.specs.Prelude.{Bool, Option, None, Some}
 use Rattle.mesa_schema.specs.declared.rows.Row.{Row}
 use Rattle.mesa_schema.specs.declared.views.View.{View}
@@ -9,10 +10,12 @@ use Rattle.mesa_schema.specs.Views.{view_columns}
 use Rattle.mesa_filter.specs.declared.terms.Term.{Term}
 use Rattle.mesa_filter.specs.Filter.{filtered}
 use Rattle.mesa_scan.specs.mesa_cursor.Cursors.{IsInput, IsSameInput}
+use Rattle.mesa_merge.specs.Inputs.{AreAlike, knowns_of}
 use Rattle.mesa_answer.specs.Answering.{KeepsSums}
 use Rattle.mesa_tasks.specs.Inputs.{lineage_of}
 use Rattle.mesa_tasks.specs.Pins.{HasViewOf, IsOfRelation, IsPinnedInput, view_at}
 use Rattle.mesa_tasks.specs.declared.querying.PinnedInput.{PinnedInput}
+use Rattle.mesa_query.specs.Files.{inputs_in}
 use Rattle.mesa_query.specs.Relation.{rows_under, under_some, under_view}
 
 -- the relation's own file has its columns,
@@ -57,3 +60,13 @@ pinned_after bytes s view old new same own input h = record {
   input = input;
   relation = subst (λ (l : Lineage). IsOfRelation s view l new.own) (sym (λ k. (same.evolving k).value)) (subst (λ b. IsOfRelation s view (lineage_of old.input) b) (sym own) h.relation);
 }
+
+-- the files of a query are inputs
+pub all_inputs : {R : Type 0} (bytes : R → Option (List ℕ)) (s : Columns) (view : Option ℕ) (files : List (PinnedInput R)) → AllByRecursion (IsPinnedInput bytes s view) files → AllByRecursion (IsInput bytes) (inputs_in files)
+all_inputs bytes s view [] all = tt
+all_inputs bytes s view (file ∷ files) all = (all.0.input, all_inputs bytes s view files all.1)
+
+-- and its own are lifted to its columns
+pub all_alike : {R : Type 0} (bytes : R → Option (List ℕ)) (s : Columns) (view : Option ℕ) (files : List (PinnedInput R)) → AllByRecursion (IsPinnedInput bytes s view) files → AllByRecursion (λ (file : PinnedInput R). file.own ≡ true) files → AreAlike s (knowns_of bytes (inputs_in files))
+all_alike bytes s view [] all own = tt
+all_alike bytes s view (file ∷ files) all own = (own_columns s view (lineage_of file.input) file.own own.0 all.0.relation, all_alike bytes s view files all.1 own.1)

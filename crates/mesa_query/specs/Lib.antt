@@ -5,4 +5,6 @@ pub mod Relation
 pub mod Whole
 pub mod Files
 pub mod Sums
+pub mod Pieces
+pub mod Jobs
 pub mod Laws

@@ -17,7 +17,7 @@ ghost use Rattle.mesa_query.specs.Files.{IsDamageIn, inputs_in, owns_in};
 ghost use Rattle.mesa_query.specs.Relation.{page_over, parts_pinned, parts_ungrouped};
 ghost use Rattle.mesa_query.specs.Sums.{IsSumIn};
 
-use crate::gathering::gather_all;
+use crate::gathering::gather_each;
 use crate::relation::relation_columns;
 use mesa_answer::{Groups, answer_over_parts};
 use mesa_delta::FileError;
@@ -27,9 +27,16 @@ use mesa_list::Items;
 use mesa_model::Page;
 use mesa_tasks::{Pinned, PinnedInput};
 use std::alloc::Global;
+use std::thread::Threads;
 
-/// The page of a pinned query, from its files in the order of their versions. A block of one file and the groups of the page, and one group more, are all that is held.
-pub fn answer<R: FileReader>(alloc: Global, pinned: &mut Pinned<R>) -> Result<Page, FileError>
+/// The page of a pinned query, from its files in the order of their versions. It is the same page whatever threads do.
+///
+/// Where some thirty blocks or more have to be read, up to four threads test, decode and group them, each a run of its own, while every block is read here. Then some 64 blocks and four times the groups of the page are all that is held, else a block and the page's groups, and one group more each time.
+pub fn answer<T: Threads + Sync, R: FileReader>(
+    rt: &T,
+    alloc: Global,
+    pinned: &mut Pinned<R>,
+) -> Result<Page, FileError>
     requires { (s : Columns) × IsPinned R.bytes s pinned.old }
 
     // Where each file is told and its index is true of it, this is the page over the relation's rows in all of them; on every store its rows have the form that is asked.
@@ -50,11 +57,12 @@ pub fn answer<R: FileReader>(alloc: Global, pinned: &mut Pinned<R>) -> Result<Pa
     ensures never { IfErr result (λ e. (d : AnyDamage) → e ≡ file_error.Damaged d → (s : Columns) → IsPinned R.bytes s pinned.old → (contents : List (List AnyRow)) → AreTold (knowns_of R.bytes (inputs_in pinned.old.inputs.items)) contents
         → KeepsSums s (rows_of (parts_ungrouped pinned.old.view pinned.old.inputs.items contents)) → ⊥) }
 {
-    answer_from(alloc, &pinned.query, pinned.view, &mut pinned.inputs)
+    answer_from(rt, alloc, &pinned.query, pinned.view, &mut pinned.inputs)
 }
 
 // The page of a query from these files.
-fn answer_from<R: FileReader>(
+fn answer_from<T: Threads + Sync, R: FileReader>(
+    rt: &T,
     alloc: Global,
     query: &Query,
     view: Option<u8>,
@@ -83,6 +91,6 @@ fn answer_from<R: FileReader>(
     };
     let schema = relation_columns(view, first)?;
     let mut groups = Groups::of(alloc, &schema, query)?;
-    gather_all(alloc, &mut groups, view, files, query.filter())?;
+    gather_each(rt, alloc, &mut groups, view, files, query.filter())?;
     Ok(groups.into_page(query)?)
 }

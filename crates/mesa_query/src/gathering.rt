@@ -1,4 +1,4 @@
-// Pinned files put into the groups of a query, one after the other.
+// Pinned files put into the groups of a query.
 ghost use Rattle.std.specs.Prelude.{◌≡◌, ◌⊎◌, ◌+◌, ◌++◌, ◌<◌, [], ℕ, List, drop, length, slice_get, Err, OnOk, IfErr, IsTrue, Some};
 ghost use Rattle.std.specs.List.{AllByRecursion};
 ghost use Rattle.mesa_fault.specs.Causes.{HasFaultCause};
@@ -26,6 +26,7 @@ ghost use Rattle.mesa_query.specs.Sums.{IsNewestFrom, IsSumIn, rows_matching};
 ghost use Rattle.mesa_view.specs.SumDamage.{IsSumDamage};
 ghost use Rattle.mesa_view.specs.declared.error.GatherError.TheVariants as gather;
 
+use crate::beside::gathered_beside;
 use crate::newest::newest_from;
 use crate::regrouped::gather_regrouped;
 use mesa_answer::Groups;
@@ -36,6 +37,38 @@ use mesa_scan::read_ahead;
 use mesa_tasks::PinnedInput;
 use mesa_view::{GatherError, gather, sum_damage};
 use std::alloc::Global;
+use std::thread::Threads;
+
+// Puts the matching rows of all files into groups: by a few threads where that is worth while, and else, or where they don't come to an end, one file after the other.
+pub(crate) fn gather_each<'a, T: Threads + Sync, R: FileReader>(
+    rt: &T,
+    alloc: Global,
+    groups: &mut Groups<'a>,
+    view: Option<u8>,
+    files: &mut [PinnedInput<R>],
+    filter: &Filter,
+) -> Result<(), FileError>
+    requires gathering { HasPut groups.old [] }
+    requires files { AllByRecursion (IsPinnedInput R.bytes (wanted_of groups.old).schema view) files.old }
+    requires filter { filter.now.kinds ≡ kinds_of (wanted_of groups.old).schema }
+    ensures put { OnOk result ((given : List AnyRow) × HasPut groups.new given
+        × ((contents : List (List AnyRow)) → AreTold (knowns_of R.bytes (inputs_in files.old)) contents → given ≡ filtered (wanted_of groups.old).schema filter.now.terms (rows_of (parts_ungrouped view files.old contents)))) }
+    ensures wanted { wanted_of groups.new ≡ wanted_of groups.old }
+    ensures pinned { AllByRecursion (IsPinnedInput R.bytes (wanted_of groups.old).schema view) files.new }
+    ensures known { knowns_of R.bytes (inputs_in files.new) ≡ knowns_of R.bytes (inputs_in files.old) }
+    ensures own { owns_in files.new ≡ owns_in files.old }
+    ensures cause { HaveFaultCause (λ e. e ≡ file_error.Read) (faults_of R.faults (inputs_in files.old)) (faults_of R.faults (inputs_in files.new)) result }
+    ensures damaged { IfErr result (λ e. (d : AnyDamage) → e ≡ file_error.Damaged d → IsDamageIn R.bytes R.size d files.old files.new ⊎ IsSumIn R.bytes (wanted_of groups.old) filter.now.terms view files.old d) }
+    ensures never { IfErr result (λ e. (d : AnyDamage) → e ≡ file_error.Damaged d → (contents : List (List AnyRow)) → AreTold (knowns_of R.bytes (inputs_in files.old)) contents
+        → KeepsSums (wanted_of groups.old).schema (filtered (wanted_of groups.old).schema filter.now.terms (rows_of (parts_ungrouped view files.old contents))) → ⊥) }
+{
+    let found = gathered_beside(rt, alloc, groups, view, files, filter)?;
+    if let Some(all) = found {
+        *groups = all;
+        return Ok(());
+    }
+    gather_all(alloc, groups, view, files, filter)
+}
 
 // Puts the matching rows of all files into groups. A sum that would leave its type is told of the newest file that holds its group.
 pub(crate) fn gather_all<R: FileReader>(

@@ -1,10 +1,15 @@
-//! Queries answered from files: the rows of each file go into the groups of a page as they are read, so that a block of a file and the page's groups are all that is held.
+//! Queries answered from files: the rows of each file go into the groups of a page as they are read, by one thread or by a few, so that a few blocks and the groups are all that is held.
 #![tactic(auto)]
 
 mod answering;
+mod beside;
+mod decoding;
 mod gathering;
+mod jobs;
 mod laws;
 mod newest;
+mod pieces;
+mod reading;
 mod regrouped;
 mod relation;
 mod unpaged;

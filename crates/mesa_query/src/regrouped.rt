@@ -148,7 +148,11 @@ fn put_regrouped(
 }
 
 // Puts a row into its group, where it matches.
-fn put_matching(groups: &mut Groups, row: LentRow, filter: &Filter) -> Result<(), GroupError>
+pub(crate) fn put_matching(
+    groups: &mut Groups,
+    row: LentRow,
+    filter: &Filter,
+) -> Result<(), GroupError>
     requires gathering { (given : List AnyRow) × HasPut groups.old given }
     requires spelled { IsTrue (is_spelling filter.now.kinds row.key.now) }
     requires form { IsRowOf (wanted_of groups.old).schema (lent row) }

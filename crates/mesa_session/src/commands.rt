@@ -94,7 +94,7 @@ fn load<
 }
 
 // A query is decided, answered outside, and closes.
-fn query<'s, N: Naming + Send, M: Made, D: Disk<M>, K: Sink + Send, R: Wait>(
+fn query<'s, N: Naming + Send, M: Made, D: Disk<M>, K: Sink + Send, R: Threads + Wait + Sync>(
     rt: &R,
     alloc: Global,
     lock: &TurnLock<Vault<'s, N, M, D, K>>,
@@ -113,7 +113,7 @@ fn query<'s, N: Naming + Send, M: Made, D: Disk<M>, K: Sink + Send, R: Wait>(
     let (pass, ran, pinned) = pin_turn(rt, lock, pass, who);
     match pinned {
         Some(pinned) => {
-            let (pinned, answer) = answered(alloc, pinned);
+            let (pinned, answer) = answered(rt, alloc, pinned);
             close_turn(rt, lock, pass, who, pinned, answer)
         }
         None => (pass, ran),

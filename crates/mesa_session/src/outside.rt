@@ -54,7 +54,8 @@ fn printed(alloc: Global, page: &Page, query: &Query) -> Result<Rendered, FileEr
 const PAGES: usize = 8;
 
 /// A query beside its page as it is printed, or why there is none. Its files are read through caches, or as they are where there is no memory for those.
-pub(crate) fn answered<R: FileReader>(
+pub(crate) fn answered<T: Threads + Sync, R: FileReader>(
+    rt: &T,
     alloc: Global,
     pinned: Pinned<R>,
 ) -> (Pinned<R>, Result<Rendered, FileError>)
@@ -63,13 +64,14 @@ pub(crate) fn answered<R: FileReader>(
     ensures answer { HasAnswered R.bytes R.faults result.0 result.1 }
 {
     match Warm::new(alloc, pinned, PAGES) {
-        Ok(warm) => answered_warm(alloc, warm),
-        Err((_, pinned)) => answered_as_is(alloc, pinned),
+        Ok(warm) => answered_warm(rt, alloc, warm),
+        Err((_, pinned)) => answered_as_is(rt, alloc, pinned),
     }
 }
 
 // The same of a query whose files are read through caches.
-fn answered_warm<R: FileReader>(
+fn answered_warm<T: Threads + Sync, R: FileReader>(
+    rt: &T,
     alloc: Global,
     mut warm: Warm<R>,
 ) -> (Pinned<R>, Result<Rendered, FileError>)
@@ -78,7 +80,7 @@ fn answered_warm<R: FileReader>(
     ensures answer { HasAnswered R.bytes R.faults result.0 result.1 }
 {
     reads_back();
-    match warm.answer() {
+    match warm.answer(rt) {
         Ok(page) => {
             let pinned = warm.cool();
             let text = printed(alloc, &page, &pinned.query);
@@ -89,7 +91,8 @@ fn answered_warm<R: FileReader>(
 }
 
 // The same of one whose files are read without any.
-fn answered_as_is<R: FileReader>(
+fn answered_as_is<T: Threads + Sync, R: FileReader>(
+    rt: &T,
     alloc: Global,
     mut pinned: Pinned<R>,
 ) -> (Pinned<R>, Result<Rendered, FileError>)
@@ -98,7 +101,7 @@ fn answered_as_is<R: FileReader>(
     ensures answer { HasAnswered R.bytes R.faults result.0 result.1 }
 {
     reads_back();
-    match answer(alloc, &mut pinned) {
+    match answer(rt, alloc, &mut pinned) {
         Ok(page) => {
             let text = printed(alloc, &page, &pinned.query);
             (pinned, text)

@@ -25,6 +25,7 @@ use mesa_query::answer;
 use mesa_tasks::{Pinned, PinnedInput};
 use std::alloc::{AllocError, Global};
 use std::marker::Model;
+use std::thread::Threads;
 
 /// A pinned query each of whose files is read through a cache of its own.
 #[derive(Drop)]
@@ -92,7 +93,7 @@ impl<R: FileReader> Warm<R> {
     }
 
     /// The page of the query, as `answer` of `mesa_query` gives it.
-    pub fn answer(&mut self) -> Result<Page, FileError>
+    pub fn answer<T: Threads + Sync>(&mut self, rt: &T) -> Result<Page, FileError>
         // Where each file is told and its index is true of it, this is the page over the relation's rows in all of them; on every store its rows have the form that is asked.
         ensures page { IfOk result (λ page. (s : Columns) → IsPinned R.bytes s self.old → (contents : List (List AnyRow)) → AreTold (knowns_of R.bytes (inputs_in self.old.inputs.items)) contents
             → page ≡ page_over s self.old.query (parts_pinned self.old.view self.old.inputs.items contents)) }
@@ -111,7 +112,7 @@ impl<R: FileReader> Warm<R> {
         ensures never { IfErr result (λ e. (d : AnyDamage) → e ≡ file_error.Damaged d → (s : Columns) → IsPinned R.bytes s self.old → (contents : List (List AnyRow)) → AreTold (knowns_of R.bytes (inputs_in self.old.inputs.items)) contents
             → KeepsSums s (rows_of (parts_ungrouped self.old.view self.old.inputs.items contents)) → ⊥) }
     {
-        answer(self.alloc, &mut self.pinned)
+        answer(rt, self.alloc, &mut self.pinned)
     }
 
     /// The query without the caches. It takes no memory.

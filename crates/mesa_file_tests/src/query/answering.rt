@@ -21,6 +21,7 @@ use std::alloc::{AllocError, Global};
 use std::process::Abort;
 use std::sync::Arc;
 use std::test::Fail;
+use std::thread::Threads;
 
 fn words(rt: &impl Abort, alloc: Global, text: &str) -> Words {
     Items::from_bytes(alloc, text.as_bytes()).expect(rt, "room")
@@ -75,7 +76,8 @@ pub fn query_of(
 }
 
 /// The page of a query from these files.
-pub fn page_of<R: FileReader + Drop>(
+pub fn page_of<T: Threads + Sync, R: FileReader + Drop>(
+    rt: &T,
     alloc: Global,
     query: Query,
     view: Option<u8>,
@@ -90,12 +92,12 @@ pub fn page_of<R: FileReader + Drop>(
         at: 0,
         inputs,
     };
-    answer(alloc, &mut pinned)
+    answer(rt, alloc, &mut pinned)
 }
 
 /// What the query is answered from an older and a newer file of the table `t`.
-pub fn answered<R: FileReader + Drop>(
-    rt: &impl Abort,
+pub fn answered<T: Abort + Threads + Sync, R: FileReader + Drop>(
+    rt: &T,
     alloc: Global,
     older: Source<R>,
     newer: Source<R>,
@@ -106,7 +108,7 @@ pub fn answered<R: FileReader + Drop>(
     let first = own(rt, alloc, older, &table);
     let second = own(rt, alloc, newer, &table);
     let inputs = two(rt, alloc, first, second);
-    page_of(alloc, query, None, inputs)
+    page_of(rt, alloc, query, None, inputs)
 }
 
 // Where a bit of a block is another than in the files.
@@ -116,8 +118,8 @@ struct Turned {
     newer: Option<usize>,
 }
 
-fn answer_of(
-    rt: &impl Abort,
+fn answer_of<T: Abort + Threads + Sync>(
+    rt: &T,
     alloc: Global,
     turned: Turned,
     resume: &str,
@@ -157,7 +159,12 @@ static PAGES: [(&str, &str); 2] = [
     ("t/3/0/a/8000000000000002", "Some(3) Some(30), more: false"),
 ];
 
-fn expect_page(rt: &impl Abort, alloc: Global, resume: &str, want: &str) -> Result<(), Fail> {
+fn expect_page<T: Abort + Threads + Sync>(
+    rt: &T,
+    alloc: Global,
+    resume: &str,
+    want: &str,
+) -> Result<(), Fail> {
     let turned = Turned {
         older: None,
         newer: None,
@@ -201,7 +208,7 @@ static DAMAGES: [(Turned, u64); 3] = [
     ),
 ];
 
-fn expect_damage(rt: &impl Abort, alloc: Global, turned: Turned, id: u64) {
+fn expect_damage<T: Abort + Threads + Sync>(rt: &T, alloc: Global, turned: Turned, id: u64) {
     match answer_of(rt, alloc, turned, "") {
         Err(FileError::Damaged(damage)) => {
             assert_eq!(rt; (damage.file, damage.place), (FileId::of(id), 0));

@@ -23,22 +23,33 @@ pub struct Source<R> {
     pub file: FileRef,
 }
 
-// A disk with a file of these bytes.
-fn disk_with(rt: &impl Abort, alloc: Global, id: FileId, bytes: Vec<u8>) -> MemDisk {
+// A disk with a file of these bytes, of which this read fails, counted from 0.
+fn disk_with(
+    rt: &impl Abort,
+    alloc: Global,
+    id: FileId,
+    bytes: Vec<u8>,
+    fails: Option<u64>,
+) -> MemDisk {
     let mut files = Vec::new(alloc);
     let bytes = ByteList::from_vec(bytes);
     files.push((id, bytes)).expect(rt, "room");
-    MemDisk::new(
-        alloc,
-        Vec::new(alloc),
-        Vec::new(alloc),
-        files,
-        Vec::new(alloc),
-    )
+    let (zero, one) = (Vec::new(alloc), Vec::new(alloc));
+    let mut disk = MemDisk::new(alloc, zero, one, files, Vec::new(alloc));
+    if let Some(nth) = fails {
+        disk.spoil_read(id, nth);
+    }
+    disk
 }
 
-fn reader_of(rt: &impl Abort, alloc: Global, id: FileId, bytes: Vec<u8>) -> MemReader {
-    let mut disk = disk_with(rt, alloc, id, bytes);
+fn reader_of(
+    rt: &impl Abort,
+    alloc: Global,
+    id: FileId,
+    bytes: Vec<u8>,
+    fails: Option<u64>,
+) -> MemReader {
+    let mut disk = disk_with(rt, alloc, id, bytes, fails);
     disk.reader(id).expect(rt, "a reader")
 }
 
@@ -80,9 +91,29 @@ pub fn source_over(
     vector: &Vector,
     bytes: Vec<u8>,
 ) -> Source<MemReader> {
+    source_spoiled(rt, alloc, vector, bytes, None)
+}
+
+/// A file of which this read fails, counted from 0.
+pub fn source_failing(
+    rt: &impl Abort,
+    alloc: Global,
+    vector: &Vector,
+    nth: u64,
+) -> Source<MemReader> {
+    source_spoiled(rt, alloc, vector, bytes_of(rt, alloc, vector), Some(nth))
+}
+
+fn source_spoiled(
+    rt: &impl Abort,
+    alloc: Global,
+    vector: &Vector,
+    bytes: Vec<u8>,
+    fails: Option<u64>,
+) -> Source<MemReader> {
     let file = reference(rt, alloc, vector, bytes.len() as u64);
     Source {
-        reader: reader_of(rt, alloc, file.id, bytes),
+        reader: reader_of(rt, alloc, file.id, bytes, fails),
         file,
     }
 }
@@ -156,8 +187,8 @@ pub fn derived<R: FileReader + Drop>(
     PinnedInput { input, own: false }
 }
 
-// One file more.
-fn put<R: FileReader + Drop>(
+/// One file more.
+pub fn more<R: FileReader + Drop>(
     rt: &impl Abort,
     inputs: &mut Vec<PinnedInput<R>>,
     input: PinnedInput<R>,
@@ -178,7 +209,7 @@ pub fn one<R: FileReader + Drop>(
     ensures { result.items ≡ input ∷ [] }
 {
     let mut inputs = Vec::new(alloc);
-    put(rt, &mut inputs, input);
+    more(rt, &mut inputs, input);
     inputs
 }
 
@@ -192,8 +223,8 @@ pub fn two<R: FileReader + Drop>(
     ensures { result.items ≡ older ∷ newer ∷ [] }
 {
     let mut inputs = Vec::new(alloc);
-    put(rt, &mut inputs, older);
-    put(rt, &mut inputs, newer);
+    more(rt, &mut inputs, older);
+    more(rt, &mut inputs, newer);
     inputs
 }
 
@@ -208,6 +239,6 @@ pub fn three<R: FileReader + Drop>(
     ensures { result.items ≡ first ∷ second ∷ third ∷ [] }
 {
     let mut inputs = two(rt, alloc, first, second);
-    put(rt, &mut inputs, third);
+    more(rt, &mut inputs, third);
     inputs
 }

@@ -9,6 +9,7 @@ use mesa_key::KeyType;
 use mesa_model::Page;
 use std::alloc::Global;
 use std::process::Abort;
+use std::thread::Threads;
 
 // How many bytes each of the four blocks of the pairs has.
 const BLOCK_BYTES: usize = 24_579;
@@ -76,8 +77,8 @@ fn damage_of(answered: Result<Page, FileError>) -> Option<Damage> {
 }
 
 // What the query is answered from one file of the table.
-fn answered_alone<R: FileReader + Drop>(
-    rt: &impl Abort,
+fn answered_alone<T: Abort + Threads + Sync, R: FileReader + Drop>(
+    rt: &T,
     alloc: Global,
     source: Source<R>,
 ) -> Result<Page, FileError> {
@@ -85,23 +86,23 @@ fn answered_alone<R: FileReader + Drop>(
     let query = query_of(rt, alloc, &table, "t", by_a(""));
     let file = own(rt, alloc, source, &table);
     let inputs = one(rt, alloc, file);
-    page_of(alloc, query, None, inputs)
+    page_of(rt, alloc, query, None, inputs)
 }
 
 // The damage that a query over the file tells.
-fn told_ahead(rt: &impl Abort, alloc: Global, bytes: Vec<u8>) -> Option<Damage> {
+fn told_ahead<T: Abort + Threads + Sync>(rt: &T, alloc: Global, bytes: Vec<u8>) -> Option<Damage> {
     let source = source_over(rt, alloc, &VECTORS[PAIRS], bytes);
     damage_of(answered_alone(rt, alloc, source))
 }
 
 // The damage that a query tells of the file behind one of a single block.
-fn told_behind(rt: &impl Abort, alloc: Global, bytes: Vec<u8>) -> Option<Damage> {
+fn told_behind<T: Abort + Threads + Sync>(rt: &T, alloc: Global, bytes: Vec<u8>) -> Option<Damage> {
     let older = source_of(rt, alloc, &VECTORS[NEWER], None);
     let newer = source_over(rt, alloc, &VECTORS[PAIRS], bytes);
     damage_of(answered(rt, alloc, older, newer, ""))
 }
 
-fn expect_damage(rt: &impl Abort, alloc: Global, change: Change, block: usize) {
+fn expect_damage<T: Abort + Threads + Sync>(rt: &T, alloc: Global, change: Change, block: usize) {
     let alone = told_alone(rt, alloc, changed(rt, alloc, change, block));
     let ahead = told_ahead(rt, alloc, changed(rt, alloc, change, block));
     let behind = told_behind(rt, alloc, changed(rt, alloc, change, block));

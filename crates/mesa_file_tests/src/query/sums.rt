@@ -9,6 +9,7 @@ use mesa_key::KeyType;
 use mesa_model::Page;
 use std::alloc::Global;
 use std::process::Abort;
+use std::thread::Threads;
 
 // A filter, the third file, and the id of the file of which the sum is told.
 #[derive(Clone, Copy)]
@@ -47,8 +48,8 @@ static SUMS: [Case; 4] = [
 ];
 
 // What the query by `a` is answered from the first two files and this one.
-fn answered_of(
-    rt: &impl Abort,
+fn answered_of<T: Abort + Threads + Sync>(
+    rt: &T,
     alloc: Global,
     filter: &str,
     third: Source<MemReader>,
@@ -66,10 +67,15 @@ fn answered_of(
     let second = own(rt, alloc, second, &table);
     let third = own(rt, alloc, third, &table);
     let inputs = three(rt, alloc, first, second, third);
-    page_of(alloc, query, None, inputs)
+    page_of(rt, alloc, query, None, inputs)
 }
 
-fn damage_of(rt: &impl Abort, alloc: Global, filter: &str, third: Source<MemReader>) -> Damage {
+fn damage_of<T: Abort + Threads + Sync>(
+    rt: &T,
+    alloc: Global,
+    filter: &str,
+    third: Source<MemReader>,
+) -> Damage {
     match answered_of(rt, alloc, filter, third) {
         Err(FileError::Damaged(damage)) => damage,
         Err(error) => panic!(rt; "{error:?}"),
@@ -77,7 +83,7 @@ fn damage_of(rt: &impl Abort, alloc: Global, filter: &str, third: Source<MemRead
     }
 }
 
-fn expect_sum(rt: &impl Abort, alloc: Global, case: Case) {
+fn expect_sum<T: Abort + Threads + Sync>(rt: &T, alloc: Global, case: Case) {
     assert!(rt; case.third < VECTORS.len());
     let third = source_of(rt, alloc, &VECTORS[case.third], None);
     let damage = damage_of(rt, alloc, case.filter, third);

@@ -12,6 +12,7 @@ use mesa_view::derive;
 use std::alloc::Global;
 use std::process::Abort;
 use std::test::Fail;
+use std::thread::Threads;
 
 // The one row of key 1 and of this value.
 fn expect_one(rt: &impl Abort, rows: &[Row], value: Amount) {
@@ -38,8 +39,8 @@ fn derives_the_rows_of_a_view(rt: HostRuntime) -> Result<(), Fail> {
 }
 
 // What a query of the view is answered from a file of its table and a file of its own.
-fn answered<R: FileReader + Drop>(
-    rt: &impl Abort,
+fn answered<T: Abort + Threads + Sync, R: FileReader + Drop>(
+    rt: &T,
     alloc: Global,
     older: Source<R>,
     newer: Source<R>,
@@ -50,10 +51,10 @@ fn answered<R: FileReader + Drop>(
     let first = derived(rt, alloc, older, &table);
     let second = own(rt, alloc, newer, &view);
     let inputs = two(rt, alloc, first, second);
-    page_of(alloc, query, Some(0), inputs)
+    page_of(rt, alloc, query, Some(0), inputs)
 }
 
-fn expect_answered(rt: &impl Abort, alloc: Global) -> Result<(), Fail> {
+fn expect_answered<T: Abort + Threads + Sync>(rt: &T, alloc: Global) -> Result<(), Fail> {
     let older = source_of(rt, alloc, &VECTORS[BEFORE], None);
     let newer = source_of(rt, alloc, &VECTORS[OWN], None);
     let page = answered(rt, alloc, older, newer)?;

@@ -15,6 +15,7 @@ use mesa_tasks::Pinned;
 use mesa_warm::Warm;
 use std::alloc::Global;
 use std::process::Abort;
+use std::thread::Threads;
 
 /// A filter, and the keys of the page's rows in digits.
 type Answered = (&'static str, &'static [&'static str]);
@@ -34,38 +35,38 @@ fn expect_rows(rt: &impl Abort, alloc: Global, page: &Page, keys: &[&str]) {
 }
 
 // What is answered through caches.
-fn expect_warm<R: FileReader + Drop>(
-    rt: &impl Abort,
+fn expect_warm<T: Abort + Threads + Sync, R: FileReader + Drop>(
+    rt: &T,
     alloc: Global,
     warm: &mut Warm<R>,
     keys: &[&str],
 )
     ensures { (s : Columns) → IsPinned R.bytes s warm.old → IsPinned R.bytes s warm.new }
 {
-    match warm.answer() {
+    match warm.answer(rt) {
         Ok(page) => expect_rows(rt, alloc, &page, keys),
         Err(error) => panic!(rt; "{error:?}"),
     }
 }
 
 // What is answered without them.
-fn expect_cold<R: FileReader + Drop>(
-    rt: &impl Abort,
+fn expect_cold<T: Abort + Threads + Sync, R: FileReader + Drop>(
+    rt: &T,
     alloc: Global,
     pinned: &mut Pinned<R>,
     keys: &[&str],
 )
     requires { (s : Columns) × IsPinned R.bytes s pinned.old }
 {
-    match answer(alloc, pinned) {
+    match answer(rt, alloc, pinned) {
         Ok(page) => expect_rows(rt, alloc, &page, keys),
         Err(error) => panic!(rt; "{error:?}"),
     }
 }
 
 // The same rows, whether blocks are read for the first time, from pages that are kept, or from the file itself.
-fn expect_answers<R: FileReader + Drop>(
-    rt: &impl Abort,
+fn expect_answers<T: Abort + Threads + Sync, R: FileReader + Drop>(
+    rt: &T,
     alloc: Global,
     mut warm: Warm<R>,
     keys: &[&str],
@@ -117,8 +118,8 @@ fn pinned_of<R: FileReader + Drop>(
     }
 }
 
-fn expect_case(
-    rt: &impl Abort,
+fn expect_case<T: Abort + Threads + Sync>(
+    rt: &T,
     alloc: Global,
     vector: &Vector,
     names: &[&str],

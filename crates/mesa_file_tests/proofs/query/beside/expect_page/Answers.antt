@@ -1,0 +1,9 @@
+use Rattle.mesa_file_tests.proofs.query.beside.expect_page.Goals as goal
+
+pub answer-requires-after_bounds : goal.answer-requires-after_bounds
+answer-requires-after_bounds g c κs within = c.pinned_of-pinned.ensures
+
+pub whole-requires-after_bounds : goal.whole-requires-after_bounds
+whole-requires-after_bounds g c = λ κs.
+    let h = c.pinned_of-pinned.ensures in
+    (h.0, c.answer.ensures.pinned h.0 h.1)

@@ -1,0 +1,18 @@
+use Rattle.std.proofs.Common.{◌≡◌, List}
+use Rattle.std.specs.List.{AllByRecursion}
+use Rattle.mesa_schema.specs.declared.rows.Row.{Row}
+use Rattle.mesa_schema.specs.Columns.{Columns}
+use Rattle.mesa_merge.specs.Inputs.{AreTold, knowns_of}
+use Rattle.mesa_tasks.specs.Pins.{IsPinnedInput}
+use Rattle.mesa_query.specs.Files.{inputs_in}
+use Rattle.mesa_query.specs.Pieces.{IsPieceOf, rows_of_pieces}
+use Rattle.mesa_query.proofs.Contents.{matching_first}
+use Rattle.mesa_query.proofs.pieces.pieces_of.Given as goal
+
+-- the blocks of the files so far are there
+abbrev pub invariant-each_file : goal.invariant-each_file
+invariant-each_file g l = record {
+  pieces : AllByRecursion (IsPieceOf (knowns_of g.R.FileReader.bytes (inputs_in l.files))) l.pieces.items;
+  rows : (s : Columns) → AllByRecursion (IsPinnedInput g.R.FileReader.bytes s l.fn.view) l.files → (contents : List (List Row)) → AreTold (knowns_of g.R.FileReader.bytes (inputs_in l.files)) contents
+      → rows_of_pieces l.filter (knowns_of g.R.FileReader.bytes (inputs_in l.files)) contents l.pieces.items ≡ matching_first s l.filter.terms l.fn.view l.files contents l.i;
+}
