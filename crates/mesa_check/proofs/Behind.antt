@@ -14,7 +14,7 @@ use Rattle.mesa_table.specs.declared.table.Table.{Table}
 use Rattle.mesa_table.specs.Meaning.{AreLoaded, IsTable, start_of_base, stock_of}
 use Rattle.mesa_table.specs.Named.{through}
 use Rattle.mesa_plans.specs.Lent.{lent_if_any, single_delta, with_rows}
-use Rattle.mesa_plans.proofs.Among.{all_merged}
+use Rattle.mesa_plans.proofs.Among.{all_singles}
 use Rattle.mesa_plans.proofs.Lending.{singles_taken, start_held}
 use Rattle.mesa_check.specs.Faults.{merged_singles}
 use Rattle.mesa_check.specs.Held.{delta_of, lent_delta}
@@ -74,5 +74,5 @@ lent_first (Some d) xs ys e = ap (λ ds. cond (is_some d.now.files) (d.now ∷ d
 
 -- what makes up a range has the epochs of a table
 pub parts_epochs : (u : Stock) (o : Option Test) (to epoch : ℕ) → AllByRecursion (λ (d : Delta). d.epoch ≤ epoch) (deltas_of u) → IfSome o (λ b. (delta_of b.range).epoch ≤ epoch) → AllByRecursion (λ (d : Delta). d.epoch ≤ epoch) (parts_of u o to)
-parts_epochs u None to epoch all before = all_merged (λ (d : Delta). d.epoch ≤ epoch) u all false to
-parts_epochs u (Some b) to epoch all before = (before, all_drop (λ (d : Delta). d.epoch ≤ epoch) (b.range.to + 1 - start_in u) (merged_singles u to) (all_merged (λ (d : Delta). d.epoch ≤ epoch) u all false to))
+parts_epochs u None to epoch all before = all_singles (λ (d : Delta). d.epoch ≤ epoch) u all to
+parts_epochs u (Some b) to epoch all before = (before, all_drop (λ (d : Delta). d.epoch ≤ epoch) (b.range.to + 1 - start_in u) (merged_singles u to) (all_singles (λ (d : Delta). d.epoch ≤ epoch) u all to))

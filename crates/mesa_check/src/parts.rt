@@ -9,7 +9,7 @@ ghost use Rattle.mesa_check.specs.Held.{delta_of};
 ghost use Rattle.mesa_check.specs.Parts.{parts_of};
 
 use crate::testing::Test;
-use mesa_plans::{Deltas, merged};
+use mesa_plans::{Deltas, singles_to};
 use mesa_table::{Loaded, Table};
 
 /// The deltas whose fold the cumulative that ends at a version is to have: the singletons of its range; or the cumulative before it, where one is told, and the singletons since then. Takes no memory.
@@ -25,7 +25,7 @@ pub(crate) fn parts<'a>(table: &'a Table, before: Option<&Test<'a>>, to: u32) ->
             cumulative: before.range.delta,
             singles: loaded_between(&table.loaded, before.range.to, to),
         },
-        None => merged(table, false, to),
+        None => singles_to(table, to),
     }
 }
 

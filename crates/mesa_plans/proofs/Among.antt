@@ -8,6 +8,7 @@ use Rattle.mesa_image_spec.specs.Catalog.{Delta, Ending, Stock, end_in, start_in
 use Rattle.mesa_image_spec.specs.Fitting.{base_deltas, delta_in, deltas_of}
 use Rattle.mesa_image_spec.specs.Brought.{merged_of}
 use Rattle.mesa_image_spec.specs.Planned.{behind_base, ending_at, longest_to, planned}
+use Rattle.mesa_plans.specs.Folding.{folded_deltas}
 use Rattle.mesa_plans.specs.Lent.{AreOfEpochs}
 
 -- ---- lists
@@ -60,9 +61,12 @@ module _ (P : Delta → Type 0) (t : Stock) (all : AllByRecursion P (deltas_of t
   pub all_planned : (version : ℕ) → AllByRecursion P (planned t version)
   all_planned version = joined P (base_deltas t.base) (behind_base t version (longest_to t version)) of_base (of_plan version (longest_to t version) refl)
 
-  pub all_merged : (base : Bool) (to : ℕ) → AllByRecursion P (merged_of t base to)
-  all_merged true to = joined P (base_deltas t.base) (take (to + 1 - start_in t) t.singles) of_base (first P (to + 1 - start_in t) t.singles behind.1)
-  all_merged false to = first P (to + 1 - start_in t) t.singles behind.1
+  pub all_singles : (to : ℕ) → AllByRecursion P (merged_of t false to)
+  all_singles to = first P (to + 1 - start_in t) t.singles behind.1
+
+  pub all_folded : (base : Bool) (to : ℕ) → AllByRecursion P (folded_deltas t base to)
+  all_folded true to = all_planned to
+  all_folded false to = of_plan to (longest_to t to) refl
 
 -- so those with rows
 pub epochs_chosen : (epoch : ℕ) (ds : List Delta) → AllByRecursion (λ (d : Delta). d.epoch ≤ epoch) ds → AreOfEpochs epoch ds

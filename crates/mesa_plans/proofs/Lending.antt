@@ -1,16 +1,15 @@
 -- The deltas of a plan and of a work are those that are lent.
-use Rattle.std.proofs.Common.{◌≡◌, ℕ, zero, suc, ◌+◌, ◌-◌, ◌*◌, ◌≤◌, ◌<◌, List, [], ◌∷◌, ◌++◌, length, map, take, drop, refl, sym, ap, ◌∙◌, arith, Bool, true, false, cond}
-use Rattle.std.specs.Prelude.{flat_map, is_some, nat_le, nat_lt, Some, option_map, slice_get}
+use Rattle.std.proofs.Common.{◌≡◌, ℕ, zero, suc, ◌+◌, ◌-◌, ◌*◌, ◌≤◌, ◌<◌, List, [], ◌∷◌, ◌++◌, length, map, take, drop, refl, sym, ap, ◌∙◌, arith, true, false, cond}
+use Rattle.std.specs.Prelude.{flat_map, is_some, nat_le, nat_lt, Some, slice_get}
 use Rattle.std.proofs.lemmas.Bool.Decides.{nat_tests}
 use Rattle.std.proofs.lemmas.List.Elements.{filter-append, filter_agree}
 use Rattle.mesa_span.specs.Ranges.{end_of, start_behind}
 use Rattle.mesa_image_spec.specs.Catalog.{Delta, start_in}
-use Rattle.mesa_image_spec.specs.Fitting.{base_deltas}
 use Rattle.mesa_image_spec.specs.Brought.{merged_of}
 use Rattle.mesa_image_spec.specs.Planned.{behind_base, longest_to}
 use Rattle.mesa_table.specs.declared.table.Loaded.{Loaded}
 use Rattle.mesa_table.specs.declared.table.Table.{Table}
-use Rattle.mesa_table.specs.Meaning.{AreLoaded, IsTable, ending_of, singles_from, start_of_base, stock_of}
+use Rattle.mesa_table.specs.Meaning.{AreLoaded, IsTable, singles_from, start_of_base, stock_of}
 use Rattle.mesa_table.specs.Named.{through}
 use Rattle.mesa_table.proofs.Named.{flat_map-map, singles_through}
 use Rattle.mesa_table.proofs.Singles.{behind, loaded_behind, singles_dropped}
@@ -97,15 +96,10 @@ pub rows_join : (ps bs cs ds : List Delta) → with_rows ps ≡ with_rows bs →
 rows_join ps bs cs ds first rest =
     filter-append (λ (d : Delta). is_some d.files) ps cs ∙ (λ i. first i ++ rest i) ∙ sym (filter-append (λ (d : Delta). is_some d.files) bs ds)
 
--- ---- what a work folds
+-- ---- the singletons of a range
 
--- the deltas that a table stands for in a work's range
-pub merged_lent : (next to : ℕ) (base : Bool) (t : Table) (lent : List Delta) → IsTable next t → with_rows lent ≡ with_rows (cond base (base_deltas (option_map ending_of t.base)) [])
-    → with_rows (lent ++ map single_delta (through to t.loaded.items)) ≡ with_rows (merged_of (stock_of next t) base to)
-merged_lent next to base t lent is same =
+-- those that a table stands for up to a version
+pub singles_lent : (next to : ℕ) (t : Table) → IsTable next t → with_rows (map single_delta (through to t.loaded.items)) ≡ with_rows (merged_of (stock_of next t) false to)
+singles_lent next to t is =
     let u = stock_of next t in
-    let singles = sym (ap (λ n. with_rows (take (to + 1 - n) u.singles)) (start_held next t) ∙ singles_taken (start_of_base t.base) to next t.loaded.items is.loaded) in
-    elim base as (λ b. with_rows lent ≡ with_rows (cond b (base_deltas (option_map ending_of t.base)) []) → with_rows (lent ++ map single_delta (through to t.loaded.items)) ≡ with_rows (merged_of u b to)) [
-      | true ↦ λ e. rows_join lent (base_deltas u.base) (map single_delta (through to t.loaded.items)) (take (to + 1 - start_in u) u.singles) e singles
-      | false ↦ λ e. rows_join lent [] (map single_delta (through to t.loaded.items)) (take (to + 1 - start_in u) u.singles) e singles
-    ] same
+    sym (ap (λ n. with_rows (take (to + 1 - n) u.singles)) (start_held next t) ∙ singles_taken (start_of_base t.base) to next t.loaded.items is.loaded)

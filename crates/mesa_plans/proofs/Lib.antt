@@ -6,6 +6,7 @@ pub mod Longest
 pub mod Lending
 pub mod Filing
 pub mod Among
+pub mod Cumulative
 pub mod Viewing
 pub mod Joined
 mod Parting

@@ -1,4 +1,4 @@
--- The sums over the deltas of a plan, or of a range that is merged, stay in their type.
+-- The sums over the deltas of a plan, or of a work, stay in their type.
 use Rattle.std.proofs.Common.{◌≡◌, ℕ, zero, suc, ◌+◌, ◌-◌, ◌<◌, ◌≤◌, List, [], ◌∷◌, ◌++◌, map, take, drop, length, refl, sym, ap, ◌∙◌, subst, arith, zero-add, add_assoc, Option, Some, None, true, false}
 use Rattle.std.specs.Prelude.{nat_abs, pos, slice_get, slice_index_or, ◌==◌}
 use Rattle.std.specs.List.{AllByRecursion}
@@ -22,7 +22,7 @@ use Rattle.mesa_table.specs.mesa_image_spec.Contents.{Rows, present}
 use Rattle.mesa_table.specs.mesa_image_spec.Fitting.{base_deltas, delta_in, delta_shelved, deltas_of}
 use Rattle.mesa_table.specs.mesa_image_spec.Shape.{IsShaped}
 use Rattle.mesa_table.specs.mesa_image_spec.Sound.{IsMerged, IsStocked, IsTold}
-use Rattle.mesa_image_spec.specs.Brought.{merged_of}
+use Rattle.mesa_plans.specs.Folding.{folded_deltas}
 use Rattle.mesa_image_spec.specs.Planned.{behind_base, ending_at, longest_to, planned}
 use Rattle.mesa_image_spec.proofs.Formed.{all_formed, rows_formed}
 use Rattle.mesa_image_spec.proofs.Lists.{all_back, all_take, all_unflat}
@@ -103,13 +103,14 @@ module _ (rows : Rows) (oldest next : ℕ) (t : Stock) (shaped : IsShaped oldest
       let rest = total_cut c (version - e.to) (drop n t.singles) in
       omega (arith, first, one, all, rest)
 
-  all_below : (c : ℕ) → slice_get (aggs_of (columns_of t.lineage)) c ≡ Some Sum → total_of c (base_deltas t.base ++ t.singles) < sum_bound
+  -- No sum over the base and all singletons leaves its type.
+  pub all_below : (c : ℕ) → slice_get (aggs_of (columns_of t.lineage)) c ≡ Some Sum → total_of c (base_deltas t.base ++ t.singles) < sum_bound
   all_below c sum =
       let f : ℕ → ℕ = λ k. total_of k (base_deltas t.base ++ t.singles) in
       let here : 0 + c ≡ c = zero-add c in
       subst (λ k. f k < sum_bound) here (of_sum (λ k. f k < sum_bound) 0 (aggs_of s) (sums_below f (sum_places 0 (aggs_of s)) t.totals stocked.bound shaped.bounded) c sum)
 
-  -- No sum over the deltas of a plan leaves its type.
+  -- Nor does one over the deltas of a plan.
   pub planned_sums : (version c : ℕ) → slice_get (aggs_of (columns_of t.lineage)) c ≡ Some Sum → total_of c (planned t version) < sum_bound
   planned_sums version c sum =
       let o = longest version (map end_in t.cumulatives) in
@@ -119,18 +120,11 @@ module _ (rows : Rows) (oldest next : ℕ) (t : Stock) (shaped : IsShaped oldest
       let behind = behind_at_most c sum version o (longest_to t version) refl in
       omega (arith, all, whole, plan, behind)
 
-  -- Nor does one over the deltas that a work merges.
-  pub merged_sums : (base : _) (to c : ℕ) → slice_get (aggs_of (columns_of t.lineage)) c ≡ Some Sum → total_of c (merged_of t base to) < sum_bound
-  merged_sums true to c sum =
-      let n = to + 1 - start_in t in
+  -- Nor over those that a work folds.
+  pub folded_sums : (base : _) (to c : ℕ) → slice_get (aggs_of (columns_of t.lineage)) c ≡ Some Sum → total_of c (folded_deltas t base to) < sum_bound
+  folded_sums true to c sum = planned_sums to c sum
+  folded_sums false to c sum =
       let all = all_below c sum in
       let whole = total_append c (base_deltas t.base) t.singles in
-      let some = total_append c (base_deltas t.base) (take n t.singles) in
-      let cut = total_cut c n t.singles in
-      omega (arith, all, whole, some, cut)
-  merged_sums false to c sum =
-      let n = to + 1 - start_in t in
-      let all = all_below c sum in
-      let whole = total_append c (base_deltas t.base) t.singles in
-      let cut = total_cut c n t.singles in
-      omega (arith, all, whole, cut)
+      let behind = behind_at_most c sum to (longest to (map end_in t.cumulatives)) (longest_to t to) refl in
+      omega (arith, all, whole, behind)

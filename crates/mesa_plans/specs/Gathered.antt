@@ -4,7 +4,6 @@ use Rattle.std.specs.List.{range_with_len}
 use Rattle.mesa_disk.specs.Image.{Image}
 use Rattle.mesa_span.specs.declared.works.Work.{Work}
 use Rattle.mesa_table.specs.mesa_image_spec.Catalog.{Stock}
-use Rattle.mesa_image_spec.specs.Brought.{merged_of}
 use Rattle.mesa_image_spec.specs.Moves.{is_base, last_of}
 use Rattle.mesa_tasks.specs.Opening.{HaveOpened}
 use Rattle.mesa_tasks.specs.declared.merging.Task.{Task}
@@ -13,6 +12,7 @@ use Rattle.mesa_tasks.specs.declared.opening.Unopened.{Unopened}
 use Rattle.mesa_tasks.specs.declared.opening.Unopened.TheVariants as un
 use Rattle.mesa_tasks.specs.declared.opening.Wanted.{Wanted}
 use Rattle.mesa_plans.specs.Files.{table_wanted, want_of}
+use Rattle.mesa_plans.specs.Folding.{folded_deltas}
 
 -- whether a fault of the disk or of a reader ended an opening
 abbrev pub is_fault_among : {T : Type 0} → Result T Unopened → Bool
@@ -31,5 +31,5 @@ unread_views from count = map unread_view (range_with_len from count)
 -- A task has the table's files of the deltas that its work folds, in version order: all of them were opened, or those before the first that isn't the recorded one.
 pub record IsGathered {R : Type 0} (bytes : R → Option (List ℕ)) (faults : R → ℕ) (told : Option Image) (t : Stock) (work : Work) (task : Task R) : Type 0 where
   pub wanted : List Wanted
-  pub are : map want_of wanted ≡ flat_map (table_wanted t.lineage) (merged_of t (is_base work) (last_of work))
+  pub are : map want_of wanted ≡ flat_map (table_wanted t.lineage) (folded_deltas t (is_base work) (last_of work))
   pub opened : HaveOpened bytes faults told wanted task.inputs.items task.damage

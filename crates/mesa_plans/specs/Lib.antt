@@ -8,6 +8,7 @@ pub use Rattle.mesa_schema.specs as mesa_schema
 pub use Rattle.mesa_table.specs as mesa_table
 pub use Rattle.mesa_schema.specs.mesa_value as mesa_value
 pub mod Lent
+pub mod Folding
 pub mod Files
 pub mod Gathered
 pub mod Parts

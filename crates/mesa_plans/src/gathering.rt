@@ -1,11 +1,11 @@
 // Opening the files of a range.
-ghost use Rattle.std.specs.Prelude.{◌≡◌, ◌≢◌, ◌-◌, ◌≤◌, ℕ, IfOk, IfSome, length};
+ghost use Rattle.std.specs.Prelude.{◌≡◌, ◌≢◌, ◌-◌, ◌<◌, ◌≤◌, ◌^◌, ℕ, IfOk, IfSome, length};
 ghost use Rattle.std.specs.List.{AllByRecursion};
 ghost use Rattle.mesa_schema.specs.Changes.{epoch_of};
 ghost use Rattle.mesa_disk.specs.Story.{Unmoved};
 ghost use Rattle.mesa_table.specs.mesa_image_spec.Fitting.{deltas_of};
-ghost use Rattle.mesa_image_spec.specs.Brought.{merged_of};
 ghost use Rattle.mesa_image_spec.specs.Moves.{is_base, last_of};
+ghost use Rattle.mesa_plans.specs.Folding.{folded_deltas};
 ghost use Rattle.mesa_plans.specs.Lent.{AreOfEpochs, lent_in, with_rows};
 ghost use Rattle.mesa_table.specs.Meaning.{IsTable, stock_of};
 ghost use Rattle.mesa_tasks.specs.Opening.{Counted};
@@ -13,15 +13,16 @@ ghost use Rattle.mesa_tasks.specs.Spares.{HasSpares};
 ghost use Rattle.mesa_tasks.specs.Tasks.{IsTask};
 ghost use Rattle.mesa_plans.specs.Gathered.{IsGathered, is_fault_among, unread_views};
 
+use crate::folding::folded;
 use crate::parts::{Part, Parts, open_parts};
-use crate::{Deltas, merged, table_files};
+use crate::{Deltas, table_files};
 use mesa_disk::{Disk, Made};
 use mesa_span::Work;
 use mesa_table::Table;
 use mesa_tasks::{Spare, Task, Unopened};
 use std::alloc::Global;
 
-/// The task of a work on the table of a number, which has no lease yet: the table's files of its range are open. They are opened once for each part of the merge, and at least once. The first file that isn't the recorded one ends the opening, and is told in the task. Each view's rows are to be derived from the table's.
+/// The task of a work on the table of a number, which has no lease yet: the table's files of what it folds are open. They are opened once for each part of the merge, and at least once. The first file that isn't the recorded one ends the opening, and is told in the task. Each view's rows are to be derived from the table's.
 pub fn gather<M: Made, D: Disk<M>>(
     alloc: Global,
     disk: &mut D,
@@ -30,7 +31,7 @@ pub fn gather<M: Made, D: Disk<M>>(
     work: Work,
     parts: u8,
 ) -> Result<Task<D::Reader>, Unopened>
-    requires { (next : ℕ) × IsTable next table.now × AllByRecursion (λ d. d.epoch ≤ epoch_of table.now.evolving.value) (deltas_of (stock_of next table.now)) }
+    requires { (next : ℕ) × (next < 2 ^ 32) × IsTable next table.now × AllByRecursion (λ d. d.epoch ≤ epoch_of table.now.evolving.value) (deltas_of (stock_of next table.now)) }
     ensures unmoved { Unmoved (D.story disk.old) (D.story disk.new) }
     ensures counted { Counted (D.story disk.old) (D.story disk.new) (is_fault_among result) }
     ensures table { IfOk result (λ t. t.table ≡ number) }
@@ -67,12 +68,12 @@ pub fn gather<M: Made, D: Disk<M>>(
 
 // The deltas that a work folds.
 fn range_deltas(table: &Table, work: Work) -> Deltas
-    requires { (next : ℕ) × IsTable next table.now }
-    ensures range { (next : ℕ) → IsTable next table.now → with_rows (lent_in result) ≡ with_rows (merged_of (stock_of next table.now) (is_base work) (last_of work)) }
+    requires { (next : ℕ) × (next < 2 ^ 32) × IsTable next table.now }
+    ensures range { (next : ℕ) → IsTable next table.now → with_rows (lent_in result) ≡ with_rows (folded_deltas (stock_of next table.now) (is_base work) (last_of work)) }
     ensures epochs { (next epoch : ℕ) → IsTable next table.now → AllByRecursion (λ d. d.epoch ≤ epoch) (deltas_of (stock_of next table.now)) → AreOfEpochs epoch (lent_in result) }
 {
     match work {
-        Work::Base { to } => merged(table, true, to),
-        Work::Cumulative { to, .. } => merged(table, false, to),
+        Work::Base { to } => folded(table, true, to),
+        Work::Cumulative { to, .. } => folded(table, false, to),
     }
 }

@@ -15,7 +15,7 @@ mod views;
 
 pub use deltas::Deltas;
 pub use files::table_files;
-pub use folding::merged;
+pub use folding::singles_to;
 pub use gathering::gather;
 pub use opening::open_files;
 pub use planning::planned;

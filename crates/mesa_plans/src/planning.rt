@@ -1,10 +1,10 @@
 // The deltas that a query reads.
-ghost use Rattle.std.specs.Prelude.{◌≡◌, ◌+◌, ◌-◌, ◌*◌, ◌/◌, ◌≤◌, ◌<◌, ◌^◌, ℕ, length, min};
+ghost use Rattle.std.specs.Prelude.{◌≡◌, ◌++◌, ◌+◌, ◌-◌, ◌*◌, ◌/◌, ◌≤◌, ◌<◌, ◌^◌, ℕ, length, map, min};
 ghost use Rattle.std.specs.List.{AllByRecursion};
 ghost use Rattle.mesa_image_spec.specs.Fitting.{deltas_of};
-ghost use Rattle.mesa_image_spec.specs.Planned.{planned as planned_of};
+ghost use Rattle.mesa_image_spec.specs.Planned.{behind_base, longest_to, planned as planned_of};
 ghost use Rattle.mesa_table.specs.Meaning.{IsTable, start_of_base, stock_of};
-ghost use Rattle.mesa_plans.specs.Lent.{AreOfEpochs, lent_if_any, lent_in, ten_deltas, with_rows};
+ghost use Rattle.mesa_plans.specs.Lent.{AreOfEpochs, lent_if_any, lent_in, single_delta, ten_deltas, with_rows};
 
 use crate::Deltas;
 use crate::between::{from_on, up_to};
@@ -16,6 +16,7 @@ use std::sync::Arc;
 pub fn planned<'a>(table: &'a Table, version: u32) -> Deltas<'a>
     requires { (next : ℕ) × (next < 2 ^ 32) × IsTable next table.now }
     ensures plan { (next : ℕ) → IsTable next table.now → with_rows (lent_in result) ≡ with_rows (planned_of (stock_of next table.now) version) }
+    ensures behind { (next : ℕ) → IsTable next table.now → with_rows (lent_if_any result.cumulative ++ map single_delta result.singles.now) ≡ with_rows (behind_base (stock_of next table.now) version (longest_to (stock_of next table.now) version)) }
     ensures epochs { (next epoch : ℕ) → IsTable next table.now → AllByRecursion (λ d. d.epoch ≤ epoch) (deltas_of (stock_of next table.now)) → AreOfEpochs epoch (lent_in result) }
 {
     let tens = tens_within(table, version);

@@ -20,21 +20,21 @@ use Rattle.mesa_engine.specs.mesa_metadata.mesa_image_spec.Fitting.{delta_shelve
 use Rattle.mesa_engine.specs.mesa_metadata.mesa_image_spec.Sound.{wants}
 use Rattle.mesa_engine.proofs.mesa_engine_spec.mesa_image_spec.Lists.{all_unflat, stock_found}
 use Rattle.mesa_engine.specs.mesa_metadata.mesa_image_spec.Sound.{IsStocked}
-use Rattle.mesa_engine.specs.mesa_engine_spec.mesa_image_spec.Brought.{merged_of}
 use Rattle.mesa_engine.specs.mesa_engine_spec.mesa_image_spec.Moves.{is_base, last_of}
 use Rattle.mesa_engine.specs.mesa_engine_spec.EngineState.{EngineState}
 use Rattle.mesa_engine.specs.mesa_engine_spec.Vault.{Origin, IsVault}
 use Rattle.mesa_engine.proofs.mesa_engine_spec.Standing.{held_there}
 use Rattle.mesa_publishing.specs.mesa_compact.mesa_merge.Inputs.{AreTold, knowns_of, lifted_parts}
 use Rattle.mesa_model.specs.declared.entries.Entry.{Entry}
+use Rattle.mesa_plans.specs.Folding.{folded_deltas}
 use Rattle.mesa_plans.specs.Gathered.{IsGathered, unread_view}
 use Rattle.mesa_plans.specs.Read.{own_file}
 use Rattle.mesa_plans.proofs.Folds.{table_parts}
 use Rattle.mesa_plans.proofs.Given.{AreGiven, IsGiven, all_given, all_told, part_of, rows_seen}
 use Rattle.mesa_plans.proofs.Reading.{owned}
-use Rattle.mesa_plans.proofs.Sums.{merged_sums}
+use Rattle.mesa_plans.proofs.Sums.{folded_sums}
 use Rattle.mesa_plans.proofs.Telling.{stock_given}
-use Rattle.mesa_plans.proofs.Among.{all_merged}
+use Rattle.mesa_plans.proofs.Among.{all_folded}
 use Rattle.mesa_plans.specs.Files.{Seen, Want, table_wanted, want_of}
 use Rattle.mesa_tasks.specs.Opening.{HaveOpened}
 use Rattle.mesa_tasks.specs.declared.merging.Task.{Task}
@@ -80,23 +80,23 @@ module _ (o : Outset) (g : Origin) (l : EngineState) (story : Story) (held : Opt
   image = (v.read refl).0
 
   abbrev ds : List Delta
-  ds = merged_of (stock_at l.catalogue t.table) (is_base t.work) (last_of t.work)
+  ds = folded_deltas (stock_at l.catalogue t.table) (is_base t.work) (last_of t.work)
 
   abbrev seen : List Seen
-  seen = map own_file (flat_map (table_wanted (stock_at l.catalogue t.table).lineage) (merged_of (stock_at l.catalogue t.table) (is_base t.work) (last_of t.work)))
+  seen = map own_file (flat_map (table_wanted (stock_at l.catalogue t.table).lineage) (folded_deltas (stock_at l.catalogue t.table) (is_base t.work) (last_of t.work)))
 
   has : Has (wants v.rows (shelved c)) image
   has = held_there story l.area v.bodies l.end c v.rows (v.stands refl opened) image (v.read refl).1
 
   given : AllByRecursion (AreGiven v.rows image lin) ds
-  given = all_merged (AreGiven v.rows image lin) u (all_unflat (IsGiven v.rows image) (delta_shelved lin) (deltas_of u) (stock_given v.rows c image t.table (v.stocked refl).0 has there)) (is_base t.work) (last_of t.work)
+  given = all_folded (AreGiven v.rows image lin) u (all_unflat (IsGiven v.rows image) (delta_shelved lin) (deltas_of u) (stock_given v.rows c image t.table (v.stocked refl).0 has there)) (is_base t.work) (last_of t.work)
 
   all_open : HaveOpened bytes faults story.told gathered.wanted t.inputs.items None
   all_open = subst (HaveOpened bytes faults story.told gathered.wanted t.inputs.items) whole gathered.opened
 
   -- The files of a range are told, and have the present rows of the deltas that are folded.
   pub range_told : (contents : List (List Row)) × AreTold (knowns_of bytes t.inputs.items) contents
-      × (rows_of (lifted_parts (knowns_of bytes t.inputs.items) contents) ≡ rows_of (map (present v.rows (stock_at l.catalogue t.table).lineage) (merged_of (stock_at l.catalogue t.table) (is_base t.work) (last_of t.work))))
+      × (rows_of (lifted_parts (knowns_of bytes t.inputs.items) contents) ≡ rows_of (map (present v.rows (stock_at l.catalogue t.table).lineage) (folded_deltas (stock_at l.catalogue t.table) (is_base t.work) (last_of t.work))))
   range_told = (
     map (rows_seen v.rows) seen,
     all_told v.rows image bytes faults story.told (v.read refl).1 gathered.wanted t.inputs.items seen (gathered.are ∙ sym (owned (flat_map (table_wanted lin) ds))) all_open (all_given v.rows image lin None tt ds given),
@@ -109,7 +109,7 @@ module _ (o : Outset) (g : Origin) (l : EngineState) (story : Story) (held : Opt
     told = range_told.1;
     bound = λ k sum.
         subst (λ n. n < sum_bound) (sym (zero-add _)) (subst (λ (rs : List Row). abs_total k rs < sum_bound) (sym range_told.2)
-        (merged_sums v.rows c.floor c.next u (shaped_at c v.shaped t.table there) (stock_found (IsStocked v.rows) c.tables t.table there (v.stocked refl).0) (is_base t.work) (last_of t.work) k sum));
+        (folded_sums v.rows c.floor c.next u (shaped_at c v.shaped t.table there) (stock_found (IsStocked v.rows) c.tables t.table there (v.stocked refl).0) (is_base t.work) (last_of t.work) k sum));
   }
 
   -- The sums over the files of a range, and over those of its views, stay in their type.

@@ -2,7 +2,6 @@
 use Rattle.std.proofs.Common.{◌≡◌, ◌∙◌, ⊎_elim, inl, inr, ℕ, ◌+◌, ◌-◌, ◌<◌, List, [], ◌∷◌, ◌++◌, length, map, true, Bool, refl, sym, ap, subst, arith, zero-add, Option, None, Some}
 use Rattle.std.specs.Prelude.{IfSome, option_map, option_to_list, slice_get}
 use Rattle.std.specs.List.{AllByRecursion}
-use Rattle.std.proofs.lemmas.List.{take_all}
 use Rattle.mesa_model.specs.mesa_batch.Totals.{abs_total, sum_bound}
 use Rattle.mesa_plans.specs.mesa_commit.Images.{Has}
 use Rattle.mesa_disk.specs.Image.{Image}
@@ -36,7 +35,7 @@ use Rattle.mesa_engine.proofs.mesa_engine_spec.mesa_image_spec.Lists.{all_back, 
 use Rattle.mesa_engine.proofs.mesa_engine_spec.mesa_image_spec.Rising.{folds_itself}
 use Rattle.mesa_plans.specs.Read.{own_file}
 use Rattle.mesa_plans.proofs.Given.{AreGiven, IsGiven, all_told}
-use Rattle.mesa_plans.proofs.Sums.{abs_append, merged_sums}
+use Rattle.mesa_plans.proofs.Sums.{abs_append, all_below}
 use Rattle.mesa_plans.proofs.Telling.{stock_given}
 use Rattle.mesa_span.specs.Ranges.{start_behind}
 use Rattle.mesa_publishing.specs.Recasts.{HasItsRange, HasItsRanges}
@@ -166,10 +165,8 @@ module _ (o : Outset) (g : Origin) (l : EngineState) (story : Story) (held : Opt
   range_below table there r one k sum =
       let u = stock_at l.catalogue table in
       let P : Delta → Type 0 = λ d. abs_total k (rows_of (present v.rows u.lineage d ∷ [])) < sum_bound in
-      let last = start_in u + length u.singles in
-      let below = merged_sums v.rows l.catalogue.floor l.catalogue.next u (shaped_at l.catalogue v.shaped table there) (stock_found (IsStocked v.rows) l.catalogue.tables table there (v.stocked refl).0) true last k sum in
-      let all = subst (λ (ds : List Delta). abs_total k (rows_of (map (present v.rows u.lineage) (base_deltas u.base ++ ds))) < sum_bound) (take_all (last + 1 - start_in u) u.singles (omega arith)) below in
-      let each = each_below v.rows u.lineage k (base_deltas u.base ++ u.singles) all in
+      let below = all_below v.rows l.catalogue.floor l.catalogue.next u (shaped_at l.catalogue v.shaped table there) (stock_found (IsStocked v.rows) l.catalogue.tables table there (v.stocked refl).0) k sum in
+      let each = each_below v.rows u.lineage k (base_deltas u.base ++ u.singles) below in
       all_one (λ (x : Ranged). P x.delta) (ranged u) (ranged_all P u (all_front P (base_deltas u.base) u.singles each) (all_back P (base_deltas u.base) u.singles each)) r one
 
   -- A table's files are none that is damaged.

@@ -1,5 +1,5 @@
 -- What the files of a range tell on a sound store.
-use Rattle.std.proofs.Common.{◌≡◌, ℕ, ◌+◌, ◌-◌, ◌<◌, List, [], ◌∷◌, ◌++◌, length, map, take, refl, sym, subst, Bool, true, false, Option, None, Some}
+use Rattle.std.proofs.Common.{◌≡◌, ℕ, ◌<◌, List, [], ◌∷◌, ◌++◌, length, map, refl, sym, subst, true, Option, None, Some}
 use Rattle.std.specs.Prelude.{flat_map}
 use Rattle.std.specs.List.{AllByRecursion}
 use Rattle.mesa_disk.specs.mesa_file.declared.damage.Damage.{Damage}
@@ -14,13 +14,12 @@ use Rattle.mesa_disk.specs.Image.{Image, file_of}
 use Rattle.mesa_plans.specs.mesa_commit.Images.{Has}
 use Rattle.mesa_tasks.specs.mesa_delta.declared.input.Input.{Input}
 use Rattle.mesa_plans.specs.mesa_record.declared.record.Files.{Files}
-use Rattle.mesa_engine.specs.mesa_metadata.mesa_image_spec.Catalog.{Catalog, Delta, Stock, start_in, stock_at}
+use Rattle.mesa_engine.specs.mesa_metadata.mesa_image_spec.Catalog.{Catalog, Delta, Stock, stock_at}
 use Rattle.mesa_engine.specs.mesa_metadata.mesa_image_spec.Contents.{Rows}
-use Rattle.mesa_engine.specs.mesa_metadata.mesa_image_spec.Fitting.{Shelved, base_deltas, delta_in, delta_shelved, deltas_of, files_shelved, shelved, stock_shelved}
+use Rattle.mesa_engine.specs.mesa_metadata.mesa_image_spec.Fitting.{Shelved, delta_shelved, deltas_of, files_shelved, shelved, stock_shelved}
 use Rattle.mesa_engine.specs.mesa_metadata.mesa_image_spec.Sound.{AreStocked, IsStocked, IsTold, bytes_of, wanted, wants}
-use Rattle.mesa_engine.proofs.mesa_engine_spec.mesa_image_spec.Lists.{all_back, all_front, all_take, all_unflat, all_unmap, stock_found}
-use Rattle.mesa_engine.specs.mesa_engine_spec.mesa_image_spec.Brought.{merged_of}
-use Rattle.mesa_engine.proofs.mesa_engine_spec.Lists.{all_also, all_joined}
+use Rattle.mesa_engine.proofs.mesa_engine_spec.mesa_image_spec.Lists.{all_unflat, all_unmap, stock_found}
+use Rattle.mesa_engine.proofs.mesa_engine_spec.Lists.{all_also}
 use Rattle.mesa_plans.specs.Files.{Want, files_wanted, table_wanted, want_of}
 use Rattle.mesa_plans.specs.Gathered.{unread_view}
 use Rattle.mesa_publishing.specs.Finished.{GroupOnly}
@@ -59,16 +58,6 @@ sound_deltas rows i c table lt stocked has =
     let are = stock_found (IsStocked rows) c.tables table lt stocked in
     let there = stock_found (λ (u : Stock). AllByRecursion W (stock_shelved u)) c.tables table lt (all_unflat W stock_shelved c.tables (all_unmap (λ (w : ℕ × List ℕ). file_of i w.0 ≡ Some w.1) (wanted rows) (shelved c) has)) in
     all_unflat (IsSoundFile rows i) (delta_shelved t.lineage) (deltas_of t) (all_also (IsTold rows) W (IsSoundFile rows i) (stock_shelved t) (λ x told w. record { told = told; there = w }) are.files there)
-
--- and of those that a work folds
-pub sound_merged : (rows : Rows) (i : Image) (l : Lineage) (t : Stock) (base : Bool) (to : ℕ) → AllByRecursion (IsSoundDelta rows i l) (deltas_of t) → AllByRecursion (IsSoundDelta rows i l) (merged_of t base to)
-sound_merged rows i l t true to all =
-    let D = IsSoundDelta rows i l in
-    all_joined D (base_deltas t.base) (take (to + 1 - start_in t) t.singles) (all_front D (base_deltas t.base) (map delta_in t.cumulatives ++ t.singles) all)
-    (all_take D (to + 1 - start_in t) t.singles (all_back D (map delta_in t.cumulatives) t.singles (all_back D (base_deltas t.base) (map delta_in t.cumulatives ++ t.singles) all)))
-sound_merged rows i l t false to all =
-    let D = IsSoundDelta rows i l in
-    all_take D (to + 1 - start_in t) t.singles (all_back D (map delta_in t.cumulatives) t.singles (all_back D (base_deltas t.base) (map delta_in t.cumulatives ++ t.singles) all))
 
 -- ---- files that were opened
 

@@ -35,7 +35,7 @@ use mesa_model::{Kind, Outcome, WorkWords};
 use mesa_plans::gather;
 use mesa_tasks::{Task, Unopened};
 
-/// The first turn of a work: its table has a lease from it on, and the files of its range are open; unless the vault has closed, there is no such table, another work has the table, there is nothing to merge, or a file couldn't be opened.
+/// The first turn of a work: its table has a lease from it on, and the files that it folds are open; unless the vault has closed, there is no such table, another work has the table, there is nothing to merge, or a file couldn't be opened.
 pub fn grant<N: Naming, M: Made, D: Disk<M>, K: Sink>(
     engine: &mut Engine<N, M, D, K>,
     who: Who,
@@ -78,7 +78,7 @@ pub fn grant<N: Naming, M: Made, D: Disk<M>, K: Sink>(
     }
 }
 
-// The turn of a work whose claim can be granted: the files of its range are opened, and its table has a lease.
+// The turn of a work whose claim can be granted: the files that it folds are opened, and its table has a lease.
 fn take<N: Naming, M: Made, D: Disk<M>, K: Sink>(
     engine: &mut Engine<N, M, D, K>,
     who: Who,

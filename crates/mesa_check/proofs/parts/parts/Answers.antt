@@ -34,7 +34,7 @@ returns-in-Some-clause-epochs c = λ next epoch is all before.
 
 pub returns-in-None-clause-range : goal.returns-in-None-clause-range
 returns-in-None-clause-range c = λ next is.
-    c.merged.ensures.range next is ∙ ap (λ (o : Option Test). with_rows (parts_of (stock_of next c.args.table.now) o c.args.to)) (sym (ap now_if_any c.in-None.is))
+    c.singles_to.ensures.range next is ∙ ap (λ (o : Option Test). with_rows (parts_of (stock_of next c.args.table.now) o c.args.to)) (sym (ap now_if_any c.in-None.is))
 
 pub returns-in-None-clause-epochs : goal.returns-in-None-clause-epochs
-returns-in-None-clause-epochs c = λ next epoch is all before. c.merged.ensures.epochs next epoch is all
+returns-in-None-clause-epochs c = λ next epoch is all before. c.singles_to.ensures.epochs next epoch is all

@@ -1,12 +1,12 @@
 use Rattle.std.proofs.Common.{◌∙◌, ◌-◌, ap, sym, subst, length, map}
 use Rattle.std.specs.List.{AllByRecursion}
 use Rattle.mesa_schema.specs.Changes.{Lineage, columns_of, epoch_of}
-use Rattle.mesa_image_spec.specs.Brought.{merged_of}
 use Rattle.mesa_image_spec.specs.Moves.{is_base, last_of}
 use Rattle.mesa_table.specs.Meaning.{stock_of}
 use Rattle.mesa_tasks.specs.Opening.{HasEpoch}
 use Rattle.mesa_tasks.specs.Tasks.{AreTaskViews}
 use Rattle.mesa_plans.specs.Files.{want_of}
+use Rattle.mesa_plans.specs.Folding.{folded_deltas}
 use Rattle.mesa_plans.specs.Lent.{lent_in}
 use Rattle.mesa_plans.specs.Gathered.{unread_views}
 use Rattle.mesa_plans.proofs.Joined.{opened_differs, same_wanted, table_inputs, task_views}
@@ -16,7 +16,7 @@ use Rattle.mesa_plans.proofs.gathering.gather.Goals as goal
 pub open_parts-requires-after_bounds : goal.open_parts-requires-after_bounds
 open_parts-requires-after_bounds g c κs within =
     let l = c.args.table.now.evolving.value in
-    let epochs = c.range_deltas-deltas.ensures.epochs c.requires.0 (epoch_of l) c.requires.1 c.requires.2 in
+    let epochs = c.range_deltas-deltas.ensures.epochs c.requires.0 (epoch_of l) c.requires.2 c.requires.3 in
     subst (AllByRecursion HasEpoch) (sym c.deref-2.ensures.value) (c.in-Ok.ensures.epochs epochs)
 
 pub returns-in-Ok-open_parts-clause-task : goal.returns-in-Ok-open_parts-clause-task
@@ -37,7 +37,7 @@ returns-in-Ok-open_parts-clause-task g c =
 pub returns-in-Ok-open_parts-clause-files : goal.returns-in-Ok-open_parts-clause-files
 returns-in-Ok-open_parts-clause-files g c = λ next is.
     let l = c.args.table.now.evolving.value in
-    let folds = merged_of (stock_of next c.args.table.now) (is_base c.args.work) (last_of c.args.work) in
+    let folds = folded_deltas (stock_of next c.args.table.now) (is_base c.args.work) (last_of c.args.work) in
     record {
       wanted = c.deref-2.result.now;
       are = ap (map want_of) c.deref-2.ensures.value ∙ c.in-Ok.ensures.files ∙ same_wanted l (lent_in c.range_deltas-deltas.result) folds (c.range_deltas-deltas.ensures.range next is);

@@ -20,8 +20,8 @@ up_to-requires c =
     let is = c.requires.2 in
     (_, _, subst (AreLoaded _ _) (sym (c.from_on.ensures ∙ ap (loaded_from _) c.deref-2.ensures.value)) (loaded_on _ _ _ c.args.table.now.loaded.items is.loaded))
 
-pub returns-clause-plan : goal.returns-clause-plan
-returns-clause-plan c = λ next is.
+pub returns-clause-behind : goal.returns-clause-behind
+returns-clause-behind c = λ next is.
     let t = c.args.table.now in
     let v = c.args.version in
     let k = c.tens_within-tens.result in
@@ -29,8 +29,13 @@ returns-clause-plan c = λ next is.
     let behind = behind_lent next v k t is (omega (arith, tens)) (λ some. omega (arith, tens, some)) (λ more. omega (arith, tens, more)) in
     let ten = c.last_of.ensures ∙ ap (ten_deltas k) c.deref.ensures.value in
     let singles = c.up_to.ensures ∙ ap (through v) (c.from_on.ensures ∙ (λ i. loaded_from (c.start.ensures.start i + 10 * k) (c.deref-2.ensures.value i))) in
-    let rest = (λ i. with_rows (ten i ++ map single_delta (singles i))) ∙ sym behind in
-    rows_join (lent_if_any c.base_delta.result) (base_deltas (option_map ending_of t.base)) (lent_if_any c.last_of.result ++ map single_delta c.up_to.result.now) (behind_base (stock_of next t) v (longest_to (stock_of next t) v)) c.base_delta.ensures rest
+    (λ i. with_rows (ten i ++ map single_delta (singles i))) ∙ sym behind
+
+pub returns-clause-plan : goal.returns-clause-plan
+returns-clause-plan c = λ next is.
+    let t = c.args.table.now in
+    let v = c.args.version in
+    rows_join (lent_if_any c.base_delta.result) (base_deltas (option_map ending_of t.base)) (lent_if_any c.last_of.result ++ map single_delta c.up_to.result.now) (behind_base (stock_of next t) v (longest_to (stock_of next t) v)) c.base_delta.ensures (returns-clause-behind c next is)
 
 pub returns-clause-epochs : goal.returns-clause-epochs
 returns-clause-epochs c = λ next epoch is all.

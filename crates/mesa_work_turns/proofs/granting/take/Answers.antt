@@ -47,7 +47,7 @@ gather-gathered-requires-after_bounds g c κs within =
     let there : table < length i.metadata.state.catalogue.tables = subst (λ (x : Standing). table < length x.state.catalogue.tables) (sym c.engine.view_is) c.requires.there in
     let shaped = shaped_at i.metadata.state.catalogue (c.engine.invariant.vault no_rows false (λ is. absurd cc)).shaped table there in
     let stock = c.table-table.ensures.stock ∙ ap (λ (k : Catalog). stock_at k table) c.catalog.ensures in
-    (_, c.table-table.ensures.held, subst (λ (u : Stock). AllByRecursion (λ (d : Delta). d.epoch ≤ epoch_of u.lineage) (deltas_of u)) (sym stock) shaped.epochs)
+    (_, c.table-table.ensures.few, c.table-table.ensures.held, subst (λ (u : Stock). AllByRecursion (λ (d : Delta). d.epoch ≤ epoch_of u.lineage) (deltas_of u)) (sym stock) shaped.epochs)
 
 -- ---- it is granted
 
