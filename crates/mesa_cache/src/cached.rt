@@ -1,6 +1,6 @@
 // A reader whose pages are kept.
 ghost use Rattle.std.specs.Prelude.{◌≡◌, ◌≤◌, ◌+◌, ℕ, List, Some, length, take, drop, min, IfOk, IfErr, OnOk};
-ghost use Rattle.mesa_disk.specs.mesa_fault.Causes.{HasCause, last};
+ghost use Rattle.mesa_disk.specs.mesa_io.Causes.{HasCause, last};
 
 use crate::pages::{PAGE_SIZE, Pages, copy_and_keep, copy_front, make_page};
 use lru::LruCache;

@@ -1,6 +1,6 @@
 // Streams read to their ends.
 ghost use Rattle.std.specs.Prelude.{◌≡◌, [], ◌∷◌, ◌++◌, ℕ, List, IsTrue, IfErr, OnOk, None, Some};
-ghost use Rattle.mesa_disk.specs.mesa_fault.Causes.{HasFaultCause};
+ghost use Rattle.mesa_disk.specs.mesa_io.Causes.{HasFaultCause};
 ghost use Rattle.mesa_disk.specs.mesa_file.declared.damage.Damage.{Damage as AnyDamage};
 ghost use Rattle.mesa_schema.specs.declared.rows.Row.{Row as AnyRow};
 ghost use Rattle.mesa_schema.specs.Columns.{Columns, aggs_of};

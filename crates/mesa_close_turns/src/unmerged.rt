@@ -1,6 +1,6 @@
 // A work's last turn where its merge failed.
 ghost use Rattle.std.specs.Prelude.{◌≡◌, ◌<◌, ◌==◌, ◌++◌, ◌∷◌, [], true, false, length, Some};
-ghost use Rattle.mesa_disk.specs.mesa_fault.Causes.{last};
+ghost use Rattle.mesa_disk.specs.mesa_io.Causes.{last};
 ghost use Rattle.mesa_publishing.specs.mesa_history_spec.Run.{Finished, Granted};
 ghost use Rattle.mesa_publishing.specs.mesa_history_spec.Turns.{IsDue};
 ghost use Rattle.mesa_engine.specs.Failure.{cause_in};

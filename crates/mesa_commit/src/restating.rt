@@ -1,5 +1,5 @@
 ghost use Rattle.std.specs.Prelude.{◌≡◌, ◌+◌, ◌<◌, ◌≤◌, ℕ, List, [], ◌∷◌, length, IfOk, OnOk, Some};
-ghost use Rattle.mesa_disk.specs.mesa_fault.Causes.{HasCause, Rose};
+ghost use Rattle.mesa_disk.specs.mesa_io.Causes.{HasCause, Rose};
 ghost use Rattle.mesa_disk.specs.Image.{Image, area_of, InArea, AnyChange};
 ghost use Rattle.mesa_disk.specs.Story.{After, Spans, Steps};
 ghost use Rattle.mesa_disk.specs.declared.area.Area.{Area};

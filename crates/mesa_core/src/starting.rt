@@ -5,7 +5,7 @@ ghost use Rattle.mesa_core.specs.Vault.{AllTold};
 ghost use Rattle.mesa_engine.specs.Beginning.{IsBegun};
 ghost use Rattle.mesa_engine.specs.Ending.{ReadsState};
 ghost use Rattle.mesa_engine.specs.Engine.{most_turns, starts_of};
-ghost use Rattle.mesa_disk.specs.mesa_fault.Causes.{last, Rose};
+ghost use Rattle.mesa_disk.specs.mesa_io.Causes.{last, Rose};
 ghost use Rattle.mesa_session_laws.specs.mesa_history_spec.Legal.{AllFit, fits_sink};
 ghost use Rattle.mesa_session_laws.specs.mesa_history_spec.Run.{begins};
 ghost use Rattle.mesa_engine.specs.mesa_engine_spec.Vault.{outset_of};

@@ -1,7 +1,7 @@
 // Blocks that are read before they are tested, so that their digests are taken side by side.
 ghost use Rattle.std.specs.Prelude.{◌≡◌, ◌<◌, ◌≤◌, ◌+◌, ◌↔◌, ℕ, [], ◌∷◌, ◌++◌, List, length, drop, get_or, Option, Some, OnOk, OnErr, IfOk, IfSome, IfNone, IsTrue, true, false};
 ghost use Rattle.sha2.specs.Sha256.{sha256};
-ghost use Rattle.mesa_disk.specs.mesa_fault.Causes.{HasCause, HasFaultCause};
+ghost use Rattle.mesa_disk.specs.mesa_io.Causes.{HasCause, HasFaultCause};
 ghost use Rattle.mesa_schema.specs.declared.rows.Row.{Row as AnyRow};
 ghost use Rattle.mesa_delta.specs.declared.error.FileError.TheVariants as file_error;
 ghost use Rattle.mesa_delta.specs.Ahead.{IsOfFile, Untested as AnyUntested};

@@ -2,7 +2,7 @@
 ghost use Rattle.std.specs.Prelude.{◌≡◌, ◌≢◌, ◌⊎◌, ◌<◌, ◌≤◌, ◌+◌, ◌-◌, ◌^◌, ℕ, List, [], ◌∷◌, ◌++◌, length, map, take, drop, IfOk, OnOk, IfErr, OnErr, IfSome, IfNone, IsTrue, ◌↔◌, get_or, true, Some};
 ghost use Rattle.std.specs.Ordering.{is_le};
 ghost use Rattle.sha2.specs.Sha256.{sha256};
-ghost use Rattle.mesa_disk.specs.mesa_fault.Causes.{HasFaultCause, Rose};
+ghost use Rattle.mesa_disk.specs.mesa_io.Causes.{HasFaultCause, Rose};
 ghost use Rattle.mesa_disk.specs.mesa_file.declared.damage.Damage.{Damage as AnyDamage};
 ghost use Rattle.mesa_key.specs.Order.{byte_cmp, short_key};
 ghost use Rattle.mesa_block.specs.Rows.{AreRows};

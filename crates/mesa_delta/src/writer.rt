@@ -1,6 +1,6 @@
 // Writing a file.
 ghost use Rattle.std.specs.Prelude.{◌≡◌, ◌≢◌, ◌<◌, ◌≤◌, ◌+◌, ◌↔◌, ℕ, List, [], ◌∷◌, ◌++◌, length, map, IfOk, OnOk, IfErr, IsTrue, Some};
-ghost use Rattle.mesa_disk.specs.mesa_fault.Causes.{HasFaultCause, Rose};
+ghost use Rattle.mesa_disk.specs.mesa_io.Causes.{HasFaultCause, Rose};
 ghost use Rattle.std.specs.List.{AllByRecursion};
 ghost use Rattle.mesa_value.specs.Agg.{IsAmount};
 ghost use Rattle.mesa_schema.specs.declared.rows.Row.{Row as AnyRow};

@@ -5,7 +5,7 @@ use crate::draft::Unadopted;
 use crate::names::draft_path;
 use crate::{DirDraft, DirMade, System};
 use mesa_disk::{Bench, DraftError, FileId};
-use mesa_fault::FaultCount;
+use mesa_io::FaultCount;
 use std::alloc::AllocError;
 use std::io::{self, ErrorKind};
 
@@ -54,7 +54,7 @@ where
     S::Closed: Send,
 {
     ghost use Rattle.std.specs.Prelude.{◌≤◌, ◌<◌, ℕ, List, [], Some};
-    ghost use Rattle.mesa_fault.specs.Causes.{Rose, HasFaultCause};
+    ghost use Rattle.mesa_io.specs.Causes.{Rose, HasFaultCause};
     ghost use Rattle.mesa_disk.specs.declared.failures.DraftError.TheVariants.{Failed};
     ghost use Rattle.mesa_dir.specs.Calls.{IsCreated};
     ghost use Rattle.mesa_dir.specs.Paths.{draft_path_of};

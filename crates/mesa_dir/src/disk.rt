@@ -1,11 +1,11 @@
 // A disk over a folder.
 ghost use Rattle.std.specs.Prelude.{◌<◌, ◌≤◌, ◌^◌};
-ghost use Rattle.mesa_fault.specs.Causes.{last};
+ghost use Rattle.mesa_io.specs.Causes.{last};
 
 use crate::store::{Opened, Store};
 use crate::{DirBench, DirMade, DirReader, System};
 use mesa_disk::{Area, Disk, DiskFailed, FileId, ListFault, OpenFault};
-use mesa_fault::FaultCount;
+use mesa_io::FaultCount;
 use std::alloc::AllocError;
 use std::io::ErrorKind;
 
@@ -79,7 +79,7 @@ where
     ghost use Rattle.mesa_disk.specs.Story.{Steps, Follows, Elapses, Unmoved};
     ghost use Rattle.mesa_disk.specs.Untold.{small_of, told_never};
     ghost use Rattle.mesa_disk.specs.declared.failures.OpenFault.TheVariants.{Failed as OpenFailed, Absent};
-    ghost use Rattle.mesa_fault.specs.Causes.{Rose, HasCause, HasFaultCause};
+    ghost use Rattle.mesa_io.specs.Causes.{Rose, HasCause, HasFaultCause};
     ghost use Rattle.mesa_dir.specs.Asked.{AllSynced, IsAdopted, IsGone, IsTrusted, IsUnadopted, OnlySynced, with_asked, with_named};
     ghost use Rattle.mesa_dir.specs.Calls.{IsMeasured, Read, Removed, WroteAt};
     ghost use Rattle.std.specs.declared.io.ErrorKind.{ErrorKind};

@@ -5,7 +5,7 @@ ghost use Rattle.mesa_dir.specs.Told.{told_bytes, told_sized, written_len};
 
 use crate::System;
 use mesa_disk::{Draft, DraftError, FileId, Made};
-use mesa_fault::FaultCount;
+use mesa_io::FaultCount;
 use std::io;
 
 /// The name of a file that isn't adopted. Whoever lets it go removes the file.
@@ -101,7 +101,7 @@ where
 impl<S: System> DirDraft<S> {
     ghost use Rattle.std.specs.Prelude.{IfErr, OnOk, OnErr};
     ghost use Rattle.mesa_disk.specs.declared.failures.DraftError.TheVariants.{Failed};
-    ghost use Rattle.mesa_fault.specs.Causes.{Rose};
+    ghost use Rattle.mesa_io.specs.Causes.{Rose};
     ghost use Rattle.mesa_dir.specs.Calls.{Synced, with_call};
     ghost use Rattle.mesa_dir.specs.Drafts.{draft_bytes, draft_calls, draft_faults, draft_id, path_of_draft};
 
@@ -130,7 +130,7 @@ where
     S::Closed: Send,
 {
     ghost use Rattle.std.specs.Prelude.{◌≤◌, ◌++◌, IfOk, IfErr, OnOk, option_map};
-    ghost use Rattle.mesa_fault.specs.Causes.{Rose, HasFaultCause};
+    ghost use Rattle.mesa_io.specs.Causes.{Rose, HasFaultCause};
     ghost use Rattle.mesa_disk.specs.declared.failures.DraftError.TheVariants.{Failed};
     ghost use Rattle.mesa_dir.specs.Calls.{Synced, Wrote, with_call};
     ghost use Rattle.mesa_dir.specs.Drafts.{draft_bytes, draft_calls, draft_faults, draft_id, path_of_draft, made_bytes, made_calls, made_id, path_of_made};

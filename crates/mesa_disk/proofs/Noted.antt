@@ -1,7 +1,7 @@
 -- One call more in the record of a disk in memory.
 use Rattle.std.proofs.Common.{◌≡◌, ◌⊎◌, inl, inr, ⊎_elim, ℕ, ◌+◌, ◌-◌, ◌≤◌, max, List, [], ◌∷◌, ◌++◌, length, take, drop, Some, refl, sym, ◌∙◌, ap, subst, arith, append_assoc, length-append, length-drop}
 use Rattle.std.proofs.lemmas.List.{take_at, drop_at, length-take-le}
-use Rattle.mesa_fault.specs.Causes.{Rose}
+use Rattle.mesa_io.specs.Causes.{Rose}
 use Rattle.mesa_disk.specs.Image.{Image, area_of, with_area, with_file, overwritten, Torn, Tears, Adopts}
 use Rattle.mesa_disk.specs.Story.{Steps, After, Follows}
 use Rattle.mesa_disk.specs.Recorded.{Left, seen_step, other_step, seen_after, OtherAfter, PastLeft, MayLeave, MayHaveLeft, AllBefore, IsPlaced, ArePlaced, nothing}

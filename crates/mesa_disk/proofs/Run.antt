@@ -1,7 +1,7 @@
 -- How a run of device calls goes on, and what changes of one area do to an image.
 use Rattle.std.proofs.Common.{◌⊎◌, ◌<◌, Option, ◌∙◌, ap, ◌≡◌, inl, inr, ⊎_elim, ℕ, ◌≤◌, List, refl, arith}
 use Rattle.mesa_disk.specs.Image.{Image, area_of, with_area, InArea, AnyChange}
-use Rattle.mesa_fault.specs.Causes.{last}
+use Rattle.mesa_io.specs.Causes.{last}
 use Rattle.mesa_disk.specs.Story.{Story, Steps, After, Elapses, Spans}
 use Rattle.mesa_disk.specs.declared.area.Area.{Area}
 use Rattle.mesa_disk.specs.declared.area.Area.TheVariants.{Zero, One}

@@ -1,7 +1,7 @@
 -- Which calls on a bench in memory and on its drafts fail.
 use Rattle.std.specs.Prelude.{◌≡◌, ◌⊎◌, ℕ, ◌+◌, ◌==◌, min, List, map}
 use Rattle.std.specs.List.{Contains, filter}
-use Rattle.mesa_fault.specs.Causes.{last}
+use Rattle.mesa_io.specs.Causes.{last}
 use Rattle.mesa_disk.specs.declared.memory.bench.MemBench.{MemBench}
 use Rattle.mesa_disk.specs.declared.memory.bench.MemDraft.{MemDraft}
 

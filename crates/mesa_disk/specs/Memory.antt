@@ -1,7 +1,7 @@
 -- What is known of a disk in memory.
 use Rattle.std.specs.Prelude.{◌≡◌, ℕ, ◌+◌, min, List, ◌∷◌, [], ◌++◌, length, Option, Some, Result, IsErr, OnErr}
 use Rattle.std.specs.List.{Contains}
-use Rattle.mesa_fault.specs.Causes.{last}
+use Rattle.mesa_io.specs.Causes.{last}
 use Rattle.mesa_disk.specs.Image.{Image, area_of}
 use Rattle.mesa_disk.specs.Story.{Story}
 use Rattle.mesa_disk.specs.Recorded.{start_image, now_image, seen_step, MayLeave, MayHaveLeft}

@@ -1,7 +1,7 @@
 -- The laws of a disk in memory.
 use Rattle.std.specs.Prelude.{◌≡◌, ℕ, ◌^◌, ◌<◌, ◌≤◌, List, [], ◌∷◌, length, Option, None, Some}
 use Rattle.std.proofs.Common.{inl, inr, sym, arith, ◌∙◌, ap}
-use Rattle.mesa_fault.specs.Causes.{last, Rose}
+use Rattle.mesa_io.specs.Causes.{last, Rose}
 use Rattle.mesa_disk.specs.Image.{Image, area_of}
 use Rattle.mesa_disk.specs.Recorded.{start_image, now_image, seen_step, other_step, seen_after, PastLeft, AllBefore, nothing, MayLeave, MayHaveLeft}
 use Rattle.mesa_disk.specs.declared.memory.calls.Done.{Done}

@@ -4,7 +4,7 @@ use Rattle.std.specs.Ordering.{nat_cmp}
 use Rattle.std.specs.Coded.{Coded, code_by, coded×, coded_ℕ, coded_list, ×_prop, Unit-prop, le_prop}
 use Rattle.std.specs.FinMap as fin
 use Rattle.std.specs.Arc.{arc_value}
-use Rattle.mesa_fault.specs.Causes.{Rose}
+use Rattle.mesa_io.specs.Causes.{Rose}
 use Rattle.mesa_disk.specs.Image.{Image, area_of, with_file, without_file, Tears, Loses, May, with_area, overwritten}
 use Rattle.mesa_disk.specs.Story.{After}
 use Rattle.mesa_disk.specs.declared.memory.held.Held.{Held}

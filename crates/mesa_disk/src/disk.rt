@@ -5,7 +5,7 @@ ghost use Rattle.mesa_disk.specs.declared.failures.OpenFault.TheVariants.{Failed
 ghost use Rattle.mesa_disk.specs.declared.failures.ListFault.TheVariants.{Failed as ListFailed};
 ghost use Rattle.mesa_disk.specs.Image.{Image, area_of, file_of, Overwrites, Tears, Adopts, Loses, May};
 ghost use Rattle.mesa_disk.specs.Story.{Story, Steps, Follows, Elapses, Unmoved};
-ghost use Rattle.mesa_fault.specs.Causes.{last, Rose, HasCause, HasFaultCause};
+ghost use Rattle.mesa_io.specs.Causes.{last, Rose, HasCause, HasFaultCause};
 
 use crate::{Area, DiskFailed, FileId, FileReader, ListFault, Made, OpenFault};
 use std::alloc::Global;

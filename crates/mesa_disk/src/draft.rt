@@ -1,6 +1,6 @@
 ghost use Rattle.std.specs.Prelude.{◌≡◌, ◌<◌, ◌≤◌, ℕ, List, [], ◌++◌, IfOk, IfErr, OnOk, Option, Some, option_map};
 ghost use Rattle.mesa_disk.specs.declared.failures.DraftError.TheVariants.{Failed};
-ghost use Rattle.mesa_fault.specs.Causes.{Rose, HasFaultCause};
+ghost use Rattle.mesa_io.specs.Causes.{Rose, HasFaultCause};
 
 use crate::{DraftError, FileId, Made};
 

@@ -1,5 +1,5 @@
 ghost use Rattle.std.specs.Prelude.{◌≡◌, ◌+◌, ◌^◌, ◌≤◌, min, ℕ, List, length, take, drop, OnOk, Option, Some};
-ghost use Rattle.mesa_fault.specs.Causes.{last, HasCause};
+ghost use Rattle.mesa_io.specs.Causes.{last, HasCause};
 
 use crate::{FileId, ReadFailed};
 

@@ -3,7 +3,7 @@ ghost use Rattle.mesa_disk.specs.declared.area.Area.{Area};
 ghost use Rattle.mesa_disk.specs.Image.{Image};
 ghost use Rattle.mesa_disk.specs.Files.{files_of, AddsAll, AddsFirst, AddsSome, AreAbsent, AreGone, AreThere, HasDistinctIds, HasOtherIds, IsNoneOf, LosesAll, LosesFirst, LosesSome, OthersStay};
 ghost use Rattle.mesa_disk.specs.Story.{Steps, After, Follows, Elapses};
-ghost use Rattle.mesa_fault.specs.Causes.{HasCause, Rose};
+ghost use Rattle.mesa_io.specs.Causes.{HasCause, Rose};
 
 use crate::{Disk, DiskFailed, FileId, Made};
 

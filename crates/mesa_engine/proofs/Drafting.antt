@@ -1,7 +1,7 @@
 -- Which turns answer a draft that failed, and which causes a fault of the disk.
 use Rattle.std.proofs.Common.{◌≡◌, ℕ, ◌<◌, List, [], ◌∷◌, ◌++◌, Bool, true, false, ◌&&◌, ◌==◌, refl, sym, ◌∙◌, subst, IsTrue}
 use Rattle.std.proofs.lemmas.List.{append_cancel_left}
-use Rattle.mesa_disk.specs.mesa_fault.Causes.{last}
+use Rattle.mesa_disk.specs.mesa_io.Causes.{last}
 use Rattle.mesa_model.specs.declared.commands.Script.{Script}
 use Rattle.mesa_model.specs.declared.entries.Entry.{Entry}
 use Rattle.mesa_metadata.specs.mesa_catalog.mesa_history_spec.Counting.{answers_bench, answers_disk, is_bench_fault}

@@ -3,7 +3,7 @@ use Rattle.std.proofs.Common.{◌≡◌, inl, inr, ℕ, ◌/◌, ◌%◌, List, 
 use Rattle.std.specs.Prelude.{if◌then◌else◌}
 use Rattle.std.specs.Io.KnownBytes.{Appends}
 use Rattle.std.proofs.KnownBytes.{Appends-nil}
-use Rattle.mesa_disk.specs.mesa_fault.Causes.{Rose}
+use Rattle.mesa_disk.specs.mesa_io.Causes.{Rose}
 use Rattle.mesa_exit_spec.specs.mesa_filter.Hex.{hex_digit, hex_of}
 use Rattle.mesa_print.specs.declared.printer.Printer.{Printer}
 use Rattle.mesa_print.specs.Printed.{Printed}

@@ -1,7 +1,7 @@
 -- Completeness follows from how calls end.
 use Rattle.std.proofs.Common.{◌≡◌, ⊎_elim, inl, inr, ◌≤◌, ◌<◌, ◌+◌, ℕ, List, [], length, Bool, true, false, sym, ◌∙◌, ap, subst, arith, Option, Some, None}
 use Rattle.std.specs.Prelude.{IfSome, Result, Ok, Err, if◌then◌else◌}
-use Rattle.mesa_disk.specs.mesa_fault.Causes.{Rose}
+use Rattle.mesa_disk.specs.mesa_io.Causes.{Rose}
 use Rattle.mesa_model.specs.declared.commands.Script.{Script}
 use Rattle.mesa_check.specs.mesa_history_spec.Counting.{count_in, is_disk_fault, is_bench_fault}
 use Rattle.mesa_check.specs.mesa_history_spec.Refused.{some_refused}

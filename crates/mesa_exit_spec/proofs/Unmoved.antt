@@ -1,6 +1,6 @@
 -- An opening's first part moves no image: what is said of the disk that it leaves is so of the one that it was given.
 use Rattle.std.proofs.Common.{◌≡◌, ⊎_elim, inl, inr, ℕ, ◌<◌, List, ◌∙◌, subst, arith}
-use Rattle.mesa_disk.specs.mesa_fault.Causes.{last, Rose}
+use Rattle.mesa_disk.specs.mesa_io.Causes.{last, Rose}
 use Rattle.mesa_disk.specs.Image.{Image}
 use Rattle.mesa_disk.specs.Story.{Story, Unmoved}
 use Rattle.mesa_disk.specs.declared.area.Area.{Area}

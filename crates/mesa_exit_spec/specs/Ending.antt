@@ -1,7 +1,7 @@
 -- How a call of the program may end over a store.
 use Rattle.std.specs.Prelude.{◌≡◌, ◌≢◌, ◌⊎◌, ◌<◌, ◌≤◌, ℕ, Bool, true, false, List, [], ◌++◌, length, take, Option, None, Some, IfSome, IsTrue, Ok, Err, is_some}
 use Rattle.std.specs.Io.KnownBytes.{Appends}
-use Rattle.mesa_disk.specs.mesa_fault.Causes.{Rose, last}
+use Rattle.mesa_disk.specs.mesa_io.Causes.{Rose, last}
 use Rattle.mesa_disk.specs.Story.{Unmoved}
 use Rattle.mesa_disk.specs.mesa_file.declared.damage.Damage.{Damage}
 use Rattle.mesa_model.specs.declared.commands.Script.{Script}

@@ -1,7 +1,7 @@
 -- What the status of a call tells.
 use Rattle.std.specs.Prelude.{◌≡◌, ◌≢◌, ◌⊎◌, ◌↔◌, ◌<◌, ◌≤◌, ℕ, List, length, Option, None, Some, IfSome, Ok, Err, false}
 use Rattle.std.specs.Io.KnownBytes.{Appends}
-use Rattle.mesa_disk.specs.mesa_fault.Causes.{Rose}
+use Rattle.mesa_disk.specs.mesa_io.Causes.{Rose}
 use Rattle.mesa_disk.specs.Image.{Image}
 use Rattle.mesa_disk.specs.Story.{Unmoved}
 use Rattle.mesa_disk.specs.mesa_file.declared.damage.Damage.{Damage}

@@ -1,6 +1,6 @@
 -- What an opening leaves of a store that it doesn't open.
 use Rattle.std.specs.Prelude.{◌≡◌, ◌≢◌, ◌<◌, Some}
-use Rattle.mesa_disk.specs.mesa_fault.Causes.{last}
+use Rattle.mesa_disk.specs.mesa_io.Causes.{last}
 use Rattle.mesa_disk.specs.Image.{Image}
 use Rattle.mesa_disk.specs.Story.{Story, Unmoved}
 use Rattle.mesa_store_digest.specs.mesa_projection_laws.Rows.{Rows}

@@ -2,10 +2,9 @@
 ghost use Rattle.std.specs.Prelude.{◌≡◌, ◌↔◌, [], ◌++◌, ◌+◌, ℕ, length, min, IsErr, OnErr, OnOk, IfOk, Contains};
 ghost use Rattle.std.specs.Io.{ReadsAtMost, WritesAtMost};
 ghost use Rattle.std.specs.Io.KnownBytes.{ReadConsumes, WriteAppends};
-ghost use Rattle.mesa_fault.specs.Causes.{HasCause, last};
+ghost use Rattle.mesa_io.specs.Causes.{HasCause, last};
 
-use crate::{Sink, SinkFailed, Source, SourceFailed};
-use mesa_fault::FaultCount;
+use crate::{FaultCount, Sink, SinkFailed, Source, SourceFailed};
 use std::alloc::Global;
 use std::marker::Model;
 

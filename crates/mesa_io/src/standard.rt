@@ -1,6 +1,5 @@
 // The edge: a source and a sink over any reader and writer of std, as standard input and output.
-use crate::{Sink, SinkFailed, Source, SourceFailed};
-use mesa_fault::FaultCount;
+use crate::{FaultCount, Sink, SinkFailed, Source, SourceFailed};
 use std::io::{Read, Write};
 
 /// A source over a reader, which tells the bytes that the reader tells. A read that a signal

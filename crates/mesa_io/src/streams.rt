@@ -2,7 +2,7 @@
 ghost use Rattle.std.specs.Prelude.{◌≡◌, ℕ, List, [], IfOk, Option};
 ghost use Rattle.std.specs.Io.{ReadsAtMost, WritesAtMost};
 ghost use Rattle.std.specs.Io.KnownBytes.{ReadConsumes, WriteAppends};
-ghost use Rattle.mesa_fault.specs.Causes.{HasCause};
+ghost use Rattle.mesa_io.specs.Causes.{HasCause};
 
 /// A call on a source failed; nothing was taken.
 #[derive(Clone, Copy, Debug, PartialEq, Eq)]

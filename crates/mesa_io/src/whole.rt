@@ -2,7 +2,7 @@
 ghost use Rattle.std.specs.Prelude.{◌≡◌, ◌<◌, ◌≤◌, ℕ, List, take, drop, length, vec_len, IfOk, IfErr, OnErr, OnOk, IfSome, Err};
 ghost use Rattle.std.specs.Io.{ReadsAtMost};
 ghost use Rattle.std.specs.Io.KnownBytes.{Appends, Consumes, IsAtEnd, ReadConsumes};
-ghost use Rattle.mesa_fault.specs.Causes.{HasCause, HasFaultCause};
+ghost use Rattle.mesa_io.specs.Causes.{HasCause, HasFaultCause};
 ghost use Rattle.mesa_io.specs.Moves.{MovesOn};
 ghost use Rattle.mesa_io.specs.declared.whole.ReadError.TheVariants as read_error;
 

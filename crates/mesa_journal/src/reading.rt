@@ -1,6 +1,6 @@
 ghost use Rattle.std.specs.Prelude.{◌≡◌, ◌⊎◌, ◌+◌, ◌^◌, ◌<◌, ◌≤◌, ◌++◌, ℕ, List, drop, length, Some, IfOk, IfErr, IfSome, IsNone};
 ghost use Rattle.std.specs.List.{AllByRecursion};
-ghost use Rattle.mesa_disk.specs.mesa_fault.Causes.{HasFaultCause};
+ghost use Rattle.mesa_disk.specs.mesa_io.Causes.{HasFaultCause};
 ghost use Rattle.mesa_disk.specs.Image.{Image, area_of};
 ghost use Rattle.mesa_disk.specs.Story.{Unmoved};
 ghost use Rattle.mesa_disk.specs.mesa_key.Spelling.{AreBytes};

@@ -1,7 +1,7 @@
 -- What a printer has printed.
 use Rattle.std.specs.Prelude.{◌≡◌, ◌≤◌, true, false, ℕ, List, [], take, Option}
 use Rattle.std.specs.Io.KnownBytes.{Appends}
-use Rattle.mesa_fault.specs.Causes.{Rose}
+use Rattle.mesa_io.specs.Causes.{Rose}
 use Rattle.mesa_print.specs.declared.printer.Printer.{Printer}
 
 -- A printer was given a text. Unless it is broken, its sink has it whole. If it is, the sink has a front of it, and none of it if the printer was broken before. It breaks only where the sink's count of faults rose; where it doesn't break, the count stays.

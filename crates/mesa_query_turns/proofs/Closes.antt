@@ -11,7 +11,7 @@ use Rattle.mesa_disk.specs.Story.{Story, Unmoved}
 use Rattle.mesa_engine.proofs.Turning.{turned_engine}
 use Rattle.mesa_engine.proofs.Undone.{not_skipped}
 use Rattle.mesa_engine.specs.Engine.{IsEngine}
-use Rattle.mesa_disk.specs.mesa_fault.Causes.{last, Rose}
+use Rattle.mesa_disk.specs.mesa_io.Causes.{last, Rose}
 use Rattle.mesa_engine.specs.mesa_history_spec.Counting.{answers_disk}
 use Rattle.mesa_engine.specs.mesa_history_spec.Replay.{is_skip}
 use Rattle.mesa_engine.specs.mesa_history_spec.Run.{State, Finished}

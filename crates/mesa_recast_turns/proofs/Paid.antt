@@ -2,7 +2,7 @@
 use Rattle.std.proofs.Common.{◌≡◌, ◌⊎◌, inl, inr, ⊎_elim, ℕ, zero, suc, ◌+◌, ◌-◌, ◌<◌, ◌≤◌, List, Bool, true, false, refl, arith, Option, None, Some, IsTrue}
 use Rattle.std.proofs.lemmas.Bool.Decides.{leb_tells}
 use Rattle.mesa_disk.specs.Story.{Story, Unmoved}
-use Rattle.mesa_disk.specs.mesa_fault.Causes.{last}
+use Rattle.mesa_disk.specs.mesa_io.Causes.{last}
 use Rattle.mesa_engine.specs.mesa_engine_spec.EngineState.{EngineState, books_of}
 use Rattle.mesa_engine.specs.mesa_engine_spec.Vault.{Origin, IsVault}
 use Rattle.mesa_engine.specs.mesa_engine_spec.mesa_invariant_spec.Invariant.{Counts, HasCounted, HoldsInvariant, Outset, faults_in}

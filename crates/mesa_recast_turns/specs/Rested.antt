@@ -1,7 +1,7 @@
 -- Recasts that have all ranges of their table.
 use Rattle.std.specs.Prelude.{◌≡◌, ℕ, ◌+◌, ◌<◌, ◌≤◌, List, ◌++◌, Option, None}
 use Rattle.std.specs.List.{AllByRecursion}
-use Rattle.mesa_disk.specs.mesa_fault.Causes.{last}
+use Rattle.mesa_disk.specs.mesa_io.Causes.{last}
 use Rattle.mesa_plans.specs.Ranges.{HoldsAll}
 use Rattle.mesa_engine.specs.mesa_history_spec.Counting.{count_in, is_disk_fault}
 use Rattle.mesa_engine.specs.mesa_history_spec.Run.{State, begins}

@@ -1,6 +1,6 @@
 // A recast's last turn.
 ghost use Rattle.std.specs.Prelude.{◌≡◌, ◌⊎◌, ◌<◌, ◌==◌, ◌++◌, ◌∷◌, [], Bool, ℕ, List, Ok, Err, IfErr, IfOk, OnOk, Some, true, false, length};
-ghost use Rattle.mesa_disk.specs.mesa_fault.Causes.{last};
+ghost use Rattle.mesa_disk.specs.mesa_io.Causes.{last};
 ghost use Rattle.mesa_delta.specs.declared.error.FileError.TheVariants as file_error;
 ghost use Rattle.mesa_engine.specs.mesa_history_spec.Machine.{claim_checked, still_checked};
 ghost use Rattle.mesa_engine.specs.mesa_history_spec.Run.{Finished, Renewed};

@@ -1,6 +1,6 @@
 // A recast's last turn where its ranges weren't rewritten.
 ghost use Rattle.std.specs.Prelude.{◌≡◌, ◌⊎◌, ◌<◌, ◌==◌, ◌++◌, ◌∷◌, [], Bool, true, false, length, Some};
-ghost use Rattle.mesa_disk.specs.mesa_fault.Causes.{last};
+ghost use Rattle.mesa_disk.specs.mesa_io.Causes.{last};
 ghost use Rattle.mesa_engine.specs.mesa_history_spec.Run.{Finished};
 ghost use Rattle.mesa_engine.specs.mesa_history_spec.Turns.{IsDue};
 ghost use Rattle.mesa_model.specs.declared.commands.Command.TheVariants as command;

@@ -2,7 +2,7 @@
 ghost use Rattle.std.specs.Prelude.{◌≡◌, ◌⊎◌, ℕ, List, length, drop, OnOk, IfErr, Some};
 ghost use Rattle.std.specs.List.{AllByRecursion};
 ghost use Rattle.sha2.specs.Sha256.{sha256};
-ghost use Rattle.mesa_disk.specs.mesa_fault.Causes.{HasFaultCause};
+ghost use Rattle.mesa_disk.specs.mesa_io.Causes.{HasFaultCause};
 ghost use Rattle.mesa_disk.specs.mesa_file.declared.damage.Damage.{Damage as AnyDamage};
 ghost use Rattle.mesa_disk.specs.Image.{Image, file_of};
 ghost use Rattle.mesa_disk.specs.Story.{Unmoved};

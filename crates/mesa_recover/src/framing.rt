@@ -1,7 +1,7 @@
 // Beginning a run.
 ghost use Rattle.std.specs.Prelude.{◌≡◌, ◌<◌, ◌≤◌, ℕ, List, [], Some, IfOk, OnOk, Ok, IsTrue};
 ghost use Rattle.mesa_disk.specs.mesa_key.Spelling.{AreBytes};
-ghost use Rattle.mesa_disk.specs.mesa_fault.Causes.{HasCause};
+ghost use Rattle.mesa_disk.specs.mesa_io.Causes.{HasCause};
 ghost use Rattle.mesa_disk.specs.Image.{Image as AnyImage, area_of};
 ghost use Rattle.mesa_disk.specs.Story.{Spans};
 ghost use Rattle.mesa_journal.specs.Areas.{holds_body, other_of};

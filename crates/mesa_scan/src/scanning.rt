@@ -1,6 +1,6 @@
 // An input scanned block by block.
 ghost use Rattle.std.specs.Prelude.{◌≡◌, ◌<◌, ◌≤◌, ◌+◌, ◌++◌, ◌↔◌, [], List, length, IfOk, OnOk, OnErr, IfErr, IsTrue, Some, slice_get};
-ghost use Rattle.mesa_fault.specs.Causes.{HasCause, HasFaultCause};
+ghost use Rattle.mesa_io.specs.Causes.{HasCause, HasFaultCause};
 ghost use Rattle.mesa_file.specs.declared.damage.Damage.{Damage as AnyDamage};
 ghost use Rattle.mesa_schema.specs.declared.rows.Row.{Row as AnyRow};
 ghost use Rattle.mesa_delta.specs.declared.error.FileError.TheVariants as file_error;

@@ -9,7 +9,7 @@ use Rattle.mesa_model.specs.mesa_schema.Changes.{Lineage, columns_of}
 use Rattle.mesa_model.specs.mesa_schema.Views.{view_columns, view_rows}
 use Rattle.mesa_delta.specs.declared.error.FileError.TheVariants as file
 use Rattle.mesa_delta.specs.declared.input.Input.{Input}
-use Rattle.mesa_disk.specs.mesa_fault.Causes.{HasFaultCause, last}
+use Rattle.mesa_disk.specs.mesa_io.Causes.{HasFaultCause, last}
 use Rattle.mesa_disk.specs.mesa_file.declared.damage.Damage.{Damage}
 use Rattle.mesa_compact.specs.mesa_merge.Faults.{faults_of}
 use Rattle.mesa_compact.specs.mesa_merge.Inputs.{knowns_of}

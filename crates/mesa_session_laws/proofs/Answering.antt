@@ -4,7 +4,7 @@ use Rattle.std.specs.List.{AllByRecursion}
 use Rattle.std.proofs.lemmas.Bool.{and_left, and_parts, and_right, not-true, or_from, or_parts}
 use Rattle.std.proofs.lemmas.List.{map-append}
 use mathlib.Core.List.{IsPrefix}
-use Rattle.mesa_disk.specs.mesa_fault.Causes.{last}
+use Rattle.mesa_disk.specs.mesa_io.Causes.{last}
 use Rattle.mesa_turn.specs.History.{has}
 use Rattle.mesa_turn.specs.Passes.{Known, Finds, IsExact, Joins}
 use Rattle.mesa_turn.proofs.Laws.{others_first, others_second}

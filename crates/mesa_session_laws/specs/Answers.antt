@@ -1,7 +1,7 @@
 -- Faults of files that sessions were building, and the entries that answer them.
 use Rattle.std.specs.Prelude.{◌≡◌, ◌≤◌, ◌<◌, ◌+◌, ℕ, List, Some, slice_get}
 use Rattle.std.specs.List.{AllByRecursion}
-use Rattle.mesa_disk.specs.mesa_fault.Causes.{last}
+use Rattle.mesa_disk.specs.mesa_io.Causes.{last}
 use Rattle.mesa_turn.specs.Passes.{Known}
 use Rattle.mesa_publishing.specs.mesa_model.declared.commands.Script.{Script}
 use Rattle.mesa_publishing.specs.mesa_model.declared.entries.Entry.{Entry}

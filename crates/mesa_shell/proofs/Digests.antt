@@ -1,6 +1,6 @@
 -- How a call ends that digests a relation, from the opening's clauses and those of the look-up.
 use Rattle.std.proofs.Common.{◌≡◌, ◌⊎◌, inl, inr, ℕ, List, refl, sym, subst}
-use Rattle.mesa_disk.specs.mesa_fault.Causes.{Rose}
+use Rattle.mesa_disk.specs.mesa_io.Causes.{Rose}
 use Rattle.mesa_disk.specs.Story.{Story, Unmoved}
 use Rattle.mesa_disk.specs.declared.area.Area.{Area}
 use Rattle.mesa_delta.specs.declared.error.FileError.TheVariants as file_error

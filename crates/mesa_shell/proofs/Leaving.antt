@@ -1,7 +1,7 @@
 -- What a run under its name leaves, put together.
 use Rattle.std.proofs.Common.{◌≡◌, ◌+◌, ◌<◌, List, [], length, true, false}
 use Rattle.std.specs.Prelude.{Result, Ok, Err, IfOk, IfErr}
-use Rattle.mesa_disk.specs.mesa_fault.Causes.{last, Rose}
+use Rattle.mesa_disk.specs.mesa_io.Causes.{last, Rose}
 use Rattle.mesa_model.specs.declared.commands.Script.{Script}
 use Rattle.mesa_check.specs.mesa_history_spec.Refused.{some_refused}
 use Rattle.mesa_check.specs.mesa_history_spec.Run.{begins}

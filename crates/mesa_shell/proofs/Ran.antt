@@ -1,7 +1,7 @@
 -- What a call's run was to the store that the call was given.
 use Rattle.std.proofs.Common.{◌≡◌, ℕ, ◌+◌, ◌<◌, [], refl, sym, ◌∙◌, ap, subst, arith, inl, inr, ◌∷◌, ◌++◌, List}
 use Rattle.std.specs.Prelude.{if◌then◌else◌}
-use Rattle.mesa_disk.specs.mesa_fault.Causes.{last}
+use Rattle.mesa_disk.specs.mesa_io.Causes.{last}
 use Rattle.mesa_disk.specs.Image.{Image}
 use Rattle.mesa_disk.specs.Story.{Story}
 use Rattle.mesa_model.specs.declared.commands.Script.{Script}

@@ -1,6 +1,6 @@
 -- What a run leaves that was begun on a store.
 use Rattle.std.specs.Prelude.{◌≡◌, ◌+◌, ◌<◌, List, [], length, true, false}
-use Rattle.mesa_disk.specs.mesa_fault.Causes.{last, Rose}
+use Rattle.mesa_disk.specs.mesa_io.Causes.{last, Rose}
 use Rattle.mesa_model.specs.declared.commands.Script.{Script}
 use Rattle.mesa_check.specs.mesa_history_spec.Refused.{some_refused}
 use Rattle.mesa_check.specs.mesa_history_spec.Run.{begins}

@@ -1,6 +1,6 @@
 // The run of a script over a store on which it has begun.
 ghost use Rattle.std.specs.Prelude.{◌≡◌, ◌+◌, ◌<◌, ◌≤◌, ◌^◌, [], Bool, true, false, None, IfErr, IfOk, IsTrue, length};
-ghost use Rattle.mesa_disk.specs.mesa_fault.Causes.{last, Rose};
+ghost use Rattle.mesa_disk.specs.mesa_io.Causes.{last, Rose};
 ghost use Rattle.mesa_session.specs.mesa_engine.Beginning.{IsBegun};
 ghost use Rattle.mesa_session.specs.mesa_engine.Engine.{most_turns, starts_of};
 ghost use Rattle.mesa_check.specs.mesa_history_spec.Refused.{some_refused};

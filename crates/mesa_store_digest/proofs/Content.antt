@@ -2,7 +2,7 @@
 use Rattle.std.proofs.Common.{◌≡◌, ℕ, ◌+◌, ◌<◌, List, [], ◌∷◌, inl, inr, true, refl, sym, ◌∙◌, ap, subst, arith}
 use Rattle.std.specs.Prelude.{Option, Result, Err}
 use Rattle.std.specs.List.{AllByRecursion}
-use Rattle.mesa_disk.specs.mesa_fault.Causes.{Rose}
+use Rattle.mesa_disk.specs.mesa_io.Causes.{Rose}
 use Rattle.mesa_disk.specs.Story.{Story}
 use Rattle.mesa_delta.specs.declared.input.Input.{Input}
 use Rattle.mesa_tasks.specs.mesa_cursor.Cursors.{reader_in}

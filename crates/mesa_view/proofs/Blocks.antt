@@ -1,7 +1,7 @@
 -- A file is put into groups block by block.
 use Rattle.std.proofs.Common.{◌≡◌, ◌≢◌, ℕ, List, [], ◌∷◌, ◌++◌, refl, sym, ◌∙◌, ap, drop, subst, arith, length, ◌≤◌}
 use Rattle.std.specs.Prelude.{map, IfSome, Option, None, Some, Err}
-use Rattle.mesa_fault.specs.Causes.{HasFaultCause, Rose}
+use Rattle.mesa_io.specs.Causes.{HasFaultCause, Rose}
 use Rattle.mesa_schema.specs.declared.rows.Row.{Row}
 use Rattle.mesa_schema.specs.Changes.{columns_of}
 use Rattle.mesa_schema.specs.Columns.{Columns}

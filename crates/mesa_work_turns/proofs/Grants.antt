@@ -4,7 +4,7 @@ use Rattle.std.specs.Prelude.{vec_capacity}
 use Rattle.std.specs.Prelude.{◌⊎◌}
 use Rattle.std.proofs.lemmas.Bool.Decides.{leb_tells}
 use Rattle.std.proofs.lemmas.List.{length-map}
-use Rattle.mesa_disk.specs.mesa_fault.Causes.{Rose, last}
+use Rattle.mesa_disk.specs.mesa_io.Causes.{Rose, last}
 use Rattle.mesa_disk.specs.Story.{Story, Unmoved}
 use Rattle.mesa_engine.specs.mesa_history_spec.Legal.{is_work}
 use Rattle.mesa_engine.specs.mesa_history_spec.Machine.{Claim}

@@ -4,7 +4,7 @@ use Rattle.std.specs.Prelude.{IsOk, Result, is_some, vec_capacity}
 use Rattle.std.proofs.lemmas.List.{length-append}
 use Rattle.std.proofs.lemmas.Simd.{map-map}
 use Rattle.mesa_publishing.specs.mesa_list.Checks.{◌>>=◌, ◌>>◌, refuse_if, refused_as}
-use Rattle.mesa_disk.specs.mesa_fault.Causes.{Rose, last}
+use Rattle.mesa_disk.specs.mesa_io.Causes.{Rose, last}
 use Rattle.mesa_batch.specs.Batch.{Named, Placed, batch_from, batch_of, placed_of}
 use Rattle.mesa_batch.specs.Glance.{tables_of}
 use Rattle.mesa_batch.specs.declared.words.BatchError.{BatchError}

@@ -1,11 +1,11 @@
 //! Drafts in memory, of which chosen calls fail.
 ghost use Rattle.std.specs.Prelude.{◌≡◌, ◌↔◌, ◌+◌, ◌<◌, ◌≤◌, min, ℕ, List, [], ◌∷◌, ◌++◌, IfOk, IfErr, IsErr, IsTrue, OnErr, OnOk, Some, Err, option_map};
-ghost use Rattle.mesa_fault.specs.Causes.{last, Rose, HasFaultCause};
+ghost use Rattle.mesa_io.specs.Causes.{last, Rose, HasFaultCause};
 ghost use Rattle.mesa_disk.specs.declared.failures.DraftError.TheVariants.{Failed as DraftFailed};
 
 use crate::memory::file::MemMade;
 use crate::{Bench, ByteList, Draft, DraftError, FileId};
-use mesa_fault::FaultCount;
+use mesa_io::FaultCount;
 use std::alloc::{AllocError, AllocFailed, Global};
 use std::sync::Arc;
 

@@ -3,7 +3,7 @@ ghost use Rattle.std.specs.Prelude.{◌≡◌, ◌↔◌, ◌+◌, ◌^◌, ◌<
 ghost use Rattle.std.specs.List.{Contains};
 ghost use Rattle.std.specs.FinMap.{from_entries, keys};
 ghost use Rattle.std.proofs.Common.{inl};
-ghost use Rattle.mesa_fault.specs.Causes.{last, Rose, HasCause, HasFaultCause};
+ghost use Rattle.mesa_io.specs.Causes.{last, Rose, HasCause, HasFaultCause};
 ghost use Rattle.mesa_disk.specs.declared.area.Area.{Area};
 ghost use Rattle.mesa_disk.specs.declared.failures.OpenFault.TheVariants.{Failed as OpenFailed, Absent};
 ghost use Rattle.mesa_disk.specs.declared.failures.ListFault.TheVariants.{Failed as ListFailed};
@@ -16,7 +16,7 @@ use crate::memory::calls::{Call, CallLog};
 use crate::memory::file::{MemMade, MemReader};
 use crate::memory::held::{Given, Start, find_file};
 use crate::{Area, ByteList, Disk, DiskFailed, FileId, ListFault, OpenFault};
-use mesa_fault::FaultCount;
+use mesa_io::FaultCount;
 use std::alloc::{AllocError, Global};
 use std::sync::Arc;
 

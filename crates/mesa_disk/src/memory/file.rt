@@ -1,11 +1,11 @@
 //! Files in memory.
 ghost use Rattle.std.specs.Prelude.{◌≡◌, ◌↔◌, ◌+◌, ◌≤◌, min, ℕ, List, [], Some, length, take, drop, IsErr, OnOk};
-ghost use Rattle.mesa_fault.specs.Causes.{last, HasCause};
+ghost use Rattle.mesa_io.specs.Causes.{last, HasCause};
 ghost use Rattle.mesa_disk.specs.MemoryLaws.{same_size};
 
 use crate::memory::held::SharedBytes;
 use crate::{FileId, FileReader, Made, ReadFailed};
-use mesa_fault::FaultCount;
+use mesa_io::FaultCount;
 
 /// A finished file in memory.
 #[derive(Drop)]

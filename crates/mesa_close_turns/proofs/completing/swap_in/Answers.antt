@@ -1,5 +1,5 @@
 use Rattle.std.proofs.Common.{◌≡◌, inl, ◌+◌, ◌<◌, [], ◌∷◌, ◌++◌, length, true, false, ◌||◌, ◌^◌, not, refl, sym, ◌∙◌, ap, subst, arith, Ok}
-use Rattle.mesa_disk.specs.mesa_fault.Causes.{Rose}
+use Rattle.mesa_disk.specs.mesa_io.Causes.{Rose}
 use Rattle.mesa_disk.specs.Files.{files_of}
 use Rattle.mesa_publishing.specs.mesa_history_spec.Machine.{claim_checked, swapped_reply}
 use Rattle.mesa_publishing.specs.mesa_history_spec.Refused.{is_refusal}

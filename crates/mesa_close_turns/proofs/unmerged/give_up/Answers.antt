@@ -1,6 +1,6 @@
 use Rattle.std.proofs.Common.{◌≡◌, ◌∷◌, ◌++◌, [], length, Option, Some, ℕ, IsTrue, true, false, not, refl, sym, ◌∙◌, ap, subst, arith}
 use Rattle.std.specs.Prelude.{◌==◌}
-use Rattle.mesa_disk.specs.mesa_fault.Causes.{last}
+use Rattle.mesa_disk.specs.mesa_io.Causes.{last}
 use Rattle.mesa_publishing.specs.mesa_history_spec.Counting.{answers_bench}
 use Rattle.mesa_publishing.specs.mesa_history_spec.Replay.{closes}
 use Rattle.mesa_publishing.specs.mesa_history_spec.Run.{Granted, Finished}

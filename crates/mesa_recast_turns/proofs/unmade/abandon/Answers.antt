@@ -1,7 +1,7 @@
 use Rattle.std.proofs.Common.{◌≡◌, inr, ◌∷◌, ◌++◌, [], length, Option, Some, ℕ, IsTrue, true, false, not, refl, sym, ◌∙◌, ap, subst, arith}
 use Rattle.std.specs.Prelude.{◌==◌, ◌⊎◌}
 use Rattle.std.proofs.Math.Logic.{⊎_map}
-use Rattle.mesa_disk.specs.mesa_fault.Causes.{last}
+use Rattle.mesa_disk.specs.mesa_io.Causes.{last}
 use Rattle.mesa_engine.specs.mesa_history_spec.Counting.{answers_bench, answers_disk}
 use Rattle.mesa_engine.specs.mesa_history_spec.Replay.{closes}
 use Rattle.mesa_engine.specs.mesa_history_spec.Run.{Finished}

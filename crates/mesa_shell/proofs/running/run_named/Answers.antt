@@ -1,5 +1,5 @@
 use Rattle.std.proofs.Common.{◌≡◌, [], length, true, false, not, refl, sym, ◌∙◌, ap, subst, arith, Bool}
-use Rattle.mesa_disk.specs.mesa_fault.Causes.{Rose}
+use Rattle.mesa_disk.specs.mesa_io.Causes.{Rose}
 use Rattle.mesa_model.specs.declared.commands.Script.{Script}
 use Rattle.mesa_model.specs.Warehouse.{Warehouse}
 use Rattle.mesa_session.specs.mesa_session_laws.Passes.{turns_of}

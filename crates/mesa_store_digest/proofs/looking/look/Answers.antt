@@ -2,7 +2,7 @@ use Rattle.std.proofs.Common.{◌≡◌, ◌<◌, ap, ◌∙◌, sym, subst, ari
 use Rattle.std.specs.Prelude.{IfErr, IfOk, IfSome, is_some}
 use Rattle.std.proofs.lemmas.Result.{err_from_is_err_and}
 use Rattle.mesa_delta.specs.declared.error.FileError.TheVariants as file_error
-use Rattle.mesa_disk.specs.mesa_fault.Causes.{Rose}
+use Rattle.mesa_disk.specs.mesa_io.Causes.{Rose}
 use Rattle.mesa_disk.specs.mesa_file.declared.damage.Damage.{Damage}
 use Rattle.mesa_image_spec.specs.Catalog.{stock_at}
 use Rattle.mesa_store_digest.proofs.Content.{err_is, given_quiet, given_rose, looked_is}

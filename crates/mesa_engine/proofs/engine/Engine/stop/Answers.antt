@@ -1,5 +1,5 @@
 use Rattle.std.proofs.Common.{◌≡◌, true, false, not, refl, subst, IsTrue}
-use Rattle.mesa_disk.specs.mesa_fault.Causes.{Rose}
+use Rattle.mesa_disk.specs.mesa_io.Causes.{Rose}
 use Rattle.mesa_metadata.specs.mesa_catalog.mesa_history_spec.Legal.{fits_sink}
 use Rattle.mesa_metadata.specs.mesa_catalog.mesa_history_spec.Run.{begins}
 use Rattle.mesa_metadata.specs.mesa_engine_spec.mesa_invariant_spec.Printing.{IsPrinted, IsPrintedButRows}
