@@ -44,9 +44,9 @@ use Rattle.mesa_engine.specs.mesa_metadata.mesa_catalog.Lookups.{generation_of, 
 use Rattle.mesa_store.specs.Store.{Writes as IsWritten}
 use Rattle.mesa_engine.specs.mesa_output_spec.Output.{block}
 use Rattle.mesa_engine.specs.mesa_projection_laws.Rows.{Rows, no_rows}
-use Rattle.mesa_publishing.proofs.mesa_trash.Filing.{freed_unnamed}
-use Rattle.mesa_publishing.specs.mesa_trash.Filed.{Renames}
-use Rattle.mesa_publishing.specs.mesa_trash.Holding.{Among, freed, ids_of}
+use Rattle.mesa_publishing.proofs.mesa_commit.Filing.{freed_unnamed}
+use Rattle.mesa_publishing.specs.mesa_commit.Filed.{Renames}
+use Rattle.mesa_publishing.specs.mesa_commit.Holding.{Among, freed, ids_of}
 use Rattle.mesa_tasks.specs.declared.merging.Task.{Task}
 use Rattle.mesa_engine.specs.mesa_engine_spec.mesa_invariant_spec.Causes.{Unwritten, reply_of, told_at}
 use Rattle.mesa_engine.specs.mesa_engine_spec.mesa_invariant_spec.Printing.{IsPut}

@@ -16,10 +16,10 @@ use Rattle.mesa_model.specs.declared.entries.Entry.{Entry}
 use Rattle.mesa_model.specs.declared.entries.Kind.TheVariants as kind
 use Rattle.mesa_model.specs.declared.entries.Outcome.{Outcome}
 use Rattle.mesa_model.specs.declared.entries.Outcome.TheVariants as outcome
-use Rattle.mesa_publishing.specs.mesa_trash.declared.trash.Dropped.{Dropped}
-use Rattle.mesa_publishing.specs.mesa_trash.Holding.{Among, IsHad, ids_of, kept}
-use Rattle.mesa_publishing.proofs.mesa_trash.Filing.{kept_had}
-use Rattle.mesa_publishing.proofs.mesa_trash.Waiting.{kept_among, unpicked}
+use Rattle.mesa_publishing.specs.mesa_commit.declared.trash.Dropped.{Dropped}
+use Rattle.mesa_publishing.specs.mesa_commit.Holding.{Among, IsHad, ids_of, kept}
+use Rattle.mesa_publishing.proofs.mesa_commit.Filing.{kept_had}
+use Rattle.mesa_publishing.proofs.mesa_commit.Waiting.{kept_among, unpicked}
 use Rattle.mesa_close_turns.specs.Swept.{HasStood, IsSwept}
 
 -- ---- turns that stand

@@ -11,7 +11,7 @@ use Rattle.mesa_model.specs.declared.entries.Entry.{Entry}
 use Rattle.mesa_model.specs.declared.entries.Kind.TheVariants as kind
 use Rattle.mesa_model.specs.declared.entries.Outcome.TheVariants as outcome
 use Rattle.mesa_engine.specs.mesa_projection_laws.Rows.{no_rows}
-use Rattle.mesa_publishing.specs.mesa_trash.Holding.{Among, IsHad}
+use Rattle.mesa_publishing.specs.mesa_commit.Holding.{Among, IsHad}
 
 -- The turn that closes a session's command stands: the entry that it added says so.
 abbrev pub HasStood : Shown → Shown → ℕ → ℕ → Type 0

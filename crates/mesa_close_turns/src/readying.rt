@@ -14,7 +14,7 @@ ghost use Rattle.mesa_span.specs.Ranges.{base_before};
 ghost use Rattle.mesa_span.specs.Work.{next_work};
 ghost use Rattle.mesa_publishing.specs.Finished.{IsFinished};
 ghost use Rattle.mesa_publishing.specs.Swapped.{IsSwapped, table_in};
-ghost use Rattle.mesa_publishing.specs.mesa_trash.Holding.{Among};
+ghost use Rattle.mesa_publishing.specs.mesa_commit.Holding.{Among};
 
 use mesa_disk::{FileReader, Made};
 use mesa_engine::Metadata;

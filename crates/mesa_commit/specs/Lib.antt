@@ -3,3 +3,5 @@ pub use Rattle.mesa_journal.specs as mesa_journal
 pub mod Images
 pub mod Turn
 pub mod Restated
+pub mod Holding
+pub mod Filed

@@ -1,9 +1,19 @@
 //! The device work of a turn: files are adopted, a body is appended to the journal, and files are removed,
 //! as one call, of which a crash at any moment leaves what was before the turn or what is after it.
+//!
+//! Files that are named no more and wait to be removed, since a pin made earlier may still read them.
+//!
+//! A pin keeps no list of files. It keeps the position of the turn in which it was made, and the first id
+//! that was given to no file then. An id is given once, so a file was named in that turn exactly where its
+//! id was given before it, and where it is named still or was dropped behind it.
 #![tactic(auto)]
 
 mod commit;
+mod holding;
 mod restating;
+mod trash;
 
 pub use commit::commit_turn;
 pub use restating::restate;
+pub use holding::{holds_tell_files, turns_keep_files};
+pub use trash::{Dropped, Hold, freed, is_held, keep_held};

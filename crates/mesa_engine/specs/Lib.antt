@@ -7,7 +7,7 @@ pub use Rattle.mesa_metadata.specs as mesa_metadata
 pub use Rattle.mesa_metadata.specs.mesa_invariant_spec.mesa_output_spec as mesa_output_spec
 pub use Rattle.mesa_metadata.specs.mesa_invariant_spec.mesa_projection_laws as mesa_projection_laws
 pub use Rattle.mesa_script.specs as mesa_script
-pub use Rattle.mesa_metadata.specs.mesa_trash as mesa_trash
+pub use Rattle.mesa_metadata.specs.mesa_commit as mesa_commit
 pub mod Failure
 pub mod Printing
 pub mod Engine

@@ -14,8 +14,8 @@ use Rattle.mesa_image_spec.specs.Shape.{IsCatalog}
 use Rattle.mesa_image_spec.specs.Sound.{AreStocked}
 use Rattle.mesa_image_spec.specs.Ids.{HasOwnIds, named}
 use Rattle.mesa_invariant_spec.specs.mesa_projection_laws.Rows.{Rows, no_rows}
-use Rattle.mesa_trash.specs.Holding.{Among}
-use Rattle.mesa_trash.proofs.Filing.{filed_first}
+use Rattle.mesa_commit.specs.Holding.{Among}
+use Rattle.mesa_commit.proofs.Filing.{filed_first}
 use Rattle.mesa_invariant_spec.specs.Turns.{IsSeen}
 use Rattle.mesa_invariant_spec.specs.Invariant.{Outset, HoldsInvariant, Counts, run_of}
 use Rattle.mesa_invariant_spec.proofs.Beginning.{unmoved_invariant}

@@ -10,7 +10,7 @@ use Rattle.mesa_image_spec.specs.mesa_schema.declared.views.View.{View}
 use Rattle.mesa_image_spec.specs.mesa_schema.Columns.{Columns}
 use Rattle.mesa_image_spec.specs.mesa_schema.Changes.{Lineage, columns_of, epoch_of}
 use Rattle.mesa_image_spec.specs.mesa_schema.Views.{with_view}
-use Rattle.mesa_trash.specs.declared.trash.Dropped.{Dropped}
+use Rattle.mesa_commit.specs.declared.trash.Dropped.{Dropped}
 use Rattle.mesa_invariant_spec.specs.mesa_disk.Story.{Story}
 use Rattle.mesa_image_spec.specs.mesa_model.declared.commands.AlterWords.{AlterWords}
 use Rattle.mesa_image_spec.specs.mesa_model.declared.commands.TableWords.{TableWords}

@@ -5,21 +5,21 @@ use Rattle.std.specs.List.{AllByRecursion}
 use Rattle.std.proofs.lemmas.List.{append-nil, map-append}
 use Rattle.std.proofs.lemmas.Simd.{map-map}
 use Rattle.mesa_invariant_spec.specs.mesa_disk.Image.{Image}
-use Rattle.mesa_trash.specs.mesa_commit.Images.{Has}
-use Rattle.mesa_trash.specs.mesa_commit.Turn.{MovesOnly, made_ids}
+use Rattle.mesa_commit.specs.Images.{Has}
+use Rattle.mesa_commit.specs.Turn.{MovesOnly, made_ids}
 use Rattle.mesa_image_spec.specs.Catalog.{Catalog}
 use Rattle.mesa_image_spec.specs.Fitting.{Shelved, shelved, shelved_id}
 use Rattle.mesa_image_spec.specs.Sound.{wants}
 use Rattle.mesa_image_spec.proofs.Agreeing.{Agrees, agree_wants}
 use Rattle.mesa_image_spec.specs.Ids.{named}
 use Rattle.mesa_invariant_spec.specs.mesa_projection_laws.Rows.{Rows}
-use Rattle.mesa_trash.specs.declared.trash.Hold.{Hold}
-use Rattle.mesa_trash.specs.declared.trash.Dropped.{Dropped}
-use Rattle.mesa_trash.specs.Filed.{AreGiven, Renames, waits_after}
-use Rattle.mesa_trash.specs.Holding.{Among, is_held, ids_of, freed, kept, dropped_at, Held, holds_of, AreFiled}
-use Rattle.mesa_trash.proofs.Adopting.{pin_stays, had_apart}
-use Rattle.mesa_trash.proofs.Filing.{filed_later, filed_brought, filed_dropped, filed_removed, freed_unheld}
-use Rattle.mesa_trash.proofs.Waiting.{among_front, among_back, dropped_among}
+use Rattle.mesa_commit.specs.declared.trash.Hold.{Hold}
+use Rattle.mesa_commit.specs.declared.trash.Dropped.{Dropped}
+use Rattle.mesa_commit.specs.Filed.{AreGiven, Renames, waits_after}
+use Rattle.mesa_commit.specs.Holding.{Among, is_held, ids_of, freed, kept, dropped_at, Held, holds_of, AreFiled}
+use Rattle.mesa_commit.proofs.Adopting.{pin_stays, had_apart}
+use Rattle.mesa_commit.proofs.Filing.{filed_later, filed_brought, filed_dropped, filed_removed, freed_unheld}
+use Rattle.mesa_commit.proofs.Waiting.{among_front, among_back, dropped_among}
 use Rattle.mesa_engine_spec.specs.EngineState.{EngineState, Holder, pin_holder, query_holder, holders, ids_held}
 use Rattle.mesa_engine_spec.specs.Recorded.{holds_in}
 use Rattle.mesa_engine_spec.proofs.Lists.{among_left, among_split}

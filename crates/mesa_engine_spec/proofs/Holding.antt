@@ -3,7 +3,7 @@ use Rattle.std.proofs.Common.{◌≡◌, ℕ, ◌+◌, ◌<◌, ◌≤◌, List,
 use Rattle.std.specs.Prelude.{filter, if◌then◌else◌}
 use Rattle.std.specs.List.{AllByRecursion}
 use Rattle.std.proofs.lemmas.Bool.Decides.{nat_tests}
-use Rattle.mesa_trash.specs.mesa_commit.Images.{Has}
+use Rattle.mesa_commit.specs.Images.{Has}
 use Rattle.mesa_invariant_spec.specs.mesa_disk.Image.{Image}
 use Rattle.mesa_image_spec.specs.Catalog.{Catalog}
 use Rattle.mesa_image_spec.specs.Fitting.{shelved}
@@ -11,10 +11,10 @@ use Rattle.mesa_image_spec.specs.Shape.{IsCatalog}
 use Rattle.mesa_image_spec.specs.Sound.{AreStocked, wants}
 use Rattle.mesa_image_spec.specs.Ids.{named}
 use Rattle.mesa_invariant_spec.specs.mesa_projection_laws.Rows.{Rows}
-use Rattle.mesa_trash.specs.declared.trash.Hold.{Hold}
-use Rattle.mesa_trash.specs.Filed.{PinFiles}
-use Rattle.mesa_trash.specs.Holding.{Held, IsHoldOf, AreFiled}
-use Rattle.mesa_trash.proofs.Filing.{filed_later, filed_pinned}
+use Rattle.mesa_commit.specs.declared.trash.Hold.{Hold}
+use Rattle.mesa_commit.specs.Filed.{PinFiles}
+use Rattle.mesa_commit.specs.Holding.{Held, IsHoldOf, AreFiled}
+use Rattle.mesa_commit.proofs.Filing.{filed_later, filed_pinned}
 use Rattle.mesa_engine_spec.specs.EngineState.{HeldPin, OpenQuery, EngineState, next_id, Holder, pin_holder, query_holder, holders, ids_held, files_held}
 use Rattle.mesa_engine_spec.specs.Vault.{AreShaped, IsVersioned}
 use Rattle.mesa_engine_spec.proofs.Lists.{all_map, map_all, all_joined, all_front, all_back, all_also, all_so, all_filtered}

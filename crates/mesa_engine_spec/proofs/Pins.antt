@@ -9,7 +9,7 @@ use Rattle.mesa_image_spec.specs.mesa_model.Warehouse.{Pin, Store, Table}
 use Rattle.mesa_image_spec.specs.Catalog.{Catalog, Stock}
 use Rattle.mesa_invariant_spec.specs.mesa_projection_laws.Bare.{bare_pin, bare_store, bare_table}
 use Rattle.mesa_invariant_spec.specs.mesa_projection_laws.Rows.{Rows}
-use Rattle.mesa_trash.specs.declared.trash.Hold.{Hold}
+use Rattle.mesa_commit.specs.declared.trash.Hold.{Hold}
 use Rattle.mesa_invariant_spec.specs.Books.{pinned_books, released_books}
 use Rattle.mesa_engine_spec.specs.EngineState.{HeldPin, EngineState, projection_at, projection_of, projections, projections_at, bare_held, held_with, books_of}
 use Rattle.mesa_engine_spec.specs.Turned.{pin_now, pinned_state, is_held_pin, released_state}

@@ -8,7 +8,7 @@ use Rattle.mesa_image_spec.specs.mesa_model.declared.entries.Entry.{Entry}
 use Rattle.mesa_image_spec.specs.mesa_history_spec.Run.{begins}
 use Rattle.mesa_image_spec.specs.Catalog.{Catalog}
 use Rattle.mesa_image_spec.specs.Ids.{named}
-use Rattle.mesa_trash.specs.Holding.{AreFiled}
+use Rattle.mesa_commit.specs.Holding.{AreFiled}
 use Rattle.mesa_invariant_spec.specs.Invariant.{Outset, KeepsInvariant}
 use Rattle.mesa_engine_spec.specs.EngineState.{HeldPin, OpenQuery, EngineState, books_of, next_id, most_files, holders, ids_held}
 use Rattle.mesa_image_spec.specs.Sourced.{HasSources}

@@ -5,7 +5,7 @@ use Rattle.std.proofs.lemmas.List.{map-set}
 use Rattle.mesa_image_spec.specs.mesa_lease.Book.{ended}
 use Rattle.mesa_image_spec.proofs.mesa_schema.Lists.{map_at}
 use Rattle.mesa_image_spec.specs.mesa_schema.Recasts.{Recast}
-use Rattle.mesa_trash.specs.declared.trash.Dropped.{Dropped}
+use Rattle.mesa_commit.specs.declared.trash.Dropped.{Dropped}
 use Rattle.mesa_invariant_spec.specs.mesa_disk.Story.{Story}
 use Rattle.mesa_image_spec.specs.mesa_model.declared.entries.Entry.{Entry}
 use Rattle.mesa_image_spec.specs.mesa_model.Tables.{table_recast}

@@ -5,8 +5,8 @@ use Rattle.std.proofs.lemmas.List.{length-append}
 use Rattle.mesa_invariant_spec.specs.mesa_disk.Files.{AreGone}
 use Rattle.mesa_invariant_spec.specs.mesa_disk.Image.{Image}
 use Rattle.mesa_invariant_spec.specs.mesa_disk.Story.{Story, Steps}
-use Rattle.mesa_trash.specs.mesa_commit.Images.{Has}
-use Rattle.mesa_trash.specs.mesa_commit.Turn.{MovesOnly}
+use Rattle.mesa_commit.specs.Images.{Has}
+use Rattle.mesa_commit.specs.Turn.{MovesOnly}
 use Rattle.mesa_image_spec.specs.mesa_lease.Book.{Book}
 use Rattle.mesa_image_spec.specs.mesa_model.declared.entries.Entry.{Entry}
 use Rattle.mesa_image_spec.specs.mesa_model.declared.replies.Reply.{Reply}
@@ -18,10 +18,10 @@ use Rattle.mesa_image_spec.specs.Sound.{AreStocked}
 use Rattle.mesa_image_spec.proofs.Agreeing.{agree_stocked}
 use Rattle.mesa_image_spec.specs.Ids.{named}
 use Rattle.mesa_invariant_spec.specs.mesa_projection_laws.Rows.{Rows}
-use Rattle.mesa_trash.specs.Filed.{AreFresh, AreMoved, PinFiles, Renames}
-use Rattle.mesa_trash.specs.declared.trash.Dropped.{Dropped}
-use Rattle.mesa_trash.specs.Holding.{Among, Held, AreFiled, IsHoldOf, ids_of, freed, kept}
-use Rattle.mesa_trash.proofs.Adopting.{fresh_stays, named_stays}
+use Rattle.mesa_commit.specs.Filed.{AreFresh, AreMoved, PinFiles, Renames}
+use Rattle.mesa_commit.specs.declared.trash.Dropped.{Dropped}
+use Rattle.mesa_commit.specs.Holding.{Among, Held, AreFiled, IsHoldOf, ids_of, freed, kept}
+use Rattle.mesa_commit.proofs.Adopting.{fresh_stays, named_stays}
 use Rattle.mesa_invariant_spec.specs.Sight.{is_of_schemas, tells_of_schemas, schema_changes}
 use Rattle.mesa_invariant_spec.specs.Invariant.{Outset, KeepsInvariant, KeepsInvariantTelling}
 use Rattle.mesa_engine_spec.specs.EngineState.{EngineState, books_of, first_id, next_id, past_id, most_files, Holder, holders, ids_held, files_held}

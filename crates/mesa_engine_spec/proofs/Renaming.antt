@@ -5,7 +5,7 @@ use Rattle.std.proofs.lemmas.List.{map-append}
 use Rattle.std.proofs.lemmas.List.Sums.{sum_by-append}
 use Rattle.std.proofs.lemmas.Simd.{map-map}
 use Rattle.mesa_image_spec.specs.mesa_schema.Changes.{Lineage}
-use Rattle.mesa_trash.specs.mesa_commit.Turn.{made_ids}
+use Rattle.mesa_commit.specs.Turn.{made_ids}
 use Rattle.mesa_image_spec.specs.mesa_record.declared.record.Files.{Files}
 use Rattle.mesa_image_spec.specs.mesa_record.declared.record.Record.{Record}
 use Rattle.mesa_image_spec.specs.mesa_record.declared.record.Record.TheVariants as record_of
@@ -17,8 +17,8 @@ use Rattle.mesa_image_spec.specs.Ids.{HasOwnIds, brought_ids, delta_ids, dropped
 use Rattle.mesa_image_spec.proofs.Ids.{brought_own, counted}
 use Rattle.mesa_image_spec.proofs.Lists.{is_equal}
 use Rattle.mesa_image_spec.proofs.Moving.{kind_of}
-use Rattle.mesa_trash.specs.Filed.{Renames}
-use Rattle.mesa_trash.specs.Holding.{Among}
+use Rattle.mesa_commit.specs.Filed.{Renames}
+use Rattle.mesa_commit.specs.Holding.{Among}
 use Rattle.mesa_engine_spec.proofs.Lists.{among_left, among_right, among_split}
 
 -- ---- ids in lists

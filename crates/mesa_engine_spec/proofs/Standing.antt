@@ -3,7 +3,7 @@ use Rattle.std.proofs.Common.{◌≡◌, inr, ℕ, ◌<◌, List, refl, sym, ◌
 use Rattle.mesa_invariant_spec.specs.mesa_disk.Image.{Image}
 use Rattle.mesa_invariant_spec.specs.mesa_disk.Story.{Story, Unmoved}
 use Rattle.mesa_invariant_spec.specs.mesa_disk.declared.area.Area.{Area}
-use Rattle.mesa_trash.specs.mesa_commit.Images.{Has}
+use Rattle.mesa_commit.specs.Images.{Has}
 use Rattle.mesa_image_spec.specs.Catalog.{Catalog}
 use Rattle.mesa_image_spec.specs.Contents.{kept_of}
 use Rattle.mesa_image_spec.specs.Fitting.{shelved}

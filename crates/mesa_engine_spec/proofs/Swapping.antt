@@ -8,7 +8,7 @@ use Rattle.mesa_image_spec.proofs.mesa_schema.Lists.{map_at}
 use Rattle.mesa_image_spec.specs.mesa_span.declared.works.Work.{Work}
 use Rattle.mesa_image_spec.specs.mesa_span.declared.works.Work.TheVariants as range
 use Rattle.mesa_image_spec.specs.mesa_span.Work.{swapped}
-use Rattle.mesa_trash.specs.declared.trash.Dropped.{Dropped}
+use Rattle.mesa_commit.specs.declared.trash.Dropped.{Dropped}
 use Rattle.mesa_invariant_spec.specs.mesa_disk.Story.{Story}
 use Rattle.mesa_image_spec.specs.mesa_model.declared.entries.Entry.{Entry}
 use Rattle.mesa_image_spec.specs.mesa_history_spec.Machine.{Claim, swapped_reply}

@@ -3,8 +3,8 @@ use Rattle.std.proofs.Common.{◌≡◌, ℕ, ◌+◌, ◌<◌, ◌^◌, ◌≤�
 use Rattle.mesa_invariant_spec.specs.mesa_disk.Files.{AreGone}
 use Rattle.mesa_invariant_spec.specs.mesa_disk.Image.{Image}
 use Rattle.mesa_invariant_spec.specs.mesa_disk.Story.{Story, Steps}
-use Rattle.mesa_trash.specs.mesa_commit.Turn.{MovesOnly}
-use Rattle.mesa_trash.specs.declared.trash.Dropped.{Dropped}
+use Rattle.mesa_commit.specs.Turn.{MovesOnly}
+use Rattle.mesa_commit.specs.declared.trash.Dropped.{Dropped}
 use Rattle.mesa_image_spec.specs.mesa_lease.Book.{ended}
 use Rattle.mesa_image_spec.specs.mesa_span.declared.works.Work.{Work}
 use Rattle.mesa_image_spec.specs.mesa_span.declared.works.Work.TheVariants as range

@@ -10,10 +10,10 @@ use Rattle.mesa_image_spec.specs.Contents.{kept_of}
 use Rattle.mesa_image_spec.specs.Sound.{wants}
 use Rattle.mesa_image_spec.specs.Ids.{named}
 use Rattle.mesa_invariant_spec.specs.mesa_projection_laws.Rows.{Rows}
-use Rattle.mesa_trash.specs.declared.trash.Dropped.{Dropped}
-use Rattle.mesa_trash.specs.declared.trash.Hold.{Hold}
-use Rattle.mesa_trash.specs.Filed.{PinFiles}
-use Rattle.mesa_trash.specs.Holding.{Held}
+use Rattle.mesa_commit.specs.declared.trash.Dropped.{Dropped}
+use Rattle.mesa_commit.specs.declared.trash.Hold.{Hold}
+use Rattle.mesa_commit.specs.Filed.{PinFiles}
+use Rattle.mesa_commit.specs.Holding.{Held}
 use Rattle.mesa_invariant_spec.specs.Books.{Books}
 
 -- A pin that is held: whose it is, its token and its version, its hold on files, and its own copy of the catalogue.

@@ -1,6 +1,6 @@
 -- What a record does to a vault's memory.
 use Rattle.std.specs.Prelude.{◌≡◌, ℕ, ◌+◌, ◌<◌, ◌≤◌, List, ◌++◌, map, Option, Some}
-use Rattle.mesa_trash.specs.mesa_commit.Turn.{made_ids}
+use Rattle.mesa_commit.specs.Turn.{made_ids}
 use Rattle.mesa_image_spec.specs.Catalog.{Catalog}
 use Rattle.mesa_image_spec.specs.Shape.{IsCatalog}
 use Rattle.mesa_image_spec.specs.mesa_lease.Book.{Book}
@@ -8,10 +8,10 @@ use Rattle.mesa_image_spec.specs.Countable.{AreCounted}
 use Rattle.mesa_image_spec.specs.Ids.{HasOwnIds, named}
 use Rattle.mesa_image_spec.specs.Recordable.{AreRecordable}
 use Rattle.mesa_invariant_spec.specs.mesa_projection_laws.Rows.{Rows}
-use Rattle.mesa_trash.specs.declared.trash.Dropped.{Dropped}
-use Rattle.mesa_trash.specs.declared.trash.Hold.{Hold}
-use Rattle.mesa_trash.specs.Filed.{AreGiven, Renames, waits_after}
-use Rattle.mesa_trash.specs.Holding.{Among, freed, ids_of, kept}
+use Rattle.mesa_commit.specs.declared.trash.Dropped.{Dropped}
+use Rattle.mesa_commit.specs.declared.trash.Hold.{Hold}
+use Rattle.mesa_commit.specs.Filed.{AreGiven, Renames, waits_after}
+use Rattle.mesa_commit.specs.Holding.{Among, freed, ids_of, kept}
 use Rattle.mesa_engine_spec.specs.EngineState.{HeldPin, OpenQuery, EngineState, first_id, next_id, most_files}
 
 abbrev pub hold_of_pin : HeldPin → Hold

@@ -3,7 +3,7 @@ use Rattle.std.specs.Prelude.{◌≡◌, ℕ, ◌+◌, ◌*◌, ◌<◌, ◌≤�
 use Rattle.std.specs.List.{AllByRecursion}
 use Rattle.mesa_invariant_spec.specs.mesa_disk.Image.{Image}
 use Rattle.mesa_invariant_spec.specs.mesa_disk.Story.{Story}
-use Rattle.mesa_trash.specs.mesa_commit.Images.{Has}
+use Rattle.mesa_commit.specs.Images.{Has}
 use Rattle.mesa_image_spec.specs.mesa_model.declared.commands.Script.{Script}
 use Rattle.mesa_image_spec.specs.mesa_model.declared.entries.Entry.{Entry}
 use Rattle.mesa_image_spec.specs.mesa_history_spec.Claims.{HasRanges}
@@ -19,8 +19,8 @@ use Rattle.mesa_image_spec.specs.Ids.{HasOwnIds, named}
 use Rattle.mesa_image_spec.specs.Recordable.{AreRecordable}
 use Rattle.mesa_image_spec.specs.Sourced.{HasSources}
 use Rattle.mesa_invariant_spec.specs.mesa_projection_laws.Rows.{Rows}
-use Rattle.mesa_trash.specs.Filed.{AreFresh, AreNamedOrWait, PinFiles}
-use Rattle.mesa_trash.specs.Holding.{AreFiled, ids_of}
+use Rattle.mesa_commit.specs.Filed.{AreFresh, AreNamedOrWait, PinFiles}
+use Rattle.mesa_commit.specs.Holding.{AreFiled, ids_of}
 use Rattle.mesa_invariant_spec.specs.Sight.{schema_changes}
 use Rattle.mesa_invariant_spec.specs.Invariant.{Outset, HoldsInvariant}
 use Rattle.mesa_image_spec.specs.mesa_model.Versions.{common_oldest}

@@ -6,9 +6,9 @@ use Rattle.std.specs.List.{AllWithin}
 use Rattle.std.specs.List.Sorted.{IsNonDecreasingBy, IsPartitionPoint, IsPermutation}
 use Rattle.std.proofs.lemmas.Bool.Decides.{nat_tests}
 use Rattle.std.proofs.lemmas.List.Sorted.{list_any-IsPermutation}
-use Rattle.mesa_trash.specs.declared.trash.Dropped.{Dropped}
-use Rattle.mesa_trash.specs.declared.trash.Hold.{Hold}
-use Rattle.mesa_trash.specs.Holding.{holds, is_held}
+use Rattle.mesa_commit.specs.declared.trash.Dropped.{Dropped}
+use Rattle.mesa_commit.specs.declared.trash.Hold.{Hold}
+use Rattle.mesa_commit.specs.Holding.{holds, is_held}
 use Rattle.mesa_metadata.specs.Index.{IsIndex, IsIndexOf}
 
 -- ---- tests

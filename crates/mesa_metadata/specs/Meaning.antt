@@ -1,10 +1,10 @@
 -- What the parts of a vault's memory stand for.
 use Rattle.std.specs.Prelude.{ℕ, ◌+◌, ◌<◌, ◌≤◌, ◌^◌, List, ◌++◌, length, map, Vec, vec_capacity, vec_len, IfSome, IsTrue}
 use Rattle.std.specs.declared.alloc.Global.{Global}
-use Rattle.mesa_trash.specs.declared.trash.Hold.{Hold}
+use Rattle.mesa_commit.specs.declared.trash.Hold.{Hold}
 use Rattle.mesa_record.specs.declared.record.Record.{Record}
 use Rattle.mesa_catalog.specs.mesa_image_spec.Fitting.{fits}
-use Rattle.mesa_trash.specs.declared.trash.Dropped.{Dropped}
+use Rattle.mesa_commit.specs.declared.trash.Dropped.{Dropped}
 use Rattle.mesa_catalog.specs.Kept.{Reserved}
 use Rattle.mesa_engine_spec.specs.EngineState.{HeldPin, OpenQuery}
 use Rattle.mesa_engine_spec.specs.Recorded.{hold_of_pin, hold_of_query}

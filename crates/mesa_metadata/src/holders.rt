@@ -1,6 +1,6 @@
 // Who holds files: the pins, and the queries that are being answered.
 ghost use Rattle.std.specs.Prelude.{◌≡◌, ◌+◌, ◌≤◌, ◌++◌, ◌&&◌, ◌==◌, filter, find, length, map, not, option_map, vec_capacity, vec_len, OnErr, OnOk, [], ◌∷◌};
-ghost use Rattle.mesa_trash.specs.Holding.{is_held as is_held_by};
+ghost use Rattle.mesa_commit.specs.Holding.{is_held as is_held_by};
 ghost use Rattle.mesa_engine_spec.specs.Turned.{is_held_pin};
 ghost use Rattle.mesa_metadata.specs.declared.holders.Pin.{Pin as Held};
 ghost use Rattle.mesa_metadata.specs.declared.holders.Query.{Query as Asked};
@@ -9,7 +9,7 @@ ghost use Rattle.mesa_metadata.specs.Memory.{is_of_another};
 
 use crate::index::{is_found, make_index};
 use mesa_catalog::Catalog;
-use mesa_trash::{Dropped, Hold};
+use mesa_commit::{Dropped, Hold};
 use std::alloc::AllocError;
 
 /// A version that a session keeps, with a copy of the catalogue of its own.

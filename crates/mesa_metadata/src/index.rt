@@ -2,11 +2,11 @@
 // ids had been given. So whether one is on a file hangs on the last one alone that was made before the file was dropped.
 ghost use Rattle.std.specs.Prelude.{◌≡◌, length, vec_capacity};
 ghost use Rattle.std.specs.List.Sorted.{IsNonDecreasingBy};
-ghost use Rattle.mesa_trash.specs.Holding.{is_held};
-ghost use Rattle.mesa_trash.specs.declared.trash.Hold.{Hold as AnyHold};
+ghost use Rattle.mesa_commit.specs.Holding.{is_held};
+ghost use Rattle.mesa_commit.specs.declared.trash.Hold.{Hold as AnyHold};
 ghost use Rattle.mesa_metadata.specs.Index.{IsIndex, IsIndexOf};
 
-use mesa_trash::{Dropped, Hold};
+use mesa_commit::{Dropped, Hold};
 
 // Whether a hold of the index is on the file.
 pub(crate) fn is_found(index: &[Hold], dropped: &Dropped) -> bool

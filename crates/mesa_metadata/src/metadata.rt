@@ -12,7 +12,7 @@ use mesa_catalog::Catalog;
 use mesa_disk::Area;
 use mesa_file::FileId;
 use mesa_lease::{Leases, TABLES};
-use mesa_trash::{Dropped, Hold};
+use mesa_commit::{Dropped, Hold};
 use std::alloc::Global;
 use std::marker::Model;
 

@@ -1,11 +1,11 @@
 // Files that wait to be removed, and which of them no hold is on.
 ghost use Rattle.std.specs.Prelude.{◌≡◌, ◌+◌, ◌≤◌, ◌++◌, length, map, vec_capacity, vec_len, OnOk};
-ghost use Rattle.mesa_trash.specs.Holding.{dropped_at, freed, ids_of, kept};
+ghost use Rattle.mesa_commit.specs.Holding.{dropped_at, freed, ids_of, kept};
 ghost use Rattle.mesa_metadata.specs.Meaning.{AreIndexed, holds_by};
 
 use crate::holders::Holders;
 use mesa_file::FileId;
-use mesa_trash::Dropped;
+use mesa_commit::Dropped;
 use std::alloc::AllocError;
 
 // Adds the ids of the files of the trash that no hold is on.

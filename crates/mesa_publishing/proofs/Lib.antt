@@ -4,7 +4,7 @@ pub use Rattle.mesa_catalog.proofs.mesa_history_spec as mesa_history_spec
 pub use Rattle.mesa_model.proofs as mesa_model
 pub use Rattle.mesa_plans.proofs as mesa_plans
 pub use Rattle.mesa_schema.proofs as mesa_schema
-pub use Rattle.mesa_metadata.proofs.mesa_trash as mesa_trash
+pub use Rattle.mesa_metadata.proofs.mesa_commit as mesa_commit
 pub mod KeysOnce
 pub mod SumNames
 pub mod Lists

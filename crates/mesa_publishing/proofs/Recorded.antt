@@ -40,8 +40,8 @@ use Rattle.mesa_tasks.specs.mesa_delta.Summary.{file_layout}
 use Rattle.mesa_disk.specs.Files.{HasDistinctIds, files_of}
 use Rattle.mesa_record.specs.Rules.{is_file_ref, keeps_rules}
 use Rattle.mesa_record.specs.declared.record.Record.{Record}
-use Rattle.mesa_metadata.specs.mesa_trash.Filed.{AreGiven}
-use Rattle.mesa_metadata.specs.mesa_trash.Holding.{Among}
+use Rattle.mesa_metadata.specs.mesa_commit.Filed.{AreGiven}
+use Rattle.mesa_metadata.specs.mesa_commit.Holding.{Among}
 use Rattle.mesa_metadata.specs.mesa_image_spec.Contents.{Rows}
 use Rattle.mesa_metadata.specs.mesa_image_spec.Sound.{IsTold, wants}
 use Rattle.mesa_metadata.specs.mesa_image_spec.Brought.{AreTold}

@@ -7,8 +7,8 @@ use Rattle.mesa_schema.specs.declared.rows.Row.{Row}
 use Rattle.mesa_schema.specs.Changes.{Lineage, columns_of, epoch_of}
 use Rattle.mesa_disk.specs.Files.{HasDistinctIds, files_of}
 use Rattle.mesa_plans.specs.mesa_commit.Turn.{made_ids, told_files}
-use Rattle.mesa_metadata.specs.mesa_trash.Filed.{AreGiven}
-use Rattle.mesa_metadata.specs.mesa_trash.Holding.{Among}
+use Rattle.mesa_metadata.specs.mesa_commit.Filed.{AreGiven}
+use Rattle.mesa_metadata.specs.mesa_commit.Holding.{Among}
 use Rattle.mesa_record.specs.Rules.{keeps_rules}
 use Rattle.mesa_record.specs.declared.record.Files.{Files}
 use Rattle.mesa_record.specs.declared.record.Record.{Record}

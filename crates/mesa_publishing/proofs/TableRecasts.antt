@@ -8,7 +8,7 @@ use Rattle.mesa_schema.specs.Recasts.{recast_checked}
 use Rattle.mesa_schema.proofs.LineageRecasts.{recast_allowed}
 use Rattle.mesa_disk.specs.Files.{files_of}
 use Rattle.mesa_disk.specs.declared.moving.Adoption.{Adoption}
-use Rattle.mesa_metadata.specs.mesa_trash.Holding.{Among}
+use Rattle.mesa_metadata.specs.mesa_commit.Holding.{Among}
 use Rattle.mesa_record.specs.declared.checkpoint.StatedSingle.{StatedSingle}
 use Rattle.mesa_record.specs.declared.record.Record.TheVariants as record_of
 use Rattle.mesa_record.specs.declared.recasting.RecastBase.{RecastBase}

@@ -13,8 +13,8 @@ use Rattle.mesa_batch.specs.Batch.{Named, Placed, batch_of}
 use Rattle.mesa_disk.specs.Files.{HasDistinctIds, files_of}
 use Rattle.mesa_disk.specs.declared.moving.Adoption.{Adoption}
 use Rattle.mesa_plans.specs.mesa_commit.Turn.{made_ids, told_files}
-use Rattle.mesa_metadata.specs.mesa_trash.Filed.{AreGiven}
-use Rattle.mesa_metadata.specs.mesa_trash.Holding.{Among}
+use Rattle.mesa_metadata.specs.mesa_commit.Filed.{AreGiven}
+use Rattle.mesa_metadata.specs.mesa_commit.Holding.{Among}
 use Rattle.mesa_model.specs.Load.{bounds_checked, load_batch, tables_named, with_batch}
 use Rattle.mesa_model.specs.Refusals.{batch_refusal, refuse_closed}
 use Rattle.mesa_model.specs.Warehouse.{Warehouse, max_tables, max_versions}

@@ -1,5 +1,5 @@
 pub use Rattle.mesa_batch.specs as mesa_batch
-pub use Rattle.mesa_metadata.specs.mesa_trash.mesa_commit as mesa_commit
+pub use Rattle.mesa_metadata.specs.mesa_commit as mesa_commit
 pub use Rattle.mesa_copy.specs.mesa_compact as mesa_compact
 pub use Rattle.mesa_copy.specs as mesa_copy
 pub use Rattle.mesa_metadata.specs.mesa_engine_spec as mesa_engine_spec
@@ -12,7 +12,6 @@ pub use Rattle.mesa_plans.specs as mesa_plans
 pub use Rattle.mesa_metadata.specs.mesa_projection_laws as mesa_projection_laws
 pub use Rattle.mesa_schema.specs as mesa_schema
 pub use Rattle.mesa_span.specs as mesa_span
-pub use Rattle.mesa_metadata.specs.mesa_trash as mesa_trash
 pub mod Batches
 pub mod Adopted
 pub mod Bounds

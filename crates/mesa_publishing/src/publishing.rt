@@ -6,7 +6,7 @@ ghost use Rattle.mesa_model.specs.Load.{load_batch};
 ghost use Rattle.mesa_model.specs.Warehouse.{max_versions};
 ghost use Rattle.mesa_model.specs.declared.replies.Refusal.TheVariants as no;
 ghost use Rattle.mesa_publishing.specs.declared.failure.Unpublished.TheVariants.{Refused};
-ghost use Rattle.mesa_metadata.specs.mesa_trash.Holding.{Among};
+ghost use Rattle.mesa_metadata.specs.mesa_commit.Holding.{Among};
 ghost use Rattle.mesa_catalog.specs.mesa_image_spec.Shape.{IsCatalog};
 ghost use Rattle.mesa_catalog.specs.mesa_image_spec.Ids.{named};
 ghost use Rattle.mesa_catalog.specs.mesa_image_spec.Sourced.{tables_read};

@@ -12,7 +12,7 @@ ghost use Rattle.mesa_publishing.specs.Adopted.{ref_under, told_under};
 ghost use Rattle.mesa_schema.specs.Recasts.{recast_checked};
 ghost use Rattle.mesa_table.specs.Meaning.{AreLoaded, ending_of};
 ghost use Rattle.mesa_tasks.specs.Recasts.{IsRecastTask, IsRecasted, recast_in, recast_table};
-ghost use Rattle.mesa_metadata.specs.mesa_trash.Holding.{Among};
+ghost use Rattle.mesa_metadata.specs.mesa_commit.Holding.{Among};
 ghost use Rattle.mesa_publishing.specs.Grown.{HasSameColumns};
 ghost use Rattle.mesa_publishing.specs.Recasts.{AreSinglesRewritten, AreTaken, HasFile, HasFileAt, IsBaseRewritten, IsRecastIn, IsTaken, Took, files_taken, rewritten_under, singles_in, stock_of_recast, with_file};
 

@@ -4,7 +4,7 @@ ghost use Rattle.mesa_schema.specs.Changes.{Lineage};
 ghost use Rattle.mesa_disk.specs.Files.{files_of};
 ghost use Rattle.mesa_span.specs.Ranges.{base_before};
 ghost use Rattle.mesa_span.specs.Work.{next_work};
-ghost use Rattle.mesa_metadata.specs.mesa_trash.Holding.{Among};
+ghost use Rattle.mesa_metadata.specs.mesa_commit.Holding.{Among};
 ghost use Rattle.mesa_metadata.specs.mesa_image_spec.Catalog.{ranges_of};
 ghost use Rattle.mesa_metadata.specs.mesa_image_spec.Shape.{IsCatalog};
 ghost use Rattle.mesa_metadata.specs.mesa_image_spec.Ids.{named};

@@ -54,7 +54,7 @@ use Rattle.mesa_engine.proofs.mesa_projection_laws.Steps.{query-bare}
 use Rattle.mesa_engine.specs.mesa_projection_laws.Bare.{bare_answer, bare_result}
 use Rattle.mesa_engine.specs.mesa_projection_laws.Rows.{Rows, no_rows}
 use Rattle.mesa_tasks.specs.declared.querying.Pinned.{Pinned}
-use Rattle.mesa_engine.specs.mesa_trash.Filed.{PinFiles}
+use Rattle.mesa_engine.specs.mesa_commit.Filed.{PinFiles}
 use Rattle.mesa_engine.specs.mesa_engine_spec.mesa_invariant_spec.Books.{AreBooksOf}
 use Rattle.mesa_engine.specs.mesa_engine_spec.mesa_invariant_spec.Queries.{IsOpen, IsPinned}
 use Rattle.mesa_engine.specs.mesa_engine_spec.mesa_invariant_spec.Turns.{entry}

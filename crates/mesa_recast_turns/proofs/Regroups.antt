@@ -53,9 +53,9 @@ use Rattle.mesa_engine.specs.mesa_metadata.mesa_catalog.Lookups.{generation_of, 
 use Rattle.mesa_store.specs.Store.{Writes as IsWritten}
 use Rattle.mesa_engine.specs.mesa_output_spec.Output.{block}
 use Rattle.mesa_engine.specs.mesa_projection_laws.Rows.{Rows, no_rows}
-use Rattle.mesa_close_turns.proofs.mesa_trash.Filing.{freed_unnamed}
-use Rattle.mesa_close_turns.specs.mesa_trash.Filed.{Renames}
-use Rattle.mesa_close_turns.specs.mesa_trash.Holding.{Among, freed, ids_of}
+use Rattle.mesa_close_turns.proofs.mesa_commit.Filing.{freed_unnamed}
+use Rattle.mesa_close_turns.specs.mesa_commit.Filed.{Renames}
+use Rattle.mesa_close_turns.specs.mesa_commit.Holding.{Among, freed, ids_of}
 use Rattle.mesa_tasks.specs.Recasts.{claim_of_recast, recast_in, recast_table}
 use Rattle.mesa_tasks.specs.declared.recasting.Recast.{Recast}
 use Rattle.mesa_engine.specs.mesa_engine_spec.mesa_invariant_spec.Causes.{Unwritten, reply_of, told_at}

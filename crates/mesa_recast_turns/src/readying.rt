@@ -16,7 +16,7 @@ ghost use Rattle.mesa_engine.specs.mesa_projection_laws.Rows.{no_rows};
 ghost use Rattle.mesa_close_turns.specs.mesa_publishing.Grown.{HasSameColumns};
 ghost use Rattle.mesa_close_turns.specs.mesa_publishing.Recasts.{IsRecastIn, stock_of_recast};
 ghost use Rattle.mesa_tasks.specs.Recasts.{IsRecastTask, IsRecasted, recast_in, recast_table};
-ghost use Rattle.mesa_close_turns.specs.mesa_trash.Holding.{Among};
+ghost use Rattle.mesa_close_turns.specs.mesa_commit.Holding.{Among};
 
 use mesa_close_turns::{Swapped, make_room, recast as record_of};
 use mesa_disk::{FileReader, Made};

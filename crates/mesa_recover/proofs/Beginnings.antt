@@ -9,9 +9,9 @@ use Rattle.mesa_disk.specs.Story.{Story, Spans, Unmoved}
 use Rattle.mesa_disk.specs.declared.area.Area.{Area}
 use Rattle.mesa_disk.proofs.Run.{spans_on}
 use Rattle.mesa_journal.proofs.Live.{one_live, same_live}
-use Rattle.mesa_trash.specs.Holding.{Among}
-use Rattle.mesa_trash.specs.Filed.{AreFresh, AreNamedOrWait, FilesAdopted}
-use Rattle.mesa_trash.proofs.Filing.{filed_first}
+use Rattle.mesa_commit.specs.Holding.{Among}
+use Rattle.mesa_commit.specs.Filed.{AreFresh, AreNamedOrWait, FilesAdopted}
+use Rattle.mesa_commit.proofs.Filing.{filed_first}
 use Rattle.mesa_record.specs.Reading.{record_at}
 use Rattle.mesa_image_spec.specs.Catalog.{Catalog, applied}
 use Rattle.mesa_image_spec.specs.Fitting.{fits, max_runs, shelved}

@@ -13,8 +13,8 @@ use Rattle.mesa_check.specs.mesa_history_spec.Replay.{runs}
 use Rattle.mesa_check.specs.mesa_history_spec.Run.{begins}
 use Rattle.mesa_store_digest.specs.mesa_projection_laws.Bare.{bare_table}
 use Rattle.mesa_store_digest.specs.mesa_projection_laws.Rows.{Rows}
-use Rattle.mesa_engine_spec.specs.mesa_trash.Filed.{AreFresh}
-use Rattle.mesa_engine_spec.specs.mesa_trash.Holding.{Among}
+use Rattle.mesa_engine_spec.specs.mesa_commit.Filed.{AreFresh}
+use Rattle.mesa_engine_spec.specs.mesa_commit.Holding.{Among}
 use Rattle.mesa_engine_spec.specs.mesa_invariant_spec.Books.{AreBooksOf}
 use Rattle.mesa_check.specs.mesa_catalog.mesa_image_spec.Catalog.{Stock, Catalog, ranges_of}
 use Rattle.mesa_check.specs.mesa_catalog.mesa_image_spec.Contents.{kept_of, table_of}

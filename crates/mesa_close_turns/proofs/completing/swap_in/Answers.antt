@@ -36,7 +36,7 @@ use Rattle.mesa_engine.specs.mesa_metadata.Memory.{Memory}
 use Rattle.mesa_engine.specs.Engine.{IsEngine, Standing, starts_of}
 use Rattle.mesa_engine.proofs.Drafting.{answers_none}
 use Rattle.mesa_tasks.specs.Tasks.{claim_in}
-use Rattle.mesa_publishing.specs.mesa_trash.Holding.{kept}
+use Rattle.mesa_publishing.specs.mesa_commit.Holding.{kept}
 use Rattle.mesa_write_turns.proofs.Loads.{all_tell}
 use Rattle.mesa_write_turns.proofs.Written.{IsWhole, IsWorked}
 use Rattle.mesa_engine.specs.mesa_engine_spec.Written.{written_at}

@@ -1,7 +1,7 @@
 use Rattle.std.proofs.Common.{◌-◌, ◌≡◌, ltb, get_or, sym, subst, ◌∙◌, ap, arith, rules, false}
 use Rattle.std.proofs.lemmas.Bool.Decides.{nat_tests}
 use Rattle.std.proofs.lemmas.List.Sorted.{IsPartitionPoint-from_clause, IsPartitionedBy-ltb}
-use Rattle.mesa_trash.specs.declared.trash.Hold.{Hold}
+use Rattle.mesa_commit.specs.declared.trash.Hold.{Hold}
 use Rattle.mesa_metadata.proofs.Indexed.{none_tells, one_tells}
 use Rattle.mesa_metadata.proofs.index.is_found.Goals as goal
 

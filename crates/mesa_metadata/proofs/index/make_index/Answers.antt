@@ -1,7 +1,7 @@
 use Rattle.std.proofs.Common.{◌≡◌, length, ap, sym, subst, ◌∙◌, rules, arith}
 use Rattle.std.specs.List.Sorted.{IsNonDecreasingBy}
 use Rattle.std.proofs.lemmas.List.Sorted.{IsNonDecreasingBy-from_sort_by_key}
-use Rattle.mesa_trash.specs.declared.trash.Hold.{Hold}
+use Rattle.mesa_commit.specs.declared.trash.Hold.{Hold}
 use Rattle.mesa_metadata.specs.Index.{IsIndexOf}
 use Rattle.mesa_metadata.proofs.Indexed.{index_permuted, written_over}
 use Rattle.mesa_metadata.proofs.index.make_index.Goals as goal

@@ -1,5 +1,5 @@
 use Rattle.std.proofs.Common.{◌<◌, ◌∙◌, length, get_or, refl, subst, arith}
-use Rattle.mesa_trash.specs.declared.trash.Hold.{Hold}
+use Rattle.mesa_commit.specs.declared.trash.Hold.{Hold}
 use Rattle.mesa_metadata.specs.Index.{IsIndexOf}
 use Rattle.mesa_metadata.proofs.Indexed.{max_is, reached, reached_all, reached_index, reached_more}
 use Rattle.mesa_metadata.proofs.index.reach.Goals as goal

@@ -1,6 +1,6 @@
 use Rattle.std.proofs.Common.{◌≡◌, ◌++◌, ◌+◌, ◌-◌, ◌≤◌, length, map, take, vec_len}
 use Rattle.std.specs.Prelude.{vec_capacity}
-use Rattle.mesa_trash.specs.Holding.{dropped_at}
+use Rattle.mesa_commit.specs.Holding.{dropped_at}
 use Rattle.mesa_metadata.proofs.trash.drop_files.Given as goal
 
 abbrev pub invariant-loop-id : goal.invariant-loop-id

@@ -1,5 +1,5 @@
 use Rattle.std.proofs.Common.{◌≡◌, ◌++◌, take}
-use Rattle.mesa_trash.specs.Holding.{freed, ids_of}
+use Rattle.mesa_commit.specs.Holding.{freed, ids_of}
 use Rattle.mesa_metadata.specs.Meaning.{holds_by}
 use Rattle.mesa_metadata.proofs.trash.free_trash.Given as goal
 

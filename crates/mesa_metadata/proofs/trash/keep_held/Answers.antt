@@ -1,6 +1,6 @@
 use Rattle.std.proofs.Common.{rules}
 use Rattle.std.proofs.lemmas.Fn.{filter_same}
-use Rattle.mesa_trash.specs.Holding as spec
+use Rattle.mesa_commit.specs.Holding as spec
 use Rattle.mesa_metadata.specs.Meaning.{holds_by}
 use Rattle.mesa_metadata.proofs.trash.keep_held.Goals as goal
 

@@ -37,7 +37,7 @@ use Rattle.mesa_engine.specs.mesa_metadata.Memory.{Memory}
 use Rattle.mesa_engine.specs.Engine.{IsEngine, Standing, starts_of}
 use Rattle.mesa_engine.proofs.Drafting.{answers_none}
 use Rattle.mesa_tasks.specs.Recasts.{claim_of_recast, recast_in, recast_table}
-use Rattle.mesa_close_turns.specs.mesa_trash.Holding.{kept}
+use Rattle.mesa_close_turns.specs.mesa_commit.Holding.{kept}
 use Rattle.mesa_close_turns.proofs.mesa_write_turns.Loads.{all_tell}
 use Rattle.mesa_close_turns.proofs.mesa_write_turns.Written.{IsWhole, IsWorked}
 use Rattle.mesa_engine.specs.mesa_engine_spec.Written.{written_at}

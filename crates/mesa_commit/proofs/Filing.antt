@@ -2,10 +2,10 @@
 use Rattle.std.proofs.Common.{◌≡◌, ◌⊎◌, inl, inr, ⊎_elim, ℕ, ◌+◌, ◌<◌, ◌≤◌, List, [], ◌∷◌, ◌++◌, map, Bool, true, false, not, ◌||◌, nat_lt, sym, ◌∙◌, ap, subst, arith}
 use Rattle.std.specs.Prelude.{filter}
 use Rattle.std.specs.List.{AllByRecursion}
-use Rattle.mesa_trash.specs.declared.trash.Hold.{Hold}
-use Rattle.mesa_trash.specs.declared.trash.Dropped.{Dropped}
-use Rattle.mesa_trash.specs.Holding.{Among, holds, is_held, ids_of, freed, kept, dropped_at, IsDroppedAfter, IsHoldOf, Held, holds_of, AreFiled, IsHad}
-use Rattle.mesa_trash.proofs.Waiting.{all_so, all_both, all_append, all_filter, among_front, among_back, among_either, after_either, dropped_among, among_dropped, after_dropped, all_dropped, both_true, either_true, right_true, is_less, less_is, two_true, kept_among, among_kept, after_kept, found_in, kept_entry}
+use Rattle.mesa_commit.specs.declared.trash.Hold.{Hold}
+use Rattle.mesa_commit.specs.declared.trash.Dropped.{Dropped}
+use Rattle.mesa_commit.specs.Holding.{Among, holds, is_held, ids_of, freed, kept, dropped_at, IsDroppedAfter, IsHoldOf, Held, holds_of, AreFiled, IsHad}
+use Rattle.mesa_commit.proofs.Waiting.{all_so, all_both, all_append, all_filter, among_front, among_back, among_either, after_either, dropped_among, among_dropped, after_dropped, all_dropped, both_true, either_true, right_true, is_less, less_is, two_true, kept_among, among_kept, after_kept, found_in, kept_entry}
 
 -- it is held by one of these
 held_by : (d : Dropped) (pins : List Held) (P : Held → Type 0) → AllByRecursion P pins → is_held (holds_of pins) d ≡ true → (p : Held) × P p × (holds d p.0 ≡ true) × ((id : ℕ) → Among id p.1 → IsHad id pins)

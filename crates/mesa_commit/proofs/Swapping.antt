@@ -3,14 +3,14 @@ use Rattle.std.proofs.Common.{◌⊎◌, inl, inr, ⊎_elim, ℕ, ◌+◌, ◌<�
 use Rattle.std.specs.Prelude.{filter}
 use Rattle.std.specs.List.{AllByRecursion}
 use Rattle.mesa_commit.specs.mesa_disk.Image.{Image}
-use Rattle.mesa_trash.specs.declared.trash.Hold.{Hold}
-use Rattle.mesa_trash.specs.declared.trash.Dropped.{Dropped}
-use Rattle.mesa_trash.specs.Holding.{Among, is_held, ids_of, freed, kept, dropped_at, Held, AreFiled, IsHoldOf}
+use Rattle.mesa_commit.specs.declared.trash.Hold.{Hold}
+use Rattle.mesa_commit.specs.declared.trash.Dropped.{Dropped}
+use Rattle.mesa_commit.specs.Holding.{Among, is_held, ids_of, freed, kept, dropped_at, Held, AreFiled, IsHoldOf}
 use Rattle.mesa_commit.specs.Images.{Has, ids_of as ids_in}
 use Rattle.mesa_commit.specs.Turn.{MovesOnly, made_ids}
-use Rattle.mesa_trash.specs.Filed.{AreGiven, AreMoved, PinFiles, held_in, FilesAdopted, Renames, TurnsKeepFiles, waits_after, pin_holds}
-use Rattle.mesa_trash.proofs.Filing.{filed_brought, filed_dropped, filed_removed, freed_unheld}
-use Rattle.mesa_trash.proofs.Adopting.{pin_stays, had_apart, fresh_stays, named_stays}
+use Rattle.mesa_commit.specs.Filed.{AreGiven, AreMoved, PinFiles, held_in, FilesAdopted, Renames, TurnsKeepFiles, waits_after, pin_holds}
+use Rattle.mesa_commit.proofs.Filing.{filed_brought, filed_dropped, filed_removed, freed_unheld}
+use Rattle.mesa_commit.proofs.Adopting.{pin_stays, had_apart, fresh_stays, named_stays}
 
 among_left : (id : ℕ) (xs ys : List ℕ) → Among id xs → Among id (xs ++ ys)
 among_left id [] ys is = absurd is

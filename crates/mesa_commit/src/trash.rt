@@ -1,6 +1,6 @@
 ghost use Rattle.std.specs.Prelude.{◌≡◌, IfOk};
-ghost use Rattle.mesa_trash.specs.Holding as spec;
-ghost use Rattle.mesa_trash.specs.Holding.{ids_of};
+ghost use Rattle.mesa_commit.specs.Holding as spec;
+ghost use Rattle.mesa_commit.specs.Holding.{ids_of};
 
 use mesa_file::FileId;
 use std::alloc::{AllocError, Global};

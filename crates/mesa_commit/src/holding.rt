@@ -1,5 +1,5 @@
 // Laws of files that wait.
-ghost use Rattle.mesa_trash.specs.Filed.{FreedFilesAreUnheld, KeptFilesAreHad, TurnsKeepFiles};
+ghost use Rattle.mesa_commit.specs.Filed.{FreedFilesAreUnheld, KeptFilesAreHad, TurnsKeepFiles};
 
 /// A turn that makes files, names them, drops others and removes those that no pin holds keeps FilesAdopted.
 pub fn turns_keep_files()

@@ -1,8 +1,8 @@
 -- Files that wait for removal, and which of them a pin holds.
 use Rattle.std.specs.Prelude.{◌≡◌, ◌⊎◌, ℕ, ◌<◌, ◌≤◌, List, [], ◌∷◌, map, filter, Bool, ◌&&◌, not, nat_lt}
 use Rattle.std.specs.List.{AllByRecursion, list_any}
-use Rattle.mesa_trash.specs.declared.trash.Hold.{Hold}
-use Rattle.mesa_trash.specs.declared.trash.Dropped.{Dropped}
+use Rattle.mesa_commit.specs.declared.trash.Hold.{Hold}
+use Rattle.mesa_commit.specs.declared.trash.Dropped.{Dropped}
 
 -- ---- what the code computes
 

@@ -6,9 +6,9 @@ use Rattle.mesa_commit.specs.mesa_disk.Files.{AreGone}
 use Rattle.mesa_commit.specs.mesa_disk.Story.{Steps}
 use Rattle.mesa_commit.specs.Images.{Has, ids_of as ids_in}
 use Rattle.mesa_commit.specs.Turn.{MovesOnly, made_ids}
-use Rattle.mesa_trash.specs.declared.trash.Hold.{Hold}
-use Rattle.mesa_trash.specs.declared.trash.Dropped.{Dropped}
-use Rattle.mesa_trash.specs.Holding.{Among, Held, IsHad, AreFiled, ids_of, freed, kept, holds_of, dropped_at}
+use Rattle.mesa_commit.specs.declared.trash.Hold.{Hold}
+use Rattle.mesa_commit.specs.declared.trash.Dropped.{Dropped}
+use Rattle.mesa_commit.specs.Holding.{Among, Held, IsHad, AreFiled, ids_of, freed, kept, holds_of, dropped_at}
 
 -- No file of an id from the next one on, and before a last one, is there.
 abbrev pub AreFresh : ℕ → ℕ → Option Image → Type 0

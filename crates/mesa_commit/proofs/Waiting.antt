@@ -3,8 +3,8 @@ use Rattle.std.proofs.Common.{◌≡◌, ◌⊎◌, inl, inr, ⊎_elim, ℕ, ◌
 use Rattle.std.specs.Prelude.{filter}
 use Rattle.std.proofs.lemmas.Bool.Decides.{nat_tests}
 use Rattle.std.specs.List.{AllByRecursion}
-use Rattle.mesa_trash.specs.declared.trash.Dropped.{Dropped}
-use Rattle.mesa_trash.specs.Holding.{Among, ids_of, dropped_at, IsDroppedAfter}
+use Rattle.mesa_commit.specs.declared.trash.Dropped.{Dropped}
+use Rattle.mesa_commit.specs.Holding.{Among, ids_of, dropped_at, IsDroppedAfter}
 
 -- ---- lists
 

@@ -1,5 +1,5 @@
-use Rattle.mesa_trash.proofs.Filing.{freed_unheld, freed_unnamed, kept_had}
-use Rattle.mesa_trash.proofs.laws.holds_tell_files.Goals as goal
+use Rattle.mesa_commit.proofs.Filing.{freed_unheld, freed_unnamed, kept_had}
+use Rattle.mesa_commit.proofs.holding.holds_tell_files.Goals as goal
 
 pub returns : goal.returns
 returns c = record {

@@ -6,8 +6,8 @@ use Rattle.mesa_commit.specs.mesa_disk.Story.{Steps}
 use Rattle.mesa_commit.specs.mesa_disk.Files.{HasOtherIds, IsNoneOf}
 use Rattle.mesa_commit.specs.Images.{Has}
 use Rattle.mesa_commit.specs.Turn.{MovesOnly, made_ids}
-use Rattle.mesa_trash.specs.Holding.{Among}
-use Rattle.mesa_trash.specs.Filed.{AreFresh, AreNamedOrWait, AreGiven, AreMoved}
+use Rattle.mesa_commit.specs.Holding.{Among}
+use Rattle.mesa_commit.specs.Filed.{AreFresh, AreNamedOrWait, AreGiven, AreMoved}
 
 -- an id that was given before isn't among those given now
 pub given_before : (id next next' : ℕ) (made : List (ℕ × Option (List ℕ))) → AreGiven next next' made → id < next → HasOtherIds id made

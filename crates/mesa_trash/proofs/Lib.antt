@@ -1,4 +1,0 @@
-pub mod Waiting
-pub mod Filing
-pub mod Adopting
-pub mod Swapping
