@@ -13,8 +13,8 @@ use Rattle.mesa_schema.specs.Folded.{folded, grouped, regrouped}
 use Rattle.mesa_schema.specs.Laws.{AreFull}
 use Rattle.mesa_schema.specs.Rows.{AreRowsOf}
 use Rattle.mesa_model.specs.mesa_batch.Totals.{abs_total, sum_bound}
-use Rattle.mesa_fold.specs.Bound.{KeepsBound}
-use Rattle.mesa_fold.proofs.Merged.{folds_totals}
+use Rattle.mesa_batch.specs.Bound.{KeepsBound}
+use Rattle.mesa_batch.proofs.Merged.{folds_totals}
 use Rattle.mesa_filter.specs.Query.{are_places}
 use Rattle.mesa_answer.specs.Answering.{KeepsSums, grouped_columns}
 use Rattle.mesa_answer.specs.Gathering.{Wanted, first_groups, rows_behind}

@@ -10,7 +10,7 @@ use Rattle.mesa_schema.specs.Rows.{AreRowsOf}
 use Rattle.mesa_schema.specs.Folded.{folded, regrouped}
 use Rattle.mesa_schema.specs.Laws.{AreFull}
 use Rattle.mesa_schema.specs.Put.{put_row, put_rows}
-use Rattle.mesa_fold.proofs.Sums.{AreFull-put_row}
+use Rattle.mesa_batch.proofs.Sums.{AreFull-put_row}
 use Rattle.mesa_answer.specs.Gathering.{JoinsFirst, Wanted, first_groups, rows_behind}
 use Rattle.mesa_answer.specs.Held.{is_behind}
 use Rattle.mesa_answer.proofs.Firsts.{take-put_row}

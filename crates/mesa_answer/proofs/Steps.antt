@@ -19,8 +19,8 @@ use Rattle.mesa_schema.proofs.Forms.{folds_full}
 use Rattle.mesa_schema.proofs.SameFolds.{puts_one}
 use Rattle.mesa_filter.specs.Query.{are_places}
 use Rattle.mesa_model.specs.Page.{rows_after}
-use Rattle.mesa_fold.specs.Bound.{KeepsBound}
-use Rattle.mesa_fold.proofs.Sums.{AllCombine-at}
+use Rattle.mesa_batch.specs.Bound.{KeepsBound}
+use Rattle.mesa_batch.proofs.Sums.{AllCombine-at}
 use Rattle.mesa_answer.specs.Answering.{KeepsSums}
 use Rattle.mesa_answer.specs.Gathering.{Wanted, first_groups, rows_behind}
 use Rattle.mesa_answer.specs.Held.{is_behind, value_at}

@@ -8,7 +8,7 @@ ghost use Rattle.mesa_answer.specs.Held.{ArePlaced, IsNotBehind, StandsAt, is_ke
 
 use crate::error::GroupError;
 use crate::guesses::Guesses;
-use mesa_fold::{combine_into, combines_all};
+use mesa_batch::{combine_into, combines_all};
 use mesa_list::Items;
 use mesa_schema::{Row, RowList};
 use mesa_value::{Agg, Amount, Values};

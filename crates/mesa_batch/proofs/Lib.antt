@@ -1,3 +1,4 @@
+pub use Rattle.mesa_schema.proofs as mesa_schema
 pub mod Fields
 pub mod Finished
 pub mod Flats
@@ -15,3 +16,9 @@ pub mod RowForms
 pub mod SharedColumns
 pub mod SumColumns
 pub mod Twice
+pub mod Columns
+pub mod Kept
+pub mod Merged
+pub mod Place
+pub mod RecastTotals
+pub mod Sums

@@ -1,3 +1,6 @@
+pub use Rattle.mesa_schema.specs.mesa_key as mesa_key
+pub use Rattle.mesa_schema.specs as mesa_schema
+pub use Rattle.mesa_value.specs as mesa_value
 pub mod Batch
 pub mod Flat
 pub mod Gathered
@@ -9,3 +12,5 @@ pub mod Numbers
 pub mod Reading
 pub mod Shared
 pub mod Totals
+pub mod Bound
+pub mod Put

@@ -1,9 +1,14 @@
 //! Batches: the rows of a load, checked and in order.
+//!
+//! Rows folded by their keys: a batch is put into rows that stand in the order of their keys, or merged with them into new ones.
 #![tactic(auto)]
 
 mod batch;
 mod builder;
+mod contents;
 mod flat;
+mod fold;
+mod folding;
 mod glance;
 mod laws;
 mod loading;
@@ -23,3 +28,6 @@ pub use loading::{LoadRows, RowView};
 pub use recasting::{row_totals, sums_among, totals_recast};
 pub use totals::{OVER_BOUND, fits};
 pub use words::{BatchError, RowWords};
+pub use fold::{combine_into, combines_all, fold_in};
+pub use folding::{folds_totals, totals_outlast};
+pub use contents::merge;

@@ -18,8 +18,8 @@ use Rattle.mesa_schema.proofs.Folds.{folded-folded, rows_of-append}
 use Rattle.mesa_schema.proofs.Lists.{all_drop, all_so}
 use Rattle.mesa_schema.proofs.PresentRows.{present_rise}
 use Rattle.mesa_schema.proofs.RisingRows.{folded_rise}
-use Rattle.mesa_plans.specs.mesa_fold.Bound.{KeepsBound}
-use Rattle.mesa_plans.proofs.mesa_fold.Merged.{folds_totals}
+use Rattle.mesa_plans.specs.mesa_batch.Bound.{KeepsBound}
+use Rattle.mesa_plans.proofs.mesa_batch.Merged.{folds_totals}
 use Rattle.mesa_disk.specs.Image.{Image}
 use Rattle.mesa_delta.specs.Summary.{file_layout}
 use Rattle.mesa_record.specs.declared.record.Files.{Files}

@@ -19,7 +19,7 @@ use Rattle.mesa_schema.specs.Columns.{Columns, aggs_of}
 use Rattle.mesa_schema.specs.Folded.{row_combined, combined_from, folded, rows_of}
 use Rattle.mesa_schema.specs.Rows.{AreRowsOf, IsRowOf, keys_rise}
 use Rattle.mesa_batch.specs.Totals.{abs_total, sum_bound}
-use Rattle.mesa_fold.specs.Bound.{FoldsTotals, KeepsBound}
+use Rattle.mesa_batch.specs.Bound.{FoldsTotals, KeepsBound}
 use Rattle.mesa_block.specs.Rows.{IsRow, Rise}
 use Rattle.mesa_block.specs.Spelling.{key_of}
 use Rattle.mesa_delta.specs.Summary.{all_noted, aggregates, new_layout, values_of, AllCombine}

@@ -14,7 +14,7 @@ use Rattle.mesa_delta.specs.declared.input.Input.{Input}
 use Rattle.mesa_merge.specs.Inputs.{AreAll, Known, known_of, knowns_of, lifted_in}
 use Rattle.mesa_merge.specs.Inputs.{lifted_parts as known_parts}
 use Rattle.mesa_merge.proofs.Ending.{AreFronts, all_told, fronts_same}
-use Rattle.mesa_fold.specs.Bound.{FoldsTotals}
+use Rattle.mesa_batch.specs.Bound.{FoldsTotals}
 use Rattle.mesa_answer.specs.Answering.{KeepsSums}
 use Rattle.mesa_compact.specs.Bounded.{AreBounded}
 use Rattle.mesa_compact.proofs.Following.{folded_bound}

@@ -7,7 +7,7 @@ use Rattle.mesa_schema.specs.Changes.{Lineage, columns_of}
 use Rattle.mesa_schema.specs.Columns.{Columns, aggs_of}
 use Rattle.mesa_schema.specs.Folded.{rows_of}
 use Rattle.mesa_schema.specs.Views.{view_columns}
-use Rattle.mesa_fold.specs.Bound.{KeepsBound}
+use Rattle.mesa_batch.specs.Bound.{KeepsBound}
 use Rattle.mesa_delta.specs.declared.input.Input.{Input}
 use Rattle.mesa_merge.specs.Inputs.{AreTold, Known, knowns_of, lifted_parts}
 use Rattle.mesa_tasks.specs.declared.merging.Task.{Task}

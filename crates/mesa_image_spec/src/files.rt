@@ -11,11 +11,11 @@ ghost use Rattle.mesa_image_spec.specs.Sound.{AreStocked, wants};
 ghost use Rattle.mesa_image_spec.specs.Brought.{Agree};
 ghost use Rattle.mesa_image_spec.specs.Ids.{HasOwnIds, IsNewId, brought_ids, dropped_ids, named, times};
 ghost use Rattle.mesa_image_spec.specs.Sourced.{HasSources};
-ghost use Rattle.mesa_fold.specs.mesa_key.Spelling.{AreBytes};
+ghost use Rattle.mesa_batch.specs.mesa_key.Spelling.{AreBytes};
 ghost use Rattle.mesa_record.specs.declared.record.Record.{Record as RecordOf};
 ghost use Rattle.mesa_record.specs.declared.record.Record.TheVariants as record_of;
 ghost use Rattle.mesa_record.specs.Rules.{keeps_rules};
-ghost use Rattle.mesa_fold.specs.mesa_schema.declared.changes.Change.{Change as ChangeOf};
+ghost use Rattle.mesa_batch.specs.mesa_schema.declared.changes.Change.{Change as ChangeOf};
 ghost use Rattle.std.specs.List.{AllByRecursion};
 ghost use Rattle.std.specs.Prelude.{◌≡◌, ◌+◌, ◌<◌, ℕ, List, Some, true};
 

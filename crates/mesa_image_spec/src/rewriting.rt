@@ -10,9 +10,9 @@ ghost use Rattle.mesa_image_spec.specs.Shape.{IsCatalog};
 ghost use Rattle.mesa_image_spec.specs.Brought.{AreTold, BringsRecast};
 ghost use Rattle.mesa_image_spec.specs.Rewritten.{CountsRange, Covers, IsRewritten, Rewritten, recasting_of};
 ghost use Rattle.mesa_image_spec.specs.Sourced.{HasSources};
-ghost use Rattle.mesa_fold.specs.mesa_key.Spelling.{AreBytes};
-ghost use Rattle.mesa_fold.specs.mesa_schema.Changes.{columns_of};
-ghost use Rattle.mesa_fold.specs.mesa_schema.Recasts.{Recast, recast_checked, recast_columns};
+ghost use Rattle.mesa_batch.specs.mesa_key.Spelling.{AreBytes};
+ghost use Rattle.mesa_batch.specs.mesa_schema.Changes.{columns_of};
+ghost use Rattle.mesa_batch.specs.mesa_schema.Recasts.{Recast, recast_checked, recast_columns};
 ghost use Rattle.std.specs.List.{AllByRecursion};
 ghost use Rattle.std.specs.Prelude.{◌≡◌, ◌<◌, ℕ, List, Ok, Some, length, true};
 

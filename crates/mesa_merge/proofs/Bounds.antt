@@ -11,8 +11,8 @@ use Rattle.mesa_schema.specs.Laws.{AreFull}
 use Rattle.mesa_schema.specs.Rows.{AreRowsOf}
 use Rattle.mesa_batch.specs.Totals.{abs_total, sum_bound}
 use Rattle.mesa_cursor.specs.Cut.{cut, lies_in}
-use Rattle.mesa_fold.specs.Bound.{FoldsTotals, KeepsBound}
-use Rattle.mesa_fold.proofs.Sums.{AllCombine-at}
+use Rattle.mesa_batch.specs.Bound.{FoldsTotals, KeepsBound}
+use Rattle.mesa_batch.proofs.Sums.{AllCombine-at}
 use Rattle.mesa_merge.proofs.Ending.{AreFronts}
 
 abs_at : ℕ → Row → ℕ

@@ -8,7 +8,7 @@ use Rattle.std.specs.declared.cmp.Ordering.TheVariants.{Less, Equal, Greater}
 use Rattle.mesa_key.specs.Order.{byte_cmp}
 use Rattle.mesa_schema.specs.declared.rows.Row.{Row}
 use Rattle.mesa_schema.proofs.PresentRows.{present_rise}
-use Rattle.mesa_fold.proofs.Place.{flipped}
+use Rattle.mesa_batch.proofs.Place.{flipped}
 use Rattle.mesa_delta.specs.declared.input.Input.{Input}
 use Rattle.mesa_cursor.specs.declared.cursor.Cursor.{Cursor}
 use Rattle.mesa_cursor.specs.Cursors.{HasGivenFrom, IsReady, at_hand, lift_by}

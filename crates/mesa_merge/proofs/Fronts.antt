@@ -10,7 +10,7 @@ use Rattle.std.proofs.lemmas.List.{get_or-replicate, length-replicate, length-se
 use Rattle.mesa_key.specs.Order.{byte_cmp, short_key}
 use Rattle.mesa_key.specs.Spelling.{AreBytes}
 use Rattle.mesa_delta.proofs.Shorts.{short_le}
-use Rattle.mesa_fold.proofs.Place.{flipped}
+use Rattle.mesa_batch.proofs.Place.{flipped}
 use Rattle.mesa_schema.specs.declared.rows.Row.{Row}
 use Rattle.mesa_merge.specs.Fronts.{AreFronts, HasFront, IsFront}
 use Rattle.mesa_merge.specs.Hands.{ComesBefore}

@@ -11,7 +11,7 @@ use Rattle.mesa_value.specs.declared.Agg.{Agg}
 use Rattle.mesa_key.specs.Order.{byte_cmp}
 use Rattle.mesa_schema.specs.declared.rows.Row.{Row}
 use Rattle.mesa_schema.specs.Folded.{folded, row_combined, rows_of}
-use Rattle.mesa_fold.proofs.Place.{flipped}
+use Rattle.mesa_batch.proofs.Place.{flipped}
 use Rattle.mesa_schema.specs.Laws.{AreUnder, PutsGiven}
 use Rattle.mesa_merge.specs.Hands.{IsAhead, IsFrom, IsLeastAt}
 use Rattle.mesa_merge.specs.Merging.{AreAbove, AreUpTo, IsStage}

@@ -7,7 +7,7 @@ use Rattle.mesa_schema.specs.declared.rows.Row.{Row}
 use Rattle.mesa_schema.specs.Columns.{Columns, aggs_of}
 use Rattle.mesa_schema.specs.Folded.{folded, rows_of}
 use Rattle.mesa_schema.specs.Rows.{IsRowOf}
-use Rattle.mesa_fold.specs.Bound.{KeepsBound}
+use Rattle.mesa_batch.specs.Bound.{KeepsBound}
 use Rattle.mesa_delta.specs.declared.error.FileError.{FileError}
 use Rattle.mesa_delta.specs.declared.error.FileError.TheVariants.{Damaged, Read}
 use Rattle.mesa_cursor.specs.Cursors.{IsInput}

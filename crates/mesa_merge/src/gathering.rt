@@ -6,7 +6,7 @@ ghost use Rattle.mesa_schema.specs.declared.rows.Row.{Row as AnyRow};
 ghost use Rattle.mesa_schema.specs.Columns.{Columns, aggs_of};
 ghost use Rattle.mesa_schema.specs.Folded.{folded, rows_of};
 ghost use Rattle.mesa_schema.specs.Rows.{IsRowOf};
-ghost use Rattle.mesa_fold.specs.Bound.{KeepsBound};
+ghost use Rattle.mesa_batch.specs.Bound.{KeepsBound};
 ghost use Rattle.mesa_delta.specs.declared.error.FileError.TheVariants as file_error;
 ghost use Rattle.mesa_cursor.specs.Cursors.{IsInput};
 ghost use Rattle.mesa_merge.specs.Damaged.{IsDamageOf};
@@ -24,7 +24,7 @@ use crate::sums::{file_at, is_same, newest_with, sum_fault};
 use mesa_cursor::Cursor;
 use mesa_delta::{FileError, Input};
 use mesa_disk::FileReader;
-use mesa_fold::folds_totals;
+use mesa_batch::folds_totals;
 use mesa_schema::{Row, folds_go_on};
 use mesa_value::Agg;
 

@@ -6,7 +6,7 @@ ghost use Rattle.mesa_schema.specs.Folded.{AllCombine, row_combined};
 ghost use Rattle.mesa_cursor.specs.Cursors.{at_hand};
 
 use mesa_cursor::Cursor;
-use mesa_fold::{combine_into, combines_all};
+use mesa_batch::{combine_into, combines_all};
 use mesa_schema::Row;
 use mesa_value::Agg;
 use std::alloc::AllocError;

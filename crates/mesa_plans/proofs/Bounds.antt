@@ -18,7 +18,7 @@ use Rattle.mesa_schema.specs.declared.views.View.{View}
 use Rattle.mesa_schema.proofs.Lists.{all_found}
 use Rattle.mesa_batch.proofs.NameNumbers.{position-within}
 use Rattle.mesa_batch.specs.Totals.{abs_total, sum_bound}
-use Rattle.mesa_fold.proofs.Merged.{folds_totals}
+use Rattle.mesa_batch.proofs.Merged.{folds_totals}
 use Rattle.mesa_filter.specs.Query.{are_places}
 use Rattle.mesa_query.specs.mesa_answer.Answering.{KeepsSums}
 use Rattle.mesa_query.proofs.mesa_answer.Bounds.{bound_regrouped, full_regrouped}

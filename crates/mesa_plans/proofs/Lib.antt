@@ -1,4 +1,4 @@
-pub use Rattle.mesa_fold.proofs as mesa_fold
+pub use Rattle.mesa_batch.proofs as mesa_batch
 pub use Rattle.mesa_image_spec.proofs as mesa_image_spec
 pub use Rattle.mesa_schema.proofs as mesa_schema
 pub mod Parted

@@ -15,7 +15,7 @@ use Rattle.mesa_schema.specs.declared.columns.ValueColumn.{ValueColumn}
 use Rattle.mesa_schema.specs.declared.rows.Row.{Row}
 use Rattle.mesa_schema.proofs.Lists.{all_found, all_so}
 use Rattle.mesa_batch.specs.Totals.{AreAtMost, abs_total, sum_bound, sum_places}
-use Rattle.mesa_fold.proofs.Merged.{folds_totals}
+use Rattle.mesa_batch.proofs.Merged.{folds_totals}
 use Rattle.mesa_span.specs.Plan.{longest}
 use Rattle.mesa_table.specs.mesa_image_spec.Catalog.{Delta, Ending, Stock, end_in, start_in}
 use Rattle.mesa_table.specs.mesa_image_spec.Contents.{Rows, present}

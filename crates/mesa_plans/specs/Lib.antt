@@ -1,6 +1,6 @@
 pub use Rattle.mesa_delta.specs.mesa_block as mesa_block
 pub use Rattle.mesa_commit.specs as mesa_commit
-pub use Rattle.mesa_fold.specs as mesa_fold
+pub use Rattle.mesa_batch.specs as mesa_batch
 pub use Rattle.mesa_image_spec.specs as mesa_image_spec
 pub use Rattle.mesa_list.specs as mesa_list
 pub use Rattle.mesa_record.specs as mesa_record

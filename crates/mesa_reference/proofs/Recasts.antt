@@ -15,7 +15,7 @@ use Rattle.mesa_schema.specs.Rows.{AreRowsOf}
 use Rattle.mesa_schema.proofs.Recasting.{recast_folds, recast_form}
 use Rattle.mesa_batch.specs.Glance.{Known}
 use Rattle.mesa_batch.specs.Totals.{AreAtMost, abs_totals, chosen_totals, sum_bound, sum_places, sums_in, totals_recast, with_total}
-use Rattle.mesa_fold.proofs.RecastTotals.{totals_count, totals_last}
+use Rattle.mesa_batch.proofs.RecastTotals.{totals_count, totals_last}
 use Rattle.mesa_model.specs.Tables.{table_recast}
 use Rattle.mesa_reference.specs.Found.{known_at, no_known}
 use Rattle.mesa_reference.specs.Kept.{Contents, From, all_shared, contents_in, contents_recast, gone_in, oldest_in, table_in, tables_in, totals_in}

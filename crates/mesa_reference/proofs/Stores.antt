@@ -17,10 +17,10 @@ use Rattle.mesa_batch.specs.Batch.{Placed, rows_for}
 use Rattle.mesa_batch.specs.Gathered.{Batched, rows_at}
 use Rattle.mesa_batch.specs.Glance.{Known}
 use Rattle.mesa_batch.specs.Totals.{AreAtMost, abs_total, abs_totals, over_bound, sum_bound, sum_places, totals_with}
-use Rattle.mesa_fold.specs.Bound.{KeepsBound}
+use Rattle.mesa_batch.specs.Bound.{KeepsBound}
 use Rattle.mesa_schema.proofs.Folds.{folded-folded}
-use Rattle.mesa_fold.proofs.Kept.{put_rows-fold}
-use Rattle.mesa_fold.proofs.Merged.{abs_total-put_rows}
+use Rattle.mesa_batch.proofs.Kept.{put_rows-fold}
+use Rattle.mesa_batch.proofs.Merged.{abs_total-put_rows}
 use Rattle.mesa_model.specs.Load.{bound_checked, bounds_checked, newest_content, tables_loaded}
 use Rattle.mesa_model.specs.Versions.{table_from}
 use Rattle.mesa_model.specs.Warehouse.{Table}

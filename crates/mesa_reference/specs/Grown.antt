@@ -9,8 +9,8 @@ use Rattle.mesa_batch.specs.Batch.{Placed, rows_for}
 use Rattle.mesa_batch.specs.Gathered.{Batched, columns_for, rows_at}
 use Rattle.mesa_batch.specs.Glance.{Known}
 use Rattle.mesa_batch.specs.Totals.{abs_totals, over_bound, totals_with}
-use Rattle.mesa_fold.specs.Bound.{KeepsBound}
-use Rattle.mesa_fold.specs.Put.{IsFold}
+use Rattle.mesa_batch.specs.Bound.{KeepsBound}
+use Rattle.mesa_batch.specs.Put.{IsFold}
 use Rattle.mesa_model.specs.Load.{newest_content}
 use Rattle.mesa_model.specs.Warehouse.{Table}
 use Rattle.mesa_reference.specs.Kept.{Contents, content_in, contents_in, totals_in}

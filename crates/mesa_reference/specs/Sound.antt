@@ -7,7 +7,7 @@ use Rattle.mesa_schema.specs.Rows.{AreRowsOf}
 use Rattle.mesa_schema.specs.Changes.{columns_of}
 use Rattle.mesa_batch.specs.Glance.{Known}
 use Rattle.mesa_batch.specs.Totals.{AreAtMost, abs_totals, sum_bound, sums_in}
-use Rattle.mesa_fold.specs.Put.{IsFold}
+use Rattle.mesa_batch.specs.Put.{IsFold}
 use Rattle.mesa_answer.specs.Answering.{KeepsSums}
 use Rattle.mesa_model.specs.Warehouse.{max_tables, max_versions}
 use Rattle.mesa_reference.specs.Kept.{Contents, From, contents_in, totals_in}

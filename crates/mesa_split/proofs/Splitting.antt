@@ -10,7 +10,7 @@ use Rattle.mesa_schema.specs.Folded.{folded, rows_of}
 use Rattle.mesa_schema.specs.Lineages.{IsLineage}
 use Rattle.mesa_schema.specs.Rows.{AreRowsOf}
 use Rattle.mesa_schema.proofs.PresentRows.{present_form}
-use Rattle.mesa_fold.specs.Bound.{FoldsTotals}
+use Rattle.mesa_batch.specs.Bound.{FoldsTotals}
 use Rattle.mesa_delta.specs.mesa_block.Layout.{Layout}
 use Rattle.mesa_delta.specs.mesa_block.Rows.{IsRow}
 use Rattle.mesa_delta.specs.Indexed.{IsIndexOf}

@@ -12,7 +12,7 @@ use Rattle.mesa_schema.specs.declared.rows.Row.{Row}
 use Rattle.mesa_schema.specs.Columns.{Columns}
 use Rattle.mesa_schema.specs.Rows.{keys_rise}
 use Rattle.mesa_delta.specs.declared.error.FileError.{FileError}
-use Rattle.mesa_fold.specs.mesa_batch.Totals.{abs_total}
+use Rattle.mesa_batch.specs.Totals.{abs_total}
 use Rattle.mesa_answer.specs.Answering.{KeepsSums}
 use Rattle.mesa_compact.specs.Damaged.{LeavesAmong}
 use Rattle.mesa_compact.proofs.Leaving.{among_at, among_before}

@@ -27,7 +27,7 @@ use mesa_answer::Groups;
 use mesa_delta::{FileError, Input};
 use mesa_disk::{Bench, FileReader, Made};
 use mesa_file::FileId;
-use mesa_fold::folds_totals;
+use mesa_batch::folds_totals;
 use mesa_schema::{Evolving, KeyList};
 use mesa_tasks::{CompactError, MadeFile, Spare};
 use std::alloc::Global;

@@ -3,7 +3,7 @@ use Rattle.std.specs.List.{AllByRecursion}
 use Rattle.mesa_schema.specs.declared.rows.Row.{Row}
 use Rattle.mesa_schema.specs.Columns.{Columns, aggs_of}
 use Rattle.mesa_schema.specs.Folded.{folded, rows_of}
-use Rattle.mesa_fold.specs.Bound.{KeepsBound}
+use Rattle.mesa_batch.specs.Bound.{KeepsBound}
 use Rattle.mesa_delta.specs.Writing.{HasTaken, columns_of}
 use Rattle.mesa_tasks.specs.Made.{IsMadeFile}
 use Rattle.mesa_merge.specs.Faults.{faults_of}

@@ -5,7 +5,7 @@ use Rattle.mesa_schema.specs.Folded.{folded, rows_of}
 use Rattle.mesa_file.specs.declared.damage.Damage.{Damage}
 use Rattle.mesa_delta.specs.declared.input.Input.{Input}
 use Rattle.mesa_merge.specs.Faults.{faults_of}
-use Rattle.mesa_fold.specs.Bound.{KeepsBound}
+use Rattle.mesa_batch.specs.Bound.{KeepsBound}
 use Rattle.mesa_tasks.specs.Inputs.{IsMergeOf}
 use Rattle.mesa_tasks.specs.Made.{IsMadeFile}
 use Rattle.mesa_merge.specs.Inputs.{AreAll, AreTold, knowns_of, lifted_parts}

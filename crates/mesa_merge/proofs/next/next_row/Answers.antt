@@ -3,7 +3,7 @@ use Rattle.std.proofs.lemmas.Bool.{and_from}
 use Rattle.std.proofs.lemmas.Result.{err_from_is_err_and}
 use Rattle.mesa_schema.specs.Columns.{aggs_of}
 use Rattle.mesa_schema.specs.Folded.{folded, rows_of}
-use Rattle.mesa_fold.specs.Bound.{KeepsBound}
+use Rattle.mesa_batch.specs.Bound.{KeepsBound}
 use Rattle.mesa_delta.specs.declared.error.FileError.TheVariants.{Memory, Read}
 use Rattle.mesa_cursor.specs.Cut.{is_from, is_under, lies_in}
 use Rattle.mesa_merge.specs.Damaged.{IsBlockOf}

@@ -2,7 +2,7 @@ use Rattle.std.proofs.Common.{◌≡◌, ◌≤◌, ◌∙◌, List, length, sub
 use Rattle.mesa_schema.specs.declared.rows.Row.{Row}
 use Rattle.mesa_schema.specs.Laws.{AreFull}
 use Rattle.mesa_schema.specs.Put.{put_row}
-use Rattle.mesa_fold.proofs.Sums.{full-at}
+use Rattle.mesa_batch.proofs.Sums.{full-at}
 use Rattle.mesa_answer.proofs.Joined.{put_full, put_next, put_short}
 use Rattle.mesa_answer.proofs.held.Held.put_all.Goals as goal
 
