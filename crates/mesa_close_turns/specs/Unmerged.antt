@@ -4,7 +4,7 @@ use Rattle.mesa_lease.specs.Book.{ended}
 use Rattle.mesa_delta.specs.declared.error.FileError.TheVariants as file_error
 use Rattle.mesa_model.specs.declared.replies.Refusal.TheVariants as no
 use Rattle.mesa_model.specs.declared.replies.Reply.TheVariants as reply
-use Rattle.mesa_engine.specs.mesa_output_spec.Output.{IsDamage}
+use Rattle.mesa_engine.specs.mesa_history_spec.Output.{IsDamage}
 use Rattle.mesa_engine.specs.mesa_engine_spec.EngineState.{EngineState}
 use Rattle.mesa_engine.specs.mesa_engine_spec.Turned.{shut_state, leased_state}
 use Rattle.mesa_tasks.specs.Errors.{HasDiffered}

@@ -15,7 +15,7 @@ ghost use Rattle.mesa_engine.specs.mesa_projection_laws.Rows.{no_rows};
 ghost use Rattle.mesa_tasks.specs.Recasts.{IsRecastTask, IsRecasted, IsRecastedSoFar, claim_of_recast, recast_in};
 ghost use Rattle.mesa_tasks.specs.declared.merging.CompactError.TheVariants as compact;
 ghost use Rattle.mesa_tasks.specs.declared.recasting.Recasted.{Recasted as AnyRecasted};
-ghost use Rattle.mesa_engine.specs.mesa_invariant_spec.mesa_output_spec.Output.{block};
+ghost use Rattle.mesa_engine.specs.mesa_invariant_spec.mesa_history_spec.Output.{block};
 ghost use Rattle.mesa_engine.specs.mesa_invariant_spec.Causes.{outcome_of, reply_of, told_at};
 ghost use Rattle.mesa_engine.specs.mesa_invariant_spec.Printing.{IsPut};
 ghost use Rattle.mesa_engine.specs.mesa_invariant_spec.Turns.{AnswersDisk, AnswersDraft, Asks, NoneFell, SomeRose, Takes, entry, is_recast};

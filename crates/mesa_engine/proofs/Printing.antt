@@ -5,7 +5,7 @@ use Rattle.mesa_model.specs.Query.{Heading}
 use Rattle.mesa_model.specs.declared.replies.Page.{Page}
 use Rattle.mesa_model.specs.declared.replies.Reply.TheVariants as reply
 use Rattle.mesa_metadata.specs.mesa_invariant_spec.mesa_history_spec.Run.{Told}
-use Rattle.mesa_metadata.specs.mesa_invariant_spec.mesa_output_spec.Output.{block}
+use Rattle.mesa_metadata.specs.mesa_invariant_spec.mesa_history_spec.Output.{block}
 use Rattle.mesa_print.specs.declared.printer.Printer.{Printer}
 use Rattle.mesa_print.specs.Printed.{Printed}
 use Rattle.mesa_script.specs.Replies.{head_line}

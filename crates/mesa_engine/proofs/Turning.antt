@@ -14,7 +14,7 @@ use Rattle.mesa_metadata.proofs.mesa_catalog.mesa_history_spec.Finding.{all_more
 use Rattle.mesa_metadata.proofs.mesa_catalog.mesa_history_spec.Turns.{turn_goes}
 use Rattle.mesa_metadata.specs.mesa_catalog.mesa_history_spec.Run.{State, Stage, Told, begins, place_of}
 use Rattle.mesa_metadata.specs.mesa_catalog.mesa_history_spec.Turns.{IsDue, place_then}
-use Rattle.mesa_metadata.specs.mesa_engine_spec.mesa_output_spec.Output.{block}
+use Rattle.mesa_metadata.specs.mesa_engine_spec.mesa_history_spec.Output.{block}
 use Rattle.mesa_print.specs.declared.printer.Printer.{Printer}
 use Rattle.mesa_metadata.specs.mesa_engine_spec.mesa_projection_laws.Rows.{Rows, no_rows}
 use Rattle.mesa_metadata.specs.mesa_engine_spec.mesa_invariant_spec.Printing.{IsPut}

@@ -4,7 +4,7 @@ use Rattle.mesa_disk.specs.mesa_io.Causes.{Rose}
 use Rattle.mesa_model.specs.declared.entries.Entry.{Entry}
 use Rattle.mesa_model.specs.declared.replies.Reply.TheVariants as reply
 use Rattle.mesa_metadata.specs.mesa_invariant_spec.mesa_history_spec.Run.{Told}
-use Rattle.mesa_metadata.specs.mesa_invariant_spec.mesa_output_spec.Output.{block}
+use Rattle.mesa_metadata.specs.mesa_invariant_spec.mesa_history_spec.Output.{block}
 use Rattle.mesa_print.specs.declared.printer.Printer.{Printer}
 use Rattle.mesa_script.specs.Replies.{head_line}
 use Rattle.mesa_script.specs.declared.rendered.Rendered.{Rendered}

@@ -5,7 +5,7 @@ use Rattle.mesa_model.specs.declared.entries.Entry.{Entry}
 use Rattle.mesa_model.specs.declared.entries.Kind.TheVariants.{Look, Decide, Close, Grant, Renew}
 use Rattle.mesa_model.specs.declared.entries.Outcome.TheVariants as outcome
 use Rattle.mesa_file.specs.declared.damage.Seen.TheVariants as seen
-use Rattle.mesa_output_spec.specs.Output.{IsDamage}
+use Rattle.mesa_history_spec.specs.Output.{IsDamage}
 use Rattle.mesa_examples.specs.Rows.{broken_rule, ByOutcome, Reading, Writing, Closed, stands, ends}
 use Rattle.mesa_examples.proofs.OnLiterals.{on_literals}
 

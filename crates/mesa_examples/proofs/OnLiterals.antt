@@ -10,7 +10,7 @@ use Rattle.mesa_history_spec.specs.Run.{place_of}
 use Rattle.mesa_history_spec.specs.Replay.{turned, go, runs}
 use Rattle.mesa_history_spec.specs.Legal.{are_fit}
 use Rattle.mesa_history_spec.specs.Law.{carried_in, written_in}
-use Rattle.mesa_output_spec.specs.Output.{block, output}
+use Rattle.mesa_history_spec.specs.Output.{block, output}
 
 unfoldable pub on_literals : ⊤
 unfolding csv_on_literals fields_text is_blank escaped digits is_utf8 chars encode before_zero place_of turned go runs are_fit carried_in written_in block output

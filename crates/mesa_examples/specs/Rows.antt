@@ -11,7 +11,7 @@ use Rattle.mesa_history_spec.specs.Legal.{fits_prologue, is_due, fits_renewal, f
 use Rattle.mesa_history_spec.specs.Alone.{history_alone}
 use Rattle.mesa_script.specs.declared.script.ScriptError.{ScriptError}
 use Rattle.mesa_script.specs.Script.{script_of}
-use Rattle.mesa_output_spec.specs.Output.{output}
+use Rattle.mesa_history_spec.specs.Output.{output}
 
 -- the text of these lines, each with its line feed
 abbrev pub lines : List (List ℕ) → List ℕ

@@ -15,7 +15,7 @@ use Rattle.mesa_model.specs.mesa_file.declared.damage.Damage.{Damage}
 use Rattle.mesa_model.specs.mesa_file.declared.damage.Seen.{Seen}
 use Rattle.mesa_model.specs.mesa_file.declared.damage.Seen.TheVariants as seen
 use Rattle.mesa_model.specs.mesa_filter.Hex.{hex_digit, hex_of}
-use Rattle.mesa_output_spec.specs.Output.{IsBlock, IsBlockAs, IsOutput, block}
+use Rattle.mesa_history_spec.specs.Output.{IsBlock, IsBlockAs, IsOutput, block}
 use Rattle.mesa_script.specs.Replies.{damage_text, reply_text, seen_text}
 use Rattle.mesa_invariant_spec.specs.Printing.{IsBlockButRows, IsOutputButRows}
 use Rattle.mesa_invariant_spec.specs.mesa_projection_laws.Bare.{bare_reply, bare_told}

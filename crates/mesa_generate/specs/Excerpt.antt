@@ -5,7 +5,7 @@ use Rattle.mesa_schema.specs.declared.columns.ValueColumn.{ValueColumn}
 use Rattle.mesa_schema.specs.Changes.{columns_of}
 use Rattle.mesa_schema.specs.Columns.{Columns}
 use Rattle.mesa_model.specs.Warehouse.{Store, Table}
-use Rattle.mesa_output_spec.specs.Output.{IsOutput}
+use Rattle.mesa_history_spec.specs.Output.{IsOutput}
 use Rattle.mesa_history_spec.specs.Run.{Run, State, begins, commands_of}
 use Rattle.mesa_history_spec.specs.Legal.{AllFit}
 use Rattle.mesa_script.specs.Generated.{generated}

@@ -16,3 +16,4 @@ pub mod Going
 pub mod Growing
 pub mod Claiming
 pub mod Claims
+pub mod Printing

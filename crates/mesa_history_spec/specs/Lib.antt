@@ -17,3 +17,4 @@ pub mod Sources
 pub mod Law
 pub mod Counting
 pub mod Claims
+pub mod Output

@@ -23,7 +23,7 @@ use Rattle.mesa_projection_laws.specs.mesa_history_spec.Refused.{is_refusal}
 use Rattle.mesa_projection_laws.specs.mesa_history_spec.Turns.{IsDue}
 use Rattle.mesa_projection_laws.proofs.mesa_history_spec.More.{runs_more}
 use Rattle.mesa_projection_laws.proofs.mesa_history_spec.Turns.{turned_at, goes_to, prologue_after}
-use Rattle.mesa_output_spec.specs.Output.{block}
+use Rattle.mesa_history_spec.specs.Output.{block}
 use Rattle.mesa_projection_laws.specs.Bare.{bare_answer, bare_page, bare_result}
 use Rattle.mesa_projection_laws.proofs.Steps.{query-bare}
 use Rattle.mesa_invariant_spec.specs.Books.{Books}

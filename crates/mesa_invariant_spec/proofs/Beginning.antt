@@ -9,7 +9,7 @@ use Rattle.mesa_projection_laws.specs.mesa_history_spec.Replay.{runs}
 use Rattle.mesa_projection_laws.specs.mesa_history_spec.Legal.{AllFit}
 use Rattle.mesa_projection_laws.specs.mesa_history_spec.Counting.{count_in}
 use Rattle.mesa_projection_laws.specs.mesa_history_spec.Refused.{some_refused}
-use Rattle.mesa_output_spec.specs.Output.{IsOutput}
+use Rattle.mesa_history_spec.specs.Output.{IsOutput}
 use Rattle.mesa_invariant_spec.specs.Books.{Books, AreBooksOf}
 use Rattle.mesa_invariant_spec.specs.Printing.{IsOutputButRows}
 use Rattle.mesa_invariant_spec.specs.Invariant.{Outset, run_of, AllBy, IsAtClock, AllFound, HoldsInvariant, Counts}

@@ -31,7 +31,7 @@ use Rattle.mesa_projection_laws.specs.mesa_history_spec.Refused.{is_refusal}
 use Rattle.mesa_projection_laws.specs.mesa_history_spec.Turns.{IsDue}
 use Rattle.mesa_projection_laws.proofs.mesa_history_spec.More.{kept_after}
 use Rattle.mesa_projection_laws.proofs.mesa_history_spec.Turns.{renewal_at, turned_at}
-use Rattle.mesa_output_spec.specs.Output.{block}
+use Rattle.mesa_history_spec.specs.Output.{block}
 use Rattle.mesa_projection_laws.specs.Bare.{bare_done, bare_result}
 use Rattle.mesa_projection_laws.proofs.Steps.{expire-bare, load-bare, table-bare, view-bare, alter-bare, pin-bare, release-bare}
 use Rattle.mesa_invariant_spec.specs.Books.{Books, AreBooksOf, closed_books, closed_books_if}

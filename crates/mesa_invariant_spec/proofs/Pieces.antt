@@ -6,7 +6,7 @@ use Rattle.mesa_projection_laws.specs.mesa_model.declared.commands.Script.{Scrip
 use Rattle.mesa_projection_laws.specs.mesa_model.declared.entries.Entry.{Entry}
 use Rattle.mesa_projection_laws.specs.mesa_history_spec.Run.{Told, Run}
 use Rattle.mesa_projection_laws.specs.mesa_history_spec.Replay.{told_by, runs, go}
-use Rattle.mesa_output_spec.specs.Output.{IsBlock}
+use Rattle.mesa_history_spec.specs.Output.{IsBlock}
 use Rattle.mesa_invariant_spec.specs.Printing.{HasAllButRows, HasFrontButRows, IsBlockButRows, IsOutputButRows, IsPrintedButRows, IsPut, Prints}
 use Rattle.mesa_invariant_spec.proofs.Printed.{no_block}
 

@@ -20,7 +20,7 @@ use Rattle.mesa_projection_laws.specs.mesa_history_spec.Run.{First}
 use Rattle.mesa_projection_laws.specs.mesa_history_spec.Replay.{stepped}
 use Rattle.mesa_projection_laws.specs.mesa_history_spec.Found.{kept_of}
 use Rattle.mesa_projection_laws.specs.mesa_history_spec.Turns.{IsDue}
-use Rattle.mesa_output_spec.specs.Output.{block}
+use Rattle.mesa_history_spec.specs.Output.{block}
 use Rattle.mesa_projection_laws.specs.Bare.{bare, bare_done, bare_result}
 use Rattle.mesa_projection_laws.proofs.Steps.{pin-bare, release-bare}
 use Rattle.mesa_invariant_spec.specs.Books.{Books, pinned_books, without_pin, released_books}

@@ -10,8 +10,8 @@ use Rattle.mesa_projection_laws.specs.mesa_model.declared.entries.Outcome.TheVar
 use Rattle.mesa_projection_laws.specs.mesa_history_spec.Run.{Told, Run}
 use Rattle.mesa_projection_laws.specs.mesa_history_spec.Replay.{told_by, some_damage, is_skipped, last_of, runs}
 use Rattle.mesa_projection_laws.specs.mesa_history_spec.Legal.{fits_sink}
-use Rattle.mesa_output_spec.specs.Output.{block, IsDamage, IsBlock, IsBlockAs}
-use Rattle.mesa_output_spec.proofs.Printing.{output_more}
+use Rattle.mesa_history_spec.specs.Output.{block, IsDamage, IsBlock, IsBlockAs}
+use Rattle.mesa_history_spec.proofs.Printing.{output_more}
 use Rattle.mesa_invariant_spec.specs.Causes.{Cause, Replies, Unread, Damaged, Unwritten, NoMemory, outcome_of, reply_of, replayed, CanBeTold, told_at}
 use Rattle.mesa_invariant_spec.specs.Printing.{HasAll, HasFront, IsPrinted, IsPut, Prints}
 

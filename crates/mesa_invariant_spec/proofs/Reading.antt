@@ -16,7 +16,7 @@ use Rattle.mesa_projection_laws.specs.mesa_history_spec.Replay.{decided_explain,
 use Rattle.mesa_projection_laws.specs.mesa_history_spec.Legal.{is_written}
 use Rattle.mesa_projection_laws.specs.mesa_history_spec.Refused.{is_refusal}
 use Rattle.mesa_projection_laws.specs.mesa_history_spec.Turns.{IsDue}
-use Rattle.mesa_output_spec.specs.Output.{block}
+use Rattle.mesa_history_spec.specs.Output.{block}
 use Rattle.mesa_projection_laws.proofs.Steps.{explain-bare}
 use Rattle.mesa_invariant_spec.specs.Books.{Books}
 use Rattle.mesa_invariant_spec.specs.Causes.{Cause, Replies, Unread, Damaged, Unwritten, NoMemory, outcome_of, reply_of, told_at}

@@ -21,7 +21,7 @@ use Rattle.mesa_projection_laws.specs.mesa_history_spec.Turns.{IsDue}
 use Rattle.mesa_projection_laws.specs.Bare.{bare, bare_store, bare_table}
 use Rattle.mesa_projection_laws.proofs.Lists.{set_same}
 use Rattle.mesa_projection_laws.proofs.Steps.{table_bare}
-use Rattle.mesa_output_spec.specs.Output.{block}
+use Rattle.mesa_history_spec.specs.Output.{block}
 use Rattle.mesa_invariant_spec.specs.Books.{Books, AreBooksOf, closed_books, ended_books, recast_books}
 use Rattle.mesa_invariant_spec.specs.Causes.{Unwritten, reply_of, told_at}
 use Rattle.mesa_invariant_spec.specs.Printing.{IsPut}

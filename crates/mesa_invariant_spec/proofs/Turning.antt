@@ -19,7 +19,7 @@ use Rattle.mesa_projection_laws.specs.mesa_history_spec.Turns.{IsDue}
 use Rattle.mesa_projection_laws.proofs.mesa_history_spec.More.{position_is}
 use Rattle.mesa_projection_laws.proofs.mesa_history_spec.Refusing.{or-false}
 use Rattle.mesa_projection_laws.proofs.mesa_history_spec.Turns.{MayCome, turned_at, fits_at}
-use Rattle.mesa_output_spec.specs.Output.{block}
+use Rattle.mesa_history_spec.specs.Output.{block}
 use Rattle.mesa_invariant_spec.specs.Books.{Books, AreBooksOf}
 use Rattle.mesa_invariant_spec.specs.Causes.{Cause, Replies, Unread, Damaged, Unwritten, NoMemory, outcome_of, reply_of, replayed, CanBeTold, told_at}
 use Rattle.mesa_invariant_spec.specs.Printing.{IsPut, Puts, Prints}

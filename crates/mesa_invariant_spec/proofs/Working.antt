@@ -37,7 +37,7 @@ use Rattle.mesa_projection_laws.specs.mesa_history_spec.Refused.{is_refusal}
 use Rattle.mesa_projection_laws.specs.mesa_history_spec.Turns.{IsDue, would_print}
 use Rattle.mesa_projection_laws.proofs.mesa_history_spec.More.{kept_after, runs_more}
 use Rattle.mesa_projection_laws.proofs.mesa_history_spec.Turns.{goes_to, prologue_after, turned_at}
-use Rattle.mesa_output_spec.specs.Output.{block}
+use Rattle.mesa_history_spec.specs.Output.{block}
 use Rattle.mesa_projection_laws.proofs.Steps.{asked-bare}
 use Rattle.mesa_invariant_spec.specs.Books.{Books, AreBooksOf, closed_books, closed_books_if, granted_books, renewed_books, ended_books, swapped_books}
 use Rattle.mesa_invariant_spec.specs.Causes.{Cause, Replies, Unread, Damaged, Unwritten, NoMemory, is_read_fault, outcome_of, reply_of, told_at}

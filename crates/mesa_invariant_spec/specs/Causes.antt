@@ -8,7 +8,7 @@ use Rattle.mesa_projection_laws.specs.mesa_model.declared.replies.Reply.{Reply}
 use Rattle.mesa_projection_laws.specs.mesa_model.declared.replies.Reply.TheVariants as reply
 use Rattle.mesa_projection_laws.specs.mesa_history_spec.Run.{Told}
 use Rattle.mesa_projection_laws.specs.mesa_history_spec.Replay.{no_rows, some_damage}
-use Rattle.mesa_output_spec.specs.Output.{IsDamage}
+use Rattle.mesa_history_spec.specs.Output.{IsDamage}
 
 -- The reference warehouse or the range machine answers otherwise; a file couldn't be read, or was damaged; a file or the journal couldn't be written; or there was no memory.
 pub data Cause : Type 0 where

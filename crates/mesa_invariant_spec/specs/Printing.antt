@@ -7,7 +7,7 @@ use Rattle.mesa_projection_laws.specs.mesa_model.declared.entries.Entry.{Entry}
 use Rattle.mesa_projection_laws.specs.mesa_history_spec.Run.{Run, Told}
 use Rattle.mesa_projection_laws.specs.mesa_history_spec.Replay.{told_by, runs, go}
 use Rattle.mesa_projection_laws.specs.Bare.{bare_told}
-use Rattle.mesa_output_spec.specs.Output.{IsBlock, IsOutput}
+use Rattle.mesa_history_spec.specs.Output.{IsBlock, IsOutput}
 
 -- The sink was given the blocks of all these entries.
 pub record HasAll (script : Script) (start : Run) (h : List Entry) (at_start now : Option (List ℕ)) : Type 0 where

@@ -14,7 +14,7 @@ use Rattle.mesa_projection_laws.specs.mesa_history_spec.Run.{State, Stage, Answe
 use Rattle.mesa_projection_laws.specs.mesa_history_spec.Turns.{IsDue}
 use Rattle.mesa_projection_laws.specs.Rows.{Rows}
 use Rattle.mesa_projection_laws.specs.Bare.{bare_page}
-use Rattle.mesa_output_spec.specs.Output.{IsDamage, block}
+use Rattle.mesa_history_spec.specs.Output.{IsDamage, block}
 use Rattle.mesa_invariant_spec.specs.Books.{Books, AreBooksOf}
 use Rattle.mesa_invariant_spec.specs.Causes.{Cause, Replies, Unread, Damaged, Unwritten, NoMemory, is_read_fault, outcome_of, reply_of, told_at}
 use Rattle.mesa_invariant_spec.specs.Invariant.{run_at}

@@ -7,7 +7,7 @@ use Rattle.mesa_projection_laws.specs.mesa_history_spec.Machine.{Claim, claim_me
 use Rattle.mesa_projection_laws.specs.mesa_history_spec.Run.{State, Stage, Granted, Renewed, Finished}
 use Rattle.mesa_projection_laws.specs.mesa_history_spec.Replay.{recasted, with_machine}
 use Rattle.mesa_projection_laws.specs.mesa_history_spec.Found.{Kept, kept_of}
-use Rattle.mesa_output_spec.specs.Output.{IsDamage}
+use Rattle.mesa_history_spec.specs.Output.{IsDamage}
 use Rattle.mesa_invariant_spec.specs.Books.{Books, AreBooksOf, closed_books_if, ended_books}
 use Rattle.mesa_invariant_spec.specs.Causes.{Cause, Replies, Unread, Damaged, Unwritten, NoMemory}
 

@@ -25,7 +25,7 @@ use Rattle.mesa_engine.specs.mesa_history_spec.Machine.{Machine, explained, rang
 use Rattle.mesa_engine.specs.mesa_history_spec.Refused.{is_refusal}
 use Rattle.mesa_engine.specs.mesa_history_spec.Run.{First}
 use Rattle.mesa_engine.specs.mesa_history_spec.Turns.{IsDue}
-use Rattle.mesa_engine.specs.mesa_output_spec.Output.{block}
+use Rattle.mesa_engine.specs.mesa_history_spec.Output.{block}
 use Rattle.mesa_read_turns.specs.Asked.{cause_asked}
 use Rattle.mesa_engine.specs.mesa_projection_laws.Rows.{Rows}
 use Rattle.mesa_rules.specs.mesa_span.Plan.{plan}

@@ -18,7 +18,7 @@ ghost use Rattle.mesa_engine.specs.mesa_metadata.Memory.{with_state};
 ghost use Rattle.mesa_model.specs.declared.commands.Command.TheVariants as command;
 ghost use Rattle.mesa_model.specs.declared.commands.RecastWords.{RecastWords as AnyWords};
 ghost use Rattle.mesa_model.specs.declared.entries.Kind.TheVariants as kind;
-ghost use Rattle.mesa_engine.specs.mesa_output_spec.Output.{block};
+ghost use Rattle.mesa_engine.specs.mesa_history_spec.Output.{block};
 ghost use Rattle.mesa_plans.specs.mesa_schema.Changes.{epoch_of};
 ghost use Rattle.mesa_engine.specs.mesa_projection_laws.Rows.{Rows, no_rows};
 ghost use Rattle.mesa_close_turns.specs.mesa_publishing.Recasts.{HasItsRanges, stock_of_recast};

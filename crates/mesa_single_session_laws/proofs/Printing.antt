@@ -6,7 +6,7 @@ use Rattle.mesa_history_spec.specs.Alone.{history_alone}
 use Rattle.mesa_history_spec.specs.Legal.{IsLegal}
 use Rattle.mesa_history_spec.specs.Replay.{runs}
 use Rattle.mesa_history_spec.specs.Run.{State, begins}
-use Rattle.mesa_output_spec.specs.Output.{IsOutput}
+use Rattle.mesa_history_spec.specs.Output.{IsOutput}
 use Rattle.mesa_single_session_laws.specs.Alone.{AllTurnsStand, AreAlike, IsAlone, output_alone}
 use Rattle.mesa_single_session_laws.proofs.Sessions.{sessions_run_alone}
 use Rattle.mesa_single_session_laws.proofs.Settled.{AllSettled, all_settled, ends_unskipped, none_skipped}

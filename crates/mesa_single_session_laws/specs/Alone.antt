@@ -10,7 +10,7 @@ use Rattle.mesa_history_spec.specs.mesa_model.declared.entries.Outcome.TheVarian
 use Rattle.mesa_history_spec.specs.Alone.{history_alone}
 use Rattle.mesa_history_spec.specs.Legal.{IsLegal}
 use Rattle.mesa_history_spec.specs.Run.{State, begins, commands_of}
-use Rattle.mesa_output_spec.specs.Output.{IsOutput, output}
+use Rattle.mesa_history_spec.specs.Output.{IsOutput, output}
 
 -- At most one session of a script has commands, the prologue included.
 abbrev pub IsAlone : Script → Type 0

@@ -1,2 +1,2 @@
-pub use Rattle.mesa_output_spec.specs as mesa_output_spec
+pub use Rattle.mesa_history_spec.specs as mesa_history_spec
 pub mod Alone

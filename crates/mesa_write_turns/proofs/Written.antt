@@ -30,7 +30,7 @@ use Rattle.mesa_engine.proofs.mesa_engine_spec.mesa_image_spec.Wholes.{fits_shap
 use Rattle.mesa_engine.specs.mesa_engine_spec.mesa_image_spec.Ids.{named}
 use Rattle.mesa_engine.specs.mesa_catalog.Lookups.{generation_of, turns_generation}
 use Rattle.mesa_store.specs.Store.{Writes as IsWritten}
-use Rattle.mesa_engine.specs.mesa_output_spec.Output.{block}
+use Rattle.mesa_engine.specs.mesa_history_spec.Output.{block}
 use Rattle.mesa_engine.specs.mesa_projection_laws.Rows.{Rows}
 use Rattle.mesa_publishing.specs.mesa_commit.Filed.{AreGiven, Renames}
 use Rattle.mesa_engine.specs.mesa_engine_spec.mesa_invariant_spec.Causes.{Unwritten, reply_of, told_at}

@@ -1,5 +1,5 @@
 use Rattle.std.proofs.Common.{sym, subst}
-use Rattle.mesa_engine.specs.mesa_output_spec.Output.{IsSeen}
+use Rattle.mesa_engine.specs.mesa_history_spec.Output.{IsSeen}
 use Rattle.mesa_query_turns.proofs.Digests.{all_bytes}
 use Rattle.mesa_query_turns.proofs.damages.seen_there.Goals as goal
 

@@ -16,7 +16,7 @@ use Rattle.mesa_model.specs.mesa_schema.Changes.{epoch_of}
 use Rattle.mesa_engine.specs.mesa_projection_laws.Rows.{no_rows}
 use Rattle.mesa_tasks.specs.Recasts.{claim_of_recast, recast_in}
 use Rattle.mesa_tasks.specs.declared.merging.CompactError.TheVariants as compact
-use Rattle.mesa_engine.specs.mesa_invariant_spec.mesa_output_spec.Output.{block}
+use Rattle.mesa_engine.specs.mesa_invariant_spec.mesa_history_spec.Output.{block}
 use Rattle.mesa_engine.specs.mesa_invariant_spec.Causes.{outcome_of, reply_of, told_at}
 use Rattle.mesa_engine.specs.mesa_invariant_spec.Printing.{IsPut}
 use Rattle.mesa_engine.specs.mesa_invariant_spec.Turns.{AnswersDisk, AnswersDraft, Asks, SomeRose, entry, is_recast}

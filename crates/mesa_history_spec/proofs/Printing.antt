@@ -10,7 +10,7 @@ use Rattle.mesa_history_spec.specs.mesa_model.declared.entries.Outcome.TheVarian
 use Rattle.mesa_history_spec.specs.mesa_model.declared.replies.Refusal.TheVariants as no
 use Rattle.mesa_history_spec.specs.Run.{Stage, Run, place_of, command_of}
 use Rattle.mesa_history_spec.specs.Replay.{refused_turn, some_damage, turn_of, turn_as, turned, told_by, go, runs}
-use Rattle.mesa_output_spec.specs.Output.{block, retold, IsDamage, IsBlock, IsBlockAs, IsOutput, output}
+use Rattle.mesa_history_spec.specs.Output.{block, retold, IsDamage, IsBlock, IsBlockAs, IsOutput, output}
 
 -- what a history printed, and the block of one entry more
 pub output_more : (script : Script) (r : Run) (h : List Entry) (e : Entry) (text piece : List ℕ)
