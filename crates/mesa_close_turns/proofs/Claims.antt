@@ -22,8 +22,8 @@ use Rattle.mesa_publishing.specs.mesa_history_spec.Run.{Place, Renewed}
 use Rattle.mesa_publishing.specs.mesa_history_spec.Turns.{IsDue}
 use Rattle.mesa_publishing.proofs.mesa_history_spec.Claiming.{held_is_live}
 use Rattle.mesa_engine.specs.mesa_image_spec.Catalog.{no_stock, ranges_of, stock_at}
-use Rattle.mesa_engine.specs.mesa_projection_laws.Bare.{bare_table}
-use Rattle.mesa_engine.specs.mesa_projection_laws.Rows.{no_rows}
+use Rattle.mesa_engine.specs.mesa_history_spec.Bare.{bare_table}
+use Rattle.mesa_engine.specs.mesa_history_spec.Rows.{no_rows}
 use Rattle.mesa_engine.specs.mesa_engine_spec.mesa_invariant_spec.Invariant.{Outset, run_of}
 use Rattle.mesa_engine.proofs.mesa_engine_spec.mesa_invariant_spec.Working.{checked_open}
 use Rattle.mesa_engine.specs.mesa_engine_spec.EngineState.{EngineState, books_of, projection_of}

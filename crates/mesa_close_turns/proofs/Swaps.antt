@@ -43,7 +43,7 @@ use Rattle.mesa_engine.specs.mesa_engine_spec.mesa_image_spec.Sourced.{HasSource
 use Rattle.mesa_engine.specs.mesa_metadata.mesa_catalog.Lookups.{generation_of, turns_generation}
 use Rattle.mesa_store.specs.Store.{Writes as IsWritten}
 use Rattle.mesa_engine.specs.mesa_history_spec.Output.{block}
-use Rattle.mesa_engine.specs.mesa_projection_laws.Rows.{Rows, no_rows}
+use Rattle.mesa_engine.specs.mesa_history_spec.Rows.{Rows, no_rows}
 use Rattle.mesa_publishing.proofs.mesa_commit.Filing.{freed_unnamed}
 use Rattle.mesa_publishing.specs.mesa_commit.Filed.{Renames}
 use Rattle.mesa_publishing.specs.mesa_commit.Holding.{Among, freed, ids_of}

@@ -8,7 +8,7 @@ ghost use Rattle.mesa_engine.specs.mesa_metadata.Memory.{with_state};
 ghost use Rattle.mesa_model.specs.declared.commands.Command.TheVariants as command;
 ghost use Rattle.mesa_model.specs.declared.entries.Kind.TheVariants as kind;
 ghost use Rattle.mesa_engine.specs.mesa_history_spec.Output.{block};
-ghost use Rattle.mesa_engine.specs.mesa_projection_laws.Rows.{Rows, no_rows};
+ghost use Rattle.mesa_engine.specs.mesa_history_spec.Rows.{Rows, no_rows};
 ghost use Rattle.mesa_tasks.specs.GivingBack.{SomeFailed, task_inputs};
 ghost use Rattle.mesa_tasks.specs.declared.merging.CompactError.TheVariants as compact;
 ghost use Rattle.mesa_engine.specs.mesa_engine_spec.mesa_invariant_spec.Causes.{is_read_fault, outcome_of, reply_of, told_at};

@@ -18,7 +18,7 @@ use Rattle.mesa_model.specs.Warehouse.{max_tables}
 use Rattle.mesa_model.specs.mesa_schema.Changes.{Lineage, columns_of}
 use Rattle.mesa_model.specs.mesa_schema.Lineages.{IsLineage}
 use Rattle.mesa_session_laws.specs.Works.{CanBeMerged, known_task}
-use Rattle.mesa_engine.specs.mesa_projection_laws.Rows.{Rows, no_rows}
+use Rattle.mesa_engine.specs.mesa_history_spec.Rows.{Rows, no_rows}
 use Rattle.mesa_session_laws.specs.mesa_publishing.Finished.{HasRange}
 use Rattle.mesa_tasks.specs.Errors.{Differs}
 use Rattle.mesa_tasks.specs.Spares.{HasSpares}

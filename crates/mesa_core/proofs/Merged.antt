@@ -18,7 +18,7 @@ use Rattle.mesa_model.specs.declared.entries.Entry.{Entry}
 use Rattle.mesa_model.specs.mesa_schema.Changes.{Lineage}
 use Rattle.mesa_model.specs.mesa_schema.Lineages.{IsLineage}
 use Rattle.mesa_session_laws.specs.Works.{HasMerged, IsUnmerged, WasGranted, known_task}
-use Rattle.mesa_engine.specs.mesa_projection_laws.Rows.{Rows, no_rows}
+use Rattle.mesa_engine.specs.mesa_history_spec.Rows.{Rows, no_rows}
 use Rattle.mesa_session_laws.specs.mesa_publishing.Finished.{HasRange, IsFinished}
 use Rattle.mesa_session_laws.specs.mesa_publishing.Grown.{GrowsWhereItBegins, HasBecome}
 use Rattle.mesa_tasks.specs.GivingBack.{SomeFailed, task_inputs}

@@ -23,7 +23,7 @@ use Rattle.mesa_model.specs.declared.entries.Entry.{Entry}
 use Rattle.mesa_recast_turns.specs.Rested.{IsLonger}
 use Rattle.mesa_model.specs.mesa_schema.Changes.{Lineage, epoch_of}
 use Rattle.mesa_model.specs.mesa_schema.Lineages.{IsLineage}
-use Rattle.mesa_engine.specs.mesa_projection_laws.Rows.{Rows, no_rows}
+use Rattle.mesa_engine.specs.mesa_history_spec.Rows.{Rows, no_rows}
 use Rattle.mesa_tasks.specs.Recasts.{IsRecastTask, recast_table}
 use Rattle.mesa_tasks.specs.declared.recasting.Recast.{Recast}
 use Rattle.mesa_tasks.specs.declared.recasting.RecastRange.{RecastRange}

@@ -19,9 +19,9 @@ use Rattle.mesa_model.specs.declared.commands.Script.{Script}
 use Rattle.mesa_model.specs.declared.entries.Entry.{Entry}
 use Rattle.mesa_model.specs.Warehouse.{Store, Table, Warehouse, no_table}
 use Rattle.mesa_session_laws.specs.Sight.{tables_known}
-use Rattle.mesa_engine.proofs.mesa_projection_laws.Lists.{at_same}
-use Rattle.mesa_engine.specs.mesa_projection_laws.Bare.{bare_store}
-use Rattle.mesa_engine.specs.mesa_projection_laws.Rows.{Rows, no_rows}
+use Rattle.mesa_engine.proofs.mesa_history_spec.BareLists.{at_same}
+use Rattle.mesa_engine.specs.mesa_history_spec.Bare.{bare_store}
+use Rattle.mesa_engine.specs.mesa_history_spec.Rows.{Rows, no_rows}
 use Rattle.mesa_engine.specs.mesa_invariant_spec.Invariant.{run_of}
 
 -- names and columns hang on no rows

@@ -19,7 +19,7 @@ use Rattle.mesa_session_laws.specs.mesa_publishing.Grown.{HasBecome}
 use Rattle.mesa_recast_turns.specs.Rested.{HasRested}
 use Rattle.mesa_model.specs.mesa_schema.Changes.{columns_of, epoch_of}
 use Rattle.mesa_model.specs.mesa_schema.Lineages.{IsLineage}
-use Rattle.mesa_engine.specs.mesa_projection_laws.Rows.{Rows, no_rows}
+use Rattle.mesa_engine.specs.mesa_history_spec.Rows.{Rows, no_rows}
 use Rattle.mesa_recast_turns.specs.mesa_close_turns.mesa_query_turns.Opening.{IsHeaded}
 use Rattle.mesa_recast_turns.specs.mesa_close_turns.mesa_plans.Told.{TellAnswer}
 use Rattle.mesa_session_laws.specs.Pins.{KnownPin}

@@ -7,7 +7,7 @@ use Rattle.mesa_model.specs.declared.commands.Script.{Script}
 use Rattle.mesa_model.specs.declared.entries.Entry.{Entry}
 use Rattle.mesa_model.specs.mesa_schema.Lineages.{IsLineage}
 use Rattle.mesa_session_laws.specs.Sight.{sight_after}
-use Rattle.mesa_engine.specs.mesa_projection_laws.Rows.{Rows, no_rows}
+use Rattle.mesa_engine.specs.mesa_history_spec.Rows.{Rows, no_rows}
 use Rattle.mesa_engine.specs.mesa_invariant_spec.Invariant.{run_at}
 
 -- A catalogue is that of a history, for a run that began with a generation: a load sees of it what the history says; it has as many versions, whatever rows the files had when the run began; and each table's columns and views followed the rules.

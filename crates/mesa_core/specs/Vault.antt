@@ -3,7 +3,7 @@ use Rattle.std.specs.Prelude.{◌≡◌, ℕ, List, Option, Some}
 use Rattle.mesa_disk.specs.Image.{Image}
 use Rattle.mesa_engine.specs.mesa_engine_spec.EngineState.{EngineState}
 use Rattle.mesa_model.specs.declared.commands.Script.{Script}
-use Rattle.mesa_engine.specs.mesa_projection_laws.Rows.{Rows}
+use Rattle.mesa_engine.specs.mesa_history_spec.Rows.{Rows}
 use Rattle.mesa_engine.specs.mesa_invariant_spec.Turns.{Faults, Shown}
 
 -- What a caller sees of a vault between turns, and the run's number; and, by which it is said what becomes of files, the state, and what a read of the disk gives, where that is told; both counts of the disk's faults, and what the sink has been given, where that is known.

@@ -4,7 +4,7 @@ ghost use Rattle.mesa_recast_turns.specs.mesa_close_turns.mesa_write_turns.Writi
 ghost use Rattle.mesa_disk.specs.Story.{Steps};
 ghost use Rattle.mesa_session_laws.specs.mesa_history_spec.Run.{Finished, First};
 ghost use Rattle.mesa_model.specs.declared.entries.Kind.TheVariants as kind;
-ghost use Rattle.mesa_engine.specs.mesa_projection_laws.Rows.{no_rows};
+ghost use Rattle.mesa_engine.specs.mesa_history_spec.Rows.{no_rows};
 ghost use Rattle.mesa_engine.specs.mesa_invariant_spec.Turns.{AnswersDisk, Asks, SomeRose, Takes, is_simple};
 ghost use Rattle.mesa_engine.specs.mesa_invariant_spec.Invariant.{run_at};
 

@@ -7,7 +7,7 @@ ghost use Rattle.mesa_session_laws.specs.mesa_history_spec.Run.{Finished, First,
 ghost use Rattle.mesa_model.specs.declared.commands.Command.TheVariants as command;
 ghost use Rattle.mesa_model.specs.declared.entries.Kind.TheVariants as kind;
 ghost use Rattle.mesa_session_laws.specs.Sight.{sight_after};
-ghost use Rattle.mesa_engine.specs.mesa_projection_laws.Rows.{no_rows};
+ghost use Rattle.mesa_engine.specs.mesa_history_spec.Rows.{no_rows};
 ghost use Rattle.mesa_tasks.specs.Batches.{HasPrepared};
 ghost use Rattle.mesa_tasks.specs.declared.prepared.LoadError.TheVariants as load;
 ghost use Rattle.mesa_engine.specs.mesa_invariant_spec.Turns.{AnswersDisk, AnswersDraft, Asks, SomeRose, Takes, is_load};

@@ -9,7 +9,7 @@ ghost use Rattle.mesa_session_laws.specs.mesa_history_spec.Run.{Finished, First,
 ghost use Rattle.mesa_model.specs.declared.commands.Command.TheVariants as command;
 ghost use Rattle.mesa_model.specs.declared.entries.Kind.TheVariants as kind;
 ghost use Rattle.mesa_session_laws.specs.Pins.{HasAnswered, IsOpenQuery, TakesQuery, known_pin};
-ghost use Rattle.mesa_engine.specs.mesa_projection_laws.Rows.{no_rows};
+ghost use Rattle.mesa_engine.specs.mesa_history_spec.Rows.{no_rows};
 ghost use Rattle.mesa_engine.specs.mesa_invariant_spec.Printing.{IsPut};
 ghost use Rattle.mesa_engine.specs.mesa_invariant_spec.Turns.{AnswersDisk, Asks, SomeRose, Takes};
 ghost use Rattle.mesa_engine.specs.mesa_invariant_spec.Invariant.{run_at};

@@ -11,7 +11,7 @@ ghost use Rattle.mesa_session_laws.specs.mesa_history_spec.Machine.{still_checke
 ghost use Rattle.mesa_session_laws.specs.mesa_history_spec.Run.{Finished, First, Granted, Renewed};
 ghost use Rattle.mesa_model.specs.declared.entries.Kind.TheVariants as kind;
 ghost use Rattle.mesa_recast_turns.specs.Rested.{HasUnpaid, IsLonger, MayRest};
-ghost use Rattle.mesa_engine.specs.mesa_projection_laws.Rows.{no_rows};
+ghost use Rattle.mesa_engine.specs.mesa_history_spec.Rows.{no_rows};
 ghost use Rattle.mesa_tasks.specs.Recasts.{IsRecastTask, IsRecasted, IsRecastedSoFar, claim_of_recast, recast_in};
 ghost use Rattle.mesa_tasks.specs.declared.merging.CompactError.TheVariants as compact;
 ghost use Rattle.mesa_tasks.specs.declared.recasting.Recasted.{Recasted as AnyRecasted};

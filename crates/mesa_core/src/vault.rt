@@ -3,7 +3,7 @@ ghost use Rattle.std.specs.Prelude.{◌≡◌, ◌<◌, ◌^◌, IfOk};
 ghost use Rattle.mesa_session_laws.specs.mesa_history_spec.Refused.{some_refused};
 ghost use Rattle.mesa_session_laws.specs.mesa_history_spec.Run.{begins};
 ghost use Rattle.mesa_session_laws.specs.Sight.{sight_after};
-ghost use Rattle.mesa_engine.specs.mesa_projection_laws.Rows.{Rows, no_rows};
+ghost use Rattle.mesa_engine.specs.mesa_history_spec.Rows.{Rows, no_rows};
 ghost use Rattle.mesa_engine.specs.mesa_invariant_spec.Turns.{IsSeen};
 
 use crate::standing::{catalogue, standing};

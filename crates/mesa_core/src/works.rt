@@ -6,7 +6,7 @@ ghost use Rattle.mesa_core.specs.Handing.{IsGranted};
 ghost use Rattle.mesa_session_laws.specs.mesa_history_spec.Run.{Finished, First, Granted, Renewed};
 ghost use Rattle.mesa_model.specs.declared.entries.Kind.TheVariants as kind;
 ghost use Rattle.mesa_session_laws.specs.Works.{CanBeMerged, HasMerged, WasGranted, known_task};
-ghost use Rattle.mesa_engine.specs.mesa_projection_laws.Rows.{no_rows};
+ghost use Rattle.mesa_engine.specs.mesa_history_spec.Rows.{no_rows};
 ghost use Rattle.mesa_engine.specs.mesa_invariant_spec.mesa_history_spec.Output.{block};
 ghost use Rattle.mesa_tasks.specs.Tasks.{claim_in};
 ghost use Rattle.mesa_tasks.specs.declared.merging.CompactError.TheVariants as compact;

@@ -4,7 +4,7 @@ use Rattle.mesa_disk.specs.Story.{Story}
 use Rattle.mesa_disk.specs.declared.area.Area.{Area}
 use Rattle.mesa_metadata.specs.mesa_catalog.mesa_image_spec.Catalog.{Catalog}
 use Rattle.mesa_metadata.specs.mesa_lease.Book.{Book}
-use Rattle.mesa_metadata.specs.mesa_engine_spec.mesa_projection_laws.Rows.{Rows}
+use Rattle.mesa_metadata.specs.mesa_engine_spec.mesa_history_spec.Rows.{Rows}
 use Rattle.mesa_metadata.specs.mesa_engine_spec.mesa_invariant_spec.Books.{AreBooksOf}
 use Rattle.mesa_metadata.proofs.mesa_engine_spec.mesa_invariant_spec.Beginning.{started}
 use Rattle.mesa_metadata.specs.mesa_engine_spec.EngineState.{books_of}

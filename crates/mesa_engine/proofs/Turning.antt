@@ -16,7 +16,7 @@ use Rattle.mesa_metadata.specs.mesa_catalog.mesa_history_spec.Run.{State, Stage,
 use Rattle.mesa_metadata.specs.mesa_catalog.mesa_history_spec.Turns.{IsDue, place_then}
 use Rattle.mesa_metadata.specs.mesa_engine_spec.mesa_history_spec.Output.{block}
 use Rattle.mesa_print.specs.declared.printer.Printer.{Printer}
-use Rattle.mesa_metadata.specs.mesa_engine_spec.mesa_projection_laws.Rows.{Rows, no_rows}
+use Rattle.mesa_metadata.specs.mesa_engine_spec.mesa_history_spec.Rows.{Rows, no_rows}
 use Rattle.mesa_metadata.specs.mesa_engine_spec.mesa_invariant_spec.Printing.{IsPut}
 use Rattle.mesa_metadata.specs.mesa_engine_spec.mesa_invariant_spec.Turns.{Shown, IsSeen, Takes, entry}
 use Rattle.mesa_metadata.specs.mesa_engine_spec.mesa_invariant_spec.Undamaged.{NoneDamaged, is_damaged}

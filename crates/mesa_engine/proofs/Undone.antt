@@ -21,7 +21,7 @@ use Rattle.mesa_model.specs.Pins.{make_pin, release_pin}
 use Rattle.mesa_model.specs.Tables.{alter_table, make_table, make_view}
 use Rattle.mesa_model.specs.Versions.{expire_to}
 use Rattle.mesa_metadata.specs.mesa_engine_spec.mesa_history_spec.Output.{block}
-use Rattle.mesa_metadata.specs.mesa_engine_spec.mesa_projection_laws.Rows.{Rows}
+use Rattle.mesa_metadata.specs.mesa_engine_spec.mesa_history_spec.Rows.{Rows}
 use Rattle.mesa_metadata.specs.mesa_engine_spec.mesa_invariant_spec.Books.{Books}
 use Rattle.mesa_metadata.specs.mesa_engine_spec.mesa_invariant_spec.Causes.{Cause, Replies, Unread, Damaged, Unwritten, NoMemory, outcome_of, reply_of, told_at, is_read_fault}
 use Rattle.mesa_metadata.specs.mesa_engine_spec.mesa_invariant_spec.Changes.{Doing, IsDecided, HasFailed, HasNoPlan, failed_books}

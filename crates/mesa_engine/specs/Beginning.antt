@@ -13,7 +13,7 @@ use Rattle.mesa_metadata.specs.mesa_engine_spec.mesa_image_spec.Countable.{AreCo
 use Rattle.mesa_metadata.specs.mesa_engine_spec.mesa_image_spec.Ids.{HasOwnIds, named}
 use Rattle.mesa_metadata.specs.mesa_engine_spec.mesa_image_spec.Recordable.{AreRecordable}
 use Rattle.mesa_metadata.specs.mesa_engine_spec.mesa_image_spec.Sourced.{HasSources}
-use Rattle.mesa_metadata.specs.mesa_engine_spec.mesa_projection_laws.Rows.{Rows}
+use Rattle.mesa_metadata.specs.mesa_engine_spec.mesa_history_spec.Rows.{Rows}
 use Rattle.mesa_metadata.specs.mesa_engine_spec.mesa_commit.Holding.{Among}
 use Rattle.mesa_metadata.specs.mesa_engine_spec.mesa_invariant_spec.Books.{AreBooksOf}
 use Rattle.mesa_metadata.specs.mesa_engine_spec.mesa_invariant_spec.Invariant.{AllFound}

@@ -6,7 +6,7 @@ use Rattle.mesa_disk.specs.Image.{Image}
 use Rattle.mesa_disk.specs.Story.{Story}
 use Rattle.mesa_model.specs.declared.commands.Script.{Script}
 use Rattle.mesa_metadata.specs.mesa_catalog.mesa_history_spec.Run.{State}
-use Rattle.mesa_metadata.specs.mesa_engine_spec.mesa_projection_laws.Rows.{Rows}
+use Rattle.mesa_metadata.specs.mesa_engine_spec.mesa_history_spec.Rows.{Rows}
 use Rattle.mesa_metadata.specs.mesa_engine_spec.mesa_invariant_spec.Turns.{Faults, Shown}
 use Rattle.mesa_metadata.specs.mesa_engine_spec.mesa_invariant_spec.Undamaged.{NoneDamaged}
 use Rattle.mesa_engine.specs.declared.log.Log.{Log}

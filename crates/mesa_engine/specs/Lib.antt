@@ -4,7 +4,6 @@ pub use Rattle.mesa_metadata.specs.mesa_invariant_spec.mesa_history_spec as mesa
 pub use Rattle.mesa_metadata.specs.mesa_image_spec as mesa_image_spec
 pub use Rattle.mesa_metadata.specs.mesa_invariant_spec as mesa_invariant_spec
 pub use Rattle.mesa_metadata.specs as mesa_metadata
-pub use Rattle.mesa_metadata.specs.mesa_invariant_spec.mesa_projection_laws as mesa_projection_laws
 pub use Rattle.mesa_script.specs as mesa_script
 pub use Rattle.mesa_metadata.specs.mesa_commit as mesa_commit
 pub mod Failure

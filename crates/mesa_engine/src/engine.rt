@@ -4,7 +4,7 @@ ghost use Rattle.mesa_batch.specs.Glance.{tables_of};
 ghost use Rattle.mesa_metadata.specs.mesa_catalog.Lookups.{sight_of};
 ghost use Rattle.mesa_metadata.specs.mesa_catalog.mesa_history_spec.Refused.{some_refused};
 ghost use Rattle.mesa_metadata.specs.mesa_catalog.mesa_history_spec.Run.{begins};
-ghost use Rattle.mesa_metadata.specs.mesa_engine_spec.mesa_projection_laws.Rows.{Rows, no_rows};
+ghost use Rattle.mesa_metadata.specs.mesa_engine_spec.mesa_history_spec.Rows.{Rows, no_rows};
 ghost use Rattle.mesa_metadata.specs.mesa_engine_spec.mesa_invariant_spec.Sight.{schema_changes, tables_seen};
 ghost use Rattle.mesa_metadata.specs.mesa_engine_spec.mesa_invariant_spec.Invariant.{run_at};
 

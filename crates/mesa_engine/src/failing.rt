@@ -4,7 +4,7 @@ ghost use Rattle.mesa_engine.specs.Failing.{Comes, Fails};
 ghost use Rattle.mesa_metadata.specs.mesa_catalog.mesa_history_spec.Run.{Finished, Stage};
 ghost use Rattle.mesa_metadata.specs.mesa_engine_spec.EngineState.{books_of};
 ghost use Rattle.mesa_engine.specs.Failure.{cause_in};
-ghost use Rattle.mesa_metadata.specs.mesa_engine_spec.mesa_projection_laws.Rows.{Rows, no_rows};
+ghost use Rattle.mesa_metadata.specs.mesa_engine_spec.mesa_history_spec.Rows.{Rows, no_rows};
 ghost use Rattle.mesa_metadata.specs.mesa_engine_spec.mesa_invariant_spec.Turns.{AnswersDisk, AnswersDraft, Takes};
 ghost use Rattle.mesa_metadata.specs.mesa_engine_spec.mesa_invariant_spec.Invariant.{run_at};
 

@@ -9,7 +9,7 @@ ghost use Rattle.mesa_metadata.specs.mesa_catalog.mesa_history_spec.Legal.{AllFi
 ghost use Rattle.mesa_metadata.specs.mesa_catalog.mesa_history_spec.Run.{begins};
 ghost use Rattle.mesa_metadata.specs.mesa_engine_spec.Vault.{outset_of};
 ghost use Rattle.mesa_metadata.specs.Memory.{opened_state};
-ghost use Rattle.mesa_metadata.specs.mesa_engine_spec.mesa_projection_laws.Rows.{Rows};
+ghost use Rattle.mesa_metadata.specs.mesa_engine_spec.mesa_history_spec.Rows.{Rows};
 ghost use Rattle.mesa_metadata.specs.mesa_engine_spec.mesa_invariant_spec.Printing.{IsPrinted, IsPrintedButRows};
 ghost use Rattle.mesa_metadata.specs.mesa_engine_spec.mesa_invariant_spec.Turns.{faults_of};
 ghost use Rattle.mesa_metadata.specs.mesa_engine_spec.mesa_invariant_spec.Undamaged.{NoneDamaged};

@@ -8,7 +8,7 @@ use Rattle.mesa_image_spec.specs.Contents.{kept_of}
 use Rattle.mesa_image_spec.specs.Fitting.{shelved}
 use Rattle.mesa_image_spec.proofs.Agreeing.{Agrees, agree_kept}
 use Rattle.mesa_image_spec.specs.Ids.{named}
-use Rattle.mesa_invariant_spec.specs.mesa_projection_laws.Rows.{Rows}
+use Rattle.mesa_invariant_spec.specs.mesa_history_spec.Rows.{Rows}
 use Rattle.mesa_commit.specs.Holding.{Held, IsHoldOf}
 use Rattle.mesa_invariant_spec.specs.Invariant.{Outset}
 use Rattle.mesa_engine_spec.specs.EngineState.{HeldPin, EngineState, held_with, next_id, Holder, holders, ids_held}

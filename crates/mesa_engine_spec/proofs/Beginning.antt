@@ -13,7 +13,7 @@ use Rattle.mesa_image_spec.specs.Held.{IsHeld}
 use Rattle.mesa_image_spec.specs.Shape.{IsCatalog}
 use Rattle.mesa_image_spec.specs.Sound.{AreStocked}
 use Rattle.mesa_image_spec.specs.Ids.{HasOwnIds, named}
-use Rattle.mesa_invariant_spec.specs.mesa_projection_laws.Rows.{Rows, no_rows}
+use Rattle.mesa_invariant_spec.specs.mesa_history_spec.Rows.{Rows, no_rows}
 use Rattle.mesa_commit.specs.Holding.{Among}
 use Rattle.mesa_commit.proofs.Filing.{filed_first}
 use Rattle.mesa_invariant_spec.specs.Turns.{IsSeen}

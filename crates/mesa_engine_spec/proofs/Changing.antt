@@ -44,10 +44,10 @@ use Rattle.mesa_image_spec.proofs.Views.{ranges_same, view_moves}
 use Rattle.mesa_image_spec.specs.Brought.{BringsAll}
 use Rattle.mesa_image_spec.specs.Moves.{kept_altered, kept_expired, kept_expired_of, kept_loaded, kept_made, kept_viewed}
 use Rattle.mesa_image_spec.specs.Sourced.{tables_read}
-use Rattle.mesa_invariant_spec.proofs.mesa_projection_laws.Lists.{append_same, at_same, set_same}
-use Rattle.mesa_invariant_spec.proofs.mesa_projection_laws.Steps.{alter-bare, expire-bare, load-bare, number_bare, table-bare, view-bare}
-use Rattle.mesa_invariant_spec.specs.mesa_projection_laws.Bare.{bare, bare_table}
-use Rattle.mesa_invariant_spec.specs.mesa_projection_laws.Rows.{Rows}
+use Rattle.mesa_invariant_spec.proofs.mesa_history_spec.BareLists.{append_same, at_same, set_same}
+use Rattle.mesa_invariant_spec.proofs.mesa_history_spec.BareSteps.{alter-bare, expire-bare, load-bare, number_bare, table-bare, view-bare}
+use Rattle.mesa_invariant_spec.specs.mesa_history_spec.Bare.{bare, bare_table}
+use Rattle.mesa_invariant_spec.specs.mesa_history_spec.Rows.{Rows}
 use Rattle.mesa_invariant_spec.specs.Books.{Books, AreBooksOf}
 use Rattle.mesa_invariant_spec.specs.Changes.{IsChange}
 use Rattle.mesa_invariant_spec.specs.Invariant.{Outset}

@@ -12,7 +12,7 @@ use Rattle.mesa_image_spec.specs.Fitting.{Shelved, shelved, shelved_id}
 use Rattle.mesa_image_spec.specs.Sound.{wants}
 use Rattle.mesa_image_spec.proofs.Agreeing.{Agrees, agree_wants}
 use Rattle.mesa_image_spec.specs.Ids.{named}
-use Rattle.mesa_invariant_spec.specs.mesa_projection_laws.Rows.{Rows}
+use Rattle.mesa_invariant_spec.specs.mesa_history_spec.Rows.{Rows}
 use Rattle.mesa_commit.specs.declared.trash.Hold.{Hold}
 use Rattle.mesa_commit.specs.declared.trash.Dropped.{Dropped}
 use Rattle.mesa_commit.specs.Filed.{AreGiven, Renames, waits_after}

@@ -10,7 +10,7 @@ use Rattle.mesa_image_spec.specs.Fitting.{shelved}
 use Rattle.mesa_image_spec.specs.Shape.{IsCatalog}
 use Rattle.mesa_image_spec.specs.Sound.{AreStocked, wants}
 use Rattle.mesa_image_spec.specs.Ids.{named}
-use Rattle.mesa_invariant_spec.specs.mesa_projection_laws.Rows.{Rows}
+use Rattle.mesa_invariant_spec.specs.mesa_history_spec.Rows.{Rows}
 use Rattle.mesa_commit.specs.declared.trash.Hold.{Hold}
 use Rattle.mesa_commit.specs.Filed.{PinFiles}
 use Rattle.mesa_commit.specs.Holding.{Held, IsHoldOf, AreFiled}

@@ -18,8 +18,8 @@ use Rattle.mesa_image_spec.specs.Catalog.{Catalog, Ending, Stock, applied, base_
 use Rattle.mesa_image_spec.specs.Contents.{kept_of}
 use Rattle.mesa_image_spec.specs.Moves.{Moves, kept_recast}
 use Rattle.mesa_image_spec.specs.Rewritten.{Rewritten, base_rewritten, recasting_of}
-use Rattle.mesa_invariant_spec.proofs.mesa_projection_laws.Lists.{set_same}
-use Rattle.mesa_invariant_spec.specs.mesa_projection_laws.Rows.{Rows}
+use Rattle.mesa_invariant_spec.proofs.mesa_history_spec.BareLists.{set_same}
+use Rattle.mesa_invariant_spec.specs.mesa_history_spec.Rows.{Rows}
 use Rattle.mesa_invariant_spec.specs.Books.{Books, recast_books}
 use Rattle.mesa_invariant_spec.specs.Invariant.{Outset}
 use Rattle.mesa_invariant_spec.specs.Works.{Regroups}

@@ -17,7 +17,7 @@ use Rattle.mesa_image_spec.specs.Held.{IsHeld}
 use Rattle.mesa_image_spec.specs.Sound.{AreStocked}
 use Rattle.mesa_image_spec.proofs.Agreeing.{agree_stocked}
 use Rattle.mesa_image_spec.specs.Ids.{named}
-use Rattle.mesa_invariant_spec.specs.mesa_projection_laws.Rows.{Rows}
+use Rattle.mesa_invariant_spec.specs.mesa_history_spec.Rows.{Rows}
 use Rattle.mesa_commit.specs.Filed.{AreFresh, AreMoved, PinFiles, Renames}
 use Rattle.mesa_commit.specs.declared.trash.Dropped.{Dropped}
 use Rattle.mesa_commit.specs.Holding.{Among, Held, AreFiled, IsHoldOf, ids_of, freed, kept}

@@ -25,7 +25,7 @@ use Rattle.mesa_image_spec.proofs.Accepted.{read_accepted}
 use Rattle.mesa_image_spec.proofs.AllSourced.{agree_sourced, publish_sourced}
 use Rattle.mesa_image_spec.specs.Brought.{BringsAll}
 use Rattle.mesa_image_spec.specs.Sourced.{HasSources, tables_read, written_behind}
-use Rattle.mesa_invariant_spec.specs.mesa_projection_laws.Rows.{Rows}
+use Rattle.mesa_invariant_spec.specs.mesa_history_spec.Rows.{Rows}
 use Rattle.mesa_invariant_spec.specs.Causes.{told_at}
 use Rattle.mesa_invariant_spec.specs.Invariant.{Outset, run_of}
 use Rattle.mesa_invariant_spec.proofs.Projections.{named_is}

@@ -9,7 +9,7 @@ use Rattle.mesa_image_spec.specs.Contents.{kept_of}
 use Rattle.mesa_image_spec.specs.Fitting.{shelved}
 use Rattle.mesa_image_spec.specs.Held.{IsHeld}
 use Rattle.mesa_image_spec.specs.Sound.{StandsFor, wants}
-use Rattle.mesa_invariant_spec.specs.mesa_projection_laws.Rows.{Rows}
+use Rattle.mesa_invariant_spec.specs.mesa_history_spec.Rows.{Rows}
 use Rattle.mesa_invariant_spec.specs.Invariant.{AllStand}
 use Rattle.mesa_engine_spec.specs.EngineState.{EngineState}
 use Rattle.mesa_engine_spec.specs.Vault.{IsReady, AreThere}

@@ -19,8 +19,8 @@ use Rattle.mesa_image_spec.specs.Contents.{kept_of}
 use Rattle.mesa_image_spec.proofs.Kept.{IsWithin, ranges_swapped, set_same as set_back, swap_moves}
 use Rattle.mesa_image_spec.specs.Brought.{Replaces, merged_of}
 use Rattle.mesa_image_spec.specs.Moves.{kept_swapped, work_of}
-use Rattle.mesa_invariant_spec.proofs.mesa_projection_laws.Lists.{set_same}
-use Rattle.mesa_invariant_spec.specs.mesa_projection_laws.Rows.{Rows}
+use Rattle.mesa_invariant_spec.proofs.mesa_history_spec.BareLists.{set_same}
+use Rattle.mesa_invariant_spec.specs.mesa_history_spec.Rows.{Rows}
 use Rattle.mesa_invariant_spec.specs.Books.{Books, swapped_books}
 use Rattle.mesa_invariant_spec.specs.Invariant.{Outset}
 use Rattle.mesa_invariant_spec.specs.Works.{Swaps}

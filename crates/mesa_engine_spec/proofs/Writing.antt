@@ -33,7 +33,7 @@ use Rattle.mesa_image_spec.specs.Held.{IsHeld}
 use Rattle.mesa_image_spec.specs.Sound.{AreStocked, StandsFor}
 use Rattle.mesa_image_spec.specs.Sourced.{HasSources}
 use Rattle.mesa_invariant_spec.specs.mesa_history_spec.Output.{block}
-use Rattle.mesa_invariant_spec.specs.mesa_projection_laws.Rows.{Rows}
+use Rattle.mesa_invariant_spec.specs.mesa_history_spec.Rows.{Rows}
 use Rattle.mesa_invariant_spec.specs.Books.{recast_books, swapped_books}
 use Rattle.mesa_invariant_spec.specs.Causes.{Unwritten, reply_of, told_at}
 use Rattle.mesa_invariant_spec.specs.Changes.{Doing, IsChange, IsDecided}

@@ -7,7 +7,7 @@ use Rattle.mesa_image_spec.specs.mesa_lease.Book.{Book}
 use Rattle.mesa_image_spec.specs.Countable.{AreCounted}
 use Rattle.mesa_image_spec.specs.Ids.{HasOwnIds, named}
 use Rattle.mesa_image_spec.specs.Recordable.{AreRecordable}
-use Rattle.mesa_invariant_spec.specs.mesa_projection_laws.Rows.{Rows}
+use Rattle.mesa_invariant_spec.specs.mesa_history_spec.Rows.{Rows}
 use Rattle.mesa_commit.specs.declared.trash.Dropped.{Dropped}
 use Rattle.mesa_commit.specs.declared.trash.Hold.{Hold}
 use Rattle.mesa_commit.specs.Filed.{AreGiven, Renames, waits_after}

@@ -18,7 +18,7 @@ use Rattle.mesa_image_spec.specs.Countable.{AreCounted as AreColumnsCounted}
 use Rattle.mesa_image_spec.specs.Ids.{HasOwnIds, named}
 use Rattle.mesa_image_spec.specs.Recordable.{AreRecordable}
 use Rattle.mesa_image_spec.specs.Sourced.{HasSources}
-use Rattle.mesa_invariant_spec.specs.mesa_projection_laws.Rows.{Rows}
+use Rattle.mesa_invariant_spec.specs.mesa_history_spec.Rows.{Rows}
 use Rattle.mesa_commit.specs.Filed.{AreFresh, AreNamedOrWait, PinFiles}
 use Rattle.mesa_commit.specs.Holding.{AreFiled, ids_of}
 use Rattle.mesa_invariant_spec.specs.Sight.{schema_changes}

@@ -5,7 +5,7 @@ use Rattle.mesa_disk.specs.declared.area.Area.TheVariants.{Zero}
 use Rattle.mesa_journal.specs.Journal.{IsJournal}
 use Rattle.mesa_model.specs.declared.commands.Script.{Script}
 use Rattle.mesa_check.specs.mesa_history_spec.Run.{nothing_there}
-use Rattle.mesa_store_digest.specs.mesa_projection_laws.Rows.{no_rows}
+use Rattle.mesa_store_digest.specs.mesa_history_spec.Rows.{no_rows}
 use Rattle.mesa_check.specs.mesa_image_spec.Catalog.{empty_catalog}
 use Rattle.mesa_check.specs.mesa_image_spec.Contents.{kept_of}
 use Rattle.mesa_check.specs.mesa_image_spec.Fitting.{catalog_from}

@@ -6,7 +6,7 @@ use Rattle.mesa_disk.specs.mesa_io.Causes.{Rose}
 use Rattle.mesa_model.specs.declared.commands.Script.{Script}
 use Rattle.mesa_check.specs.mesa_history_spec.Refused.{some_refused}
 use Rattle.mesa_check.specs.mesa_history_spec.Run.{begins}
-use Rattle.mesa_store_digest.specs.mesa_projection_laws.Rows.{Rows}
+use Rattle.mesa_store_digest.specs.mesa_history_spec.Rows.{Rows}
 use Rattle.mesa_check.specs.mesa_image_spec.Catalog.{Catalog}
 use Rattle.mesa_check.specs.mesa_recover.declared.error.OpenError.{OpenError}
 use Rattle.mesa_exit_spec.specs.Ports.{Ports}

@@ -13,7 +13,7 @@ use Rattle.mesa_check.proofs.mesa_schema.Lists.{all_append, all_at, all_drop, al
 use Rattle.mesa_check.specs.mesa_schema.Recasts.{recast_values}
 use Rattle.mesa_check.proofs.mesa_schema.PresentRows.{columns_more}
 use Rattle.mesa_model.specs.declared.commands.Script.{Script}
-use Rattle.mesa_store_digest.specs.mesa_projection_laws.Rows.{Rows}
+use Rattle.mesa_store_digest.specs.mesa_history_spec.Rows.{Rows}
 use Rattle.mesa_check.specs.mesa_record.declared.record.Record.{Record}
 use Rattle.mesa_check.specs.mesa_record.declared.record.Record.TheVariants as record_of
 use Rattle.mesa_check.specs.mesa_record.declared.record.Part.{Part}

@@ -15,7 +15,7 @@ use Rattle.mesa_script.specs.Generated.{generated}
 use Rattle.mesa_script.specs.Script.{script_of}
 use Rattle.mesa_arguments.specs.declared.forms.Form.{Form}
 use Rattle.mesa_arguments.specs.declared.forms.Form.TheVariants as form
-use Rattle.mesa_store_digest.specs.mesa_projection_laws.Rows.{Rows}
+use Rattle.mesa_store_digest.specs.mesa_history_spec.Rows.{Rows}
 use Rattle.mesa_invariant_spec.specs.Invariant.{run_at}
 use Rattle.mesa_check.specs.mesa_image_spec.Catalog.{Catalog}
 use Rattle.mesa_check.specs.mesa_image_spec.Contents.{kept_of}

@@ -9,7 +9,7 @@ use Rattle.mesa_journal.proofs.Live.{never_damaged, one_live, same_live}
 use Rattle.mesa_check.specs.mesa_record.declared.record.Record.{Record}
 use Rattle.mesa_check.specs.mesa_record.declared.error.RecordError.{RecordError}
 use Rattle.mesa_check.specs.mesa_record.Reading.{record_at}
-use Rattle.mesa_store_digest.specs.mesa_projection_laws.Rows.{Rows}
+use Rattle.mesa_store_digest.specs.mesa_history_spec.Rows.{Rows}
 use Rattle.mesa_check.specs.mesa_image_spec.Catalog.{Catalog}
 use Rattle.mesa_check.specs.mesa_image_spec.Fitting.{applied_if, catalog_from, fits, read_record, then_bodies, with_body}
 use Rattle.mesa_check.specs.mesa_image_spec.Journaled.{catalog, first_body}

@@ -20,7 +20,7 @@ use Rattle.mesa_check.specs.mesa_delta.Spread.{blocks_of}
 use Rattle.mesa_check.specs.mesa_delta.Tail.{entries, entry, first_key, foot}
 use Rattle.mesa_check.proofs.mesa_delta.Placed.{laid}
 use Rattle.mesa_check.proofs.mesa_delta.Tailing.{foot_long}
-use Rattle.mesa_store_digest.specs.mesa_projection_laws.Rows.{Rows}
+use Rattle.mesa_store_digest.specs.mesa_history_spec.Rows.{Rows}
 use Rattle.mesa_check.specs.mesa_commit.Images.{Has}
 use Rattle.mesa_check.specs.mesa_image_spec.Catalog.{Catalog}
 use Rattle.mesa_check.specs.mesa_image_spec.Fitting.{Shelved, shelved, stock_shelved}

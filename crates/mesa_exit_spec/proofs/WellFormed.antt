@@ -12,7 +12,7 @@ use Rattle.mesa_check.proofs.mesa_schema.Lists.{all_map}
 use Rattle.mesa_check.proofs.mesa_schema.RisingRows.{folded_rise}
 use Rattle.mesa_model.specs.declared.commands.Script.{Script}
 use Rattle.mesa_model.specs.WellFormed.{IsContent, IsTable, IsWellFormed, is_kept, relation_names}
-use Rattle.mesa_store_digest.specs.mesa_projection_laws.Rows.{Rows}
+use Rattle.mesa_store_digest.specs.mesa_history_spec.Rows.{Rows}
 use Rattle.mesa_check.specs.mesa_image_spec.Catalog.{Stock, Catalog}
 use Rattle.mesa_check.specs.mesa_image_spec.Contents.{present, deltas_to, content, table_of, kept_of}
 use Rattle.mesa_check.specs.mesa_image_spec.Fitting.{deltas_of, delta_shelved, names_in}

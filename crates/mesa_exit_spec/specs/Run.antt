@@ -13,7 +13,7 @@ use Rattle.mesa_check.specs.mesa_history_spec.Found.{kept_of}
 use Rattle.mesa_check.specs.mesa_history_spec.Legal.{IsLegal}
 use Rattle.mesa_check.specs.mesa_history_spec.Run.{State, begins}
 use Rattle.mesa_history_laws.specs.Printed.{AnswersFromTheFold}
-use Rattle.mesa_store_digest.specs.mesa_projection_laws.Rows.{Rows}
+use Rattle.mesa_store_digest.specs.mesa_history_spec.Rows.{Rows}
 use Rattle.mesa_invariant_spec.specs.Printing.{IsPrinted, IsPrintedButRows}
 use Rattle.mesa_invariant_spec.specs.Undamaged.{NoneDamaged}
 use Rattle.mesa_invariant_spec.specs.Invariant.{AllFound, HasCounted, Outset, run_at}

@@ -17,8 +17,8 @@ ghost use Rattle.mesa_check.specs.mesa_image_spec.Sound.{AreStocked, IsSoundAs, 
 ghost use Rattle.mesa_model.specs.WellFormed.{IsWellFormed};
 ghost use Rattle.mesa_model.specs.declared.commands.Script.{Script};
 ghost use Rattle.mesa_script.specs.Script.{script_of};
-ghost use Rattle.mesa_store_digest.specs.mesa_projection_laws.Bare.{bare_state};
-ghost use Rattle.mesa_store_digest.specs.mesa_projection_laws.Rows.{Rows, no_rows};
+ghost use Rattle.mesa_store_digest.specs.mesa_history_spec.Bare.{bare_state};
+ghost use Rattle.mesa_store_digest.specs.mesa_history_spec.Rows.{Rows, no_rows};
 ghost use Rattle.mesa_arguments.specs.declared.forms.Form.{Form as AnyForm};
 
 use mesa_disk::{Disk, Made};

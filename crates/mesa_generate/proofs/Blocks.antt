@@ -18,7 +18,7 @@ use Rattle.mesa_model.specs.mesa_filter.Hex.{hex_digit, hex_of}
 use Rattle.mesa_history_spec.specs.Output.{IsBlock, IsBlockAs, IsOutput, block}
 use Rattle.mesa_script.specs.Replies.{damage_text, reply_text, seen_text}
 use Rattle.mesa_invariant_spec.specs.Printing.{IsBlockButRows, IsOutputButRows}
-use Rattle.mesa_invariant_spec.specs.mesa_projection_laws.Bare.{bare_reply, bare_told}
+use Rattle.mesa_invariant_spec.specs.mesa_history_spec.Bare.{bare_reply, bare_told}
 use Rattle.mesa_generate.specs.Excerpt.{Output}
 use Rattle.mesa_generate.specs.Lines.{IsUnbroken}
 use Rattle.mesa_generate.proofs.Breaks.{decimal_unbroken, unbroken_both, unbroken_more}

@@ -1,4 +1,8 @@
 pub use Rattle.mesa_span.proofs as mesa_span
+pub mod BareLists
+pub mod BareSteps
+pub mod BareTurns
+pub mod Alike
 pub mod More
 pub mod Places
 pub mod Refusing

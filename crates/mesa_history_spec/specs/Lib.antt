@@ -1,3 +1,7 @@
+pub use Rattle.mesa_history_spec.specs.mesa_batch as mesa_batch
+pub use Rattle.mesa_history_spec.specs.mesa_filter as mesa_filter
+pub use Rattle.mesa_history_spec.specs.mesa_model as mesa_model
+pub use Rattle.mesa_history_spec.specs.mesa_schema as mesa_schema
 pub use Rattle.mesa_model.specs.mesa_batch as mesa_batch
 pub use Rattle.mesa_model.specs.mesa_file as mesa_file
 pub use Rattle.mesa_model.specs.mesa_filter as mesa_filter
@@ -5,6 +9,8 @@ pub use Rattle.mesa_model.specs as mesa_model
 pub use Rattle.mesa_model.specs.mesa_schema as mesa_schema
 pub use Rattle.mesa_span.specs as mesa_span
 pub use Rattle.mesa_lease.specs as mesa_lease
+pub mod Bare
+pub mod Rows
 pub mod Machine
 pub mod Run
 pub mod Replay

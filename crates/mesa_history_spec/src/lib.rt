@@ -3,12 +3,17 @@
 //!
 //! What a run prints: the blocks of its history's entries, and whether some printed reply is a
 //! refusal.
+//!
+//! Projections: what of a warehouse, of a turn and of a run doesn't hang on the stored rows. Which turn
+//! is due, what is refused and what is legal hang on the projection alone, so they are known of a store
+//! whose rows nobody has read.
 #![tactic(auto)]
 
 mod laws;
+mod projections;
 
 pub use laws::{
     claims_stay, closed_runs_refuse_what_comes, ended_runs_are_legal, moments_never_fall,
     sessions_keep_their_places, unrenewed_works_are_refused,
 };
-
+pub use projections::{commands_see_no_rows, runs_are_alike};

@@ -1,16 +1,16 @@
 -- What is due hangs on a start's projection alone, where no answer is open.
 use Rattle.std.proofs.Common.{◌≡◌, ℕ, List, Bool, false, not, ◌&&◌, ◌==◌, IsTrue, refl, sym, ◌∙◌, ap, subst}
-use Rattle.mesa_projection_laws.specs.mesa_model.declared.commands.Command.{Command}
-use Rattle.mesa_projection_laws.specs.mesa_model.declared.commands.Script.{Script}
-use Rattle.mesa_projection_laws.specs.mesa_model.Warehouse.{Table, table_at}
-use Rattle.mesa_projection_laws.specs.mesa_model.declared.entries.Entry.{Entry}
-use Rattle.mesa_projection_laws.specs.mesa_history_spec.Run.{State, Stage, First, Looked, Answered, Granted, Renewed, Finished, CutOff, Place, Run, place_of, begins}
-use Rattle.mesa_projection_laws.specs.mesa_history_spec.Law.{begun_at}
-use Rattle.mesa_projection_laws.specs.mesa_history_spec.Legal.{is_answered}
-use Rattle.mesa_projection_laws.specs.mesa_history_spec.Turns.{IsDue}
-use Rattle.mesa_projection_laws.specs.Bare.{bare_state, bare_stage, bare_place, bare_run}
-use Rattle.mesa_projection_laws.proofs.Alike.{runs_alike}
-use Rattle.mesa_projection_laws.proofs.Steps.{table_bare}
+use Rattle.mesa_history_spec.specs.mesa_model.declared.commands.Command.{Command}
+use Rattle.mesa_history_spec.specs.mesa_model.declared.commands.Script.{Script}
+use Rattle.mesa_history_spec.specs.mesa_model.Warehouse.{Table, table_at}
+use Rattle.mesa_history_spec.specs.mesa_model.declared.entries.Entry.{Entry}
+use Rattle.mesa_history_spec.specs.Run.{State, Stage, First, Looked, Answered, Granted, Renewed, Finished, CutOff, Place, Run, place_of, begins}
+use Rattle.mesa_history_spec.specs.Law.{begun_at}
+use Rattle.mesa_history_spec.specs.Legal.{is_answered}
+use Rattle.mesa_history_spec.specs.Turns.{IsDue}
+use Rattle.mesa_history_spec.specs.Bare.{bare_state, bare_stage, bare_place, bare_run}
+use Rattle.mesa_history_spec.proofs.Alike.{runs_alike}
+use Rattle.mesa_history_spec.proofs.BareSteps.{table_bare}
 use Rattle.mesa_invariant_spec.specs.Turns.{Asks}
 use Rattle.mesa_invariant_spec.specs.Invariant.{run_at}
 

@@ -3,29 +3,29 @@ use Rattle.std.proofs.Common.{◌≡◌, ℕ, ◌<◌, ◌^◌, List, [], ◌∷
 use Rattle.std.specs.Prelude.{is_none, is_some}
 use Rattle.mesa_io.specs.Causes.{last}
 use Rattle.mesa_disk.specs.Story.{Story, Unmoved}
-use Rattle.mesa_projection_laws.specs.mesa_filter.declared.words.QueryWords.{QueryWords}
-use Rattle.mesa_projection_laws.specs.mesa_model.declared.commands.Command.{Command}
-use Rattle.mesa_projection_laws.specs.mesa_model.declared.commands.Command.TheVariants as command
-use Rattle.mesa_projection_laws.specs.mesa_model.declared.entries.Entry.{Entry}
-use Rattle.mesa_projection_laws.specs.mesa_model.declared.entries.Kind.TheVariants as kind
-use Rattle.mesa_projection_laws.specs.mesa_model.declared.entries.Outcome.{Outcome}
-use Rattle.mesa_projection_laws.specs.mesa_model.declared.entries.Outcome.TheVariants as outcome
-use Rattle.mesa_projection_laws.specs.mesa_model.declared.replies.Page.{Page}
-use Rattle.mesa_projection_laws.specs.mesa_model.declared.replies.Refusal.TheVariants as no
-use Rattle.mesa_projection_laws.specs.mesa_model.declared.replies.Reply.TheVariants as reply
-use Rattle.mesa_projection_laws.specs.mesa_model.Entry.{IsShort}
-use Rattle.mesa_projection_laws.specs.mesa_model.Query.{Answer, query_answer}
-use Rattle.mesa_projection_laws.specs.mesa_model.Warehouse.{Warehouse}
-use Rattle.mesa_projection_laws.specs.mesa_history_spec.Run.{First, Answered, Finished, Stage, Told, Run, begins}
-use Rattle.mesa_projection_laws.specs.mesa_history_spec.Replay.{Turned, decided_query, leaves, prints, turn_of, some_damage}
-use Rattle.mesa_projection_laws.specs.mesa_history_spec.Legal.{is_written}
-use Rattle.mesa_projection_laws.specs.mesa_history_spec.Refused.{is_refusal}
-use Rattle.mesa_projection_laws.specs.mesa_history_spec.Turns.{IsDue}
-use Rattle.mesa_projection_laws.proofs.mesa_history_spec.More.{runs_more}
-use Rattle.mesa_projection_laws.proofs.mesa_history_spec.Turns.{turned_at, goes_to, prologue_after}
+use Rattle.mesa_history_spec.specs.mesa_filter.declared.words.QueryWords.{QueryWords}
+use Rattle.mesa_history_spec.specs.mesa_model.declared.commands.Command.{Command}
+use Rattle.mesa_history_spec.specs.mesa_model.declared.commands.Command.TheVariants as command
+use Rattle.mesa_history_spec.specs.mesa_model.declared.entries.Entry.{Entry}
+use Rattle.mesa_history_spec.specs.mesa_model.declared.entries.Kind.TheVariants as kind
+use Rattle.mesa_history_spec.specs.mesa_model.declared.entries.Outcome.{Outcome}
+use Rattle.mesa_history_spec.specs.mesa_model.declared.entries.Outcome.TheVariants as outcome
+use Rattle.mesa_history_spec.specs.mesa_model.declared.replies.Page.{Page}
+use Rattle.mesa_history_spec.specs.mesa_model.declared.replies.Refusal.TheVariants as no
+use Rattle.mesa_history_spec.specs.mesa_model.declared.replies.Reply.TheVariants as reply
+use Rattle.mesa_history_spec.specs.mesa_model.Entry.{IsShort}
+use Rattle.mesa_history_spec.specs.mesa_model.Query.{Answer, query_answer}
+use Rattle.mesa_history_spec.specs.mesa_model.Warehouse.{Warehouse}
+use Rattle.mesa_history_spec.specs.Run.{First, Answered, Finished, Stage, Told, Run, begins}
+use Rattle.mesa_history_spec.specs.Replay.{Turned, decided_query, leaves, prints, turn_of, some_damage}
+use Rattle.mesa_history_spec.specs.Legal.{is_written}
+use Rattle.mesa_history_spec.specs.Refused.{is_refusal}
+use Rattle.mesa_history_spec.specs.Turns.{IsDue}
+use Rattle.mesa_history_spec.proofs.More.{runs_more}
+use Rattle.mesa_history_spec.proofs.Turns.{turned_at, goes_to, prologue_after}
 use Rattle.mesa_history_spec.specs.Output.{block}
-use Rattle.mesa_projection_laws.specs.Bare.{bare_answer, bare_page, bare_result}
-use Rattle.mesa_projection_laws.proofs.Steps.{query-bare}
+use Rattle.mesa_history_spec.specs.Bare.{bare_answer, bare_page, bare_result}
+use Rattle.mesa_history_spec.proofs.BareSteps.{query-bare}
 use Rattle.mesa_invariant_spec.specs.Books.{Books}
 use Rattle.mesa_invariant_spec.specs.Causes.{Cause, Replies, Unread, Damaged, Unwritten, NoMemory, is_read_fault, outcome_of, reply_of, told_at}
 use Rattle.mesa_invariant_spec.specs.Printing.{IsBlockButRows, IsPut}

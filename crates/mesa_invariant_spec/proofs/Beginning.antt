@@ -4,11 +4,11 @@ use Rattle.std.specs.Io.KnownBytes.{Appends}
 use Rattle.std.proofs.KnownBytes.{Appends-nil}
 use Rattle.mesa_io.specs.Causes.{last}
 use Rattle.mesa_disk.specs.Story.{Story, Unmoved}
-use Rattle.mesa_projection_laws.specs.mesa_model.declared.entries.Entry.{Entry}
-use Rattle.mesa_projection_laws.specs.mesa_history_spec.Replay.{runs}
-use Rattle.mesa_projection_laws.specs.mesa_history_spec.Legal.{AllFit}
-use Rattle.mesa_projection_laws.specs.mesa_history_spec.Counting.{count_in}
-use Rattle.mesa_projection_laws.specs.mesa_history_spec.Refused.{some_refused}
+use Rattle.mesa_history_spec.specs.mesa_model.declared.entries.Entry.{Entry}
+use Rattle.mesa_history_spec.specs.Replay.{runs}
+use Rattle.mesa_history_spec.specs.Legal.{AllFit}
+use Rattle.mesa_history_spec.specs.Counting.{count_in}
+use Rattle.mesa_history_spec.specs.Refused.{some_refused}
 use Rattle.mesa_history_spec.specs.Output.{IsOutput}
 use Rattle.mesa_invariant_spec.specs.Books.{Books, AreBooksOf}
 use Rattle.mesa_invariant_spec.specs.Printing.{IsOutputButRows}

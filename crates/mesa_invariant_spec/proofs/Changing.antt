@@ -2,38 +2,38 @@
 use Rattle.std.proofs.Common.{◌≡◌, ℕ, ◌<◌, ◌≤◌, ◌^◌, List, length, Bool, true, false, not, ◌||◌, ◌&&◌, IsTrue, refl, sym, ◌∙◌, ap, subst, arith, Option, Some, Ok, Err}
 use Rattle.mesa_io.specs.Causes.{Rose, last}
 use Rattle.mesa_disk.specs.Story.{Story, Spans}
-use Rattle.mesa_projection_laws.specs.mesa_batch.declared.words.RowWords.{RowWords}
-use Rattle.mesa_projection_laws.specs.mesa_filter.declared.words.VersionWord.{VersionWord}
-use Rattle.mesa_projection_laws.specs.mesa_model.declared.commands.AlterWords.{AlterWords}
-use Rattle.mesa_projection_laws.specs.mesa_model.declared.commands.Command.{Command}
-use Rattle.mesa_projection_laws.specs.mesa_model.declared.commands.Command.TheVariants as command
-use Rattle.mesa_projection_laws.specs.mesa_model.declared.commands.TableWords.{TableWords}
-use Rattle.mesa_projection_laws.specs.mesa_model.declared.commands.ViewWords.{ViewWords}
-use Rattle.mesa_projection_laws.specs.mesa_model.declared.entries.Entry.{Entry}
-use Rattle.mesa_projection_laws.specs.mesa_model.declared.entries.Kind.TheVariants as kind
-use Rattle.mesa_projection_laws.specs.mesa_model.declared.entries.Outcome.{Outcome}
-use Rattle.mesa_projection_laws.specs.mesa_model.declared.entries.Outcome.TheVariants as outcome
-use Rattle.mesa_projection_laws.specs.mesa_model.declared.replies.Refusal.{Refusal}
-use Rattle.mesa_projection_laws.specs.mesa_model.declared.replies.Refusal.TheVariants as no
-use Rattle.mesa_projection_laws.specs.mesa_model.declared.replies.Reply.{Reply}
-use Rattle.mesa_projection_laws.specs.mesa_model.Entry.{IsShort}
-use Rattle.mesa_projection_laws.specs.mesa_model.Load.{load_batch}
-use Rattle.mesa_projection_laws.specs.mesa_model.Pins.{make_pin, release_pin}
-use Rattle.mesa_projection_laws.specs.mesa_model.Step.{done_or_refused}
-use Rattle.mesa_projection_laws.specs.mesa_model.Tables.{make_table, make_view, alter_table}
-use Rattle.mesa_projection_laws.specs.mesa_model.Versions.{expire_to}
-use Rattle.mesa_projection_laws.specs.mesa_model.Warehouse.{Store, Warehouse}
-use Rattle.mesa_projection_laws.specs.mesa_history_spec.Run.{State, Stage, First, Looked, Run}
-use Rattle.mesa_projection_laws.specs.mesa_history_spec.Replay.{Turned, decide, decided, stepped, prints, refuses, closed_if, closes, stood, turned}
-use Rattle.mesa_projection_laws.specs.mesa_history_spec.Legal.{is_due_at, is_release, is_work, is_writing, is_written, builds_files, outcome_fits, wrote}
-use Rattle.mesa_projection_laws.specs.mesa_history_spec.Found.{Kept, kept_of}
-use Rattle.mesa_projection_laws.specs.mesa_history_spec.Refused.{is_refusal}
-use Rattle.mesa_projection_laws.specs.mesa_history_spec.Turns.{IsDue}
-use Rattle.mesa_projection_laws.proofs.mesa_history_spec.More.{kept_after}
-use Rattle.mesa_projection_laws.proofs.mesa_history_spec.Turns.{renewal_at, turned_at}
+use Rattle.mesa_history_spec.specs.mesa_batch.declared.words.RowWords.{RowWords}
+use Rattle.mesa_history_spec.specs.mesa_filter.declared.words.VersionWord.{VersionWord}
+use Rattle.mesa_history_spec.specs.mesa_model.declared.commands.AlterWords.{AlterWords}
+use Rattle.mesa_history_spec.specs.mesa_model.declared.commands.Command.{Command}
+use Rattle.mesa_history_spec.specs.mesa_model.declared.commands.Command.TheVariants as command
+use Rattle.mesa_history_spec.specs.mesa_model.declared.commands.TableWords.{TableWords}
+use Rattle.mesa_history_spec.specs.mesa_model.declared.commands.ViewWords.{ViewWords}
+use Rattle.mesa_history_spec.specs.mesa_model.declared.entries.Entry.{Entry}
+use Rattle.mesa_history_spec.specs.mesa_model.declared.entries.Kind.TheVariants as kind
+use Rattle.mesa_history_spec.specs.mesa_model.declared.entries.Outcome.{Outcome}
+use Rattle.mesa_history_spec.specs.mesa_model.declared.entries.Outcome.TheVariants as outcome
+use Rattle.mesa_history_spec.specs.mesa_model.declared.replies.Refusal.{Refusal}
+use Rattle.mesa_history_spec.specs.mesa_model.declared.replies.Refusal.TheVariants as no
+use Rattle.mesa_history_spec.specs.mesa_model.declared.replies.Reply.{Reply}
+use Rattle.mesa_history_spec.specs.mesa_model.Entry.{IsShort}
+use Rattle.mesa_history_spec.specs.mesa_model.Load.{load_batch}
+use Rattle.mesa_history_spec.specs.mesa_model.Pins.{make_pin, release_pin}
+use Rattle.mesa_history_spec.specs.mesa_model.Step.{done_or_refused}
+use Rattle.mesa_history_spec.specs.mesa_model.Tables.{make_table, make_view, alter_table}
+use Rattle.mesa_history_spec.specs.mesa_model.Versions.{expire_to}
+use Rattle.mesa_history_spec.specs.mesa_model.Warehouse.{Store, Warehouse}
+use Rattle.mesa_history_spec.specs.Run.{State, Stage, First, Looked, Run}
+use Rattle.mesa_history_spec.specs.Replay.{Turned, decide, decided, stepped, prints, refuses, closed_if, closes, stood, turned}
+use Rattle.mesa_history_spec.specs.Legal.{is_due_at, is_release, is_work, is_writing, is_written, builds_files, outcome_fits, wrote}
+use Rattle.mesa_history_spec.specs.Found.{Kept, kept_of}
+use Rattle.mesa_history_spec.specs.Refused.{is_refusal}
+use Rattle.mesa_history_spec.specs.Turns.{IsDue}
+use Rattle.mesa_history_spec.proofs.More.{kept_after}
+use Rattle.mesa_history_spec.proofs.Turns.{renewal_at, turned_at}
 use Rattle.mesa_history_spec.specs.Output.{block}
-use Rattle.mesa_projection_laws.specs.Bare.{bare_done, bare_result}
-use Rattle.mesa_projection_laws.proofs.Steps.{expire-bare, load-bare, table-bare, view-bare, alter-bare, pin-bare, release-bare}
+use Rattle.mesa_history_spec.specs.Bare.{bare_done, bare_result}
+use Rattle.mesa_history_spec.proofs.BareSteps.{expire-bare, load-bare, table-bare, view-bare, alter-bare, pin-bare, release-bare}
 use Rattle.mesa_invariant_spec.specs.Books.{Books, AreBooksOf, closed_books, closed_books_if}
 use Rattle.mesa_invariant_spec.specs.Causes.{Cause, Replies, Unread, Damaged, Unwritten, NoMemory, outcome_of, reply_of, told_at}
 use Rattle.mesa_invariant_spec.specs.Changes.{Doing, IsDecided, IsChange, HasFailed, failed_books}

@@ -3,16 +3,16 @@ use Rattle.std.proofs.Common.{◌≡◌, ⊎_elim, ℕ, ◌+◌, ◌-◌, ◌^�
 use Rattle.std.specs.Prelude.{min, nat_le, is_some, if◌then◌else◌}
 use Rattle.std.proofs.lemmas.Bool.Decides.{leb_tells}
 use Rattle.mesa_io.specs.Causes.{Rose, last}
-use Rattle.mesa_projection_laws.specs.mesa_model.declared.commands.Command.{Command}
-use Rattle.mesa_projection_laws.specs.mesa_model.declared.commands.Script.{Script}
-use Rattle.mesa_projection_laws.specs.mesa_model.declared.entries.Entry.{Entry}
-use Rattle.mesa_projection_laws.specs.mesa_model.declared.entries.Outcome.{Outcome}
-use Rattle.mesa_projection_laws.specs.mesa_model.declared.entries.Outcome.TheVariants as outcome
-use Rattle.mesa_projection_laws.specs.mesa_history_spec.Run.{State, Stage, First, Place, Told, place_of, begins}
-use Rattle.mesa_projection_laws.specs.mesa_history_spec.Replay.{closes, is_later, is_later_than, last_moment_of, runs}
-use Rattle.mesa_projection_laws.specs.mesa_history_spec.Legal.{fits_moment, wrote, is_same_moment}
-use Rattle.mesa_projection_laws.specs.mesa_history_spec.Turns.{IsDue}
-use Rattle.mesa_projection_laws.proofs.mesa_history_spec.More.{last_moment_is}
+use Rattle.mesa_history_spec.specs.mesa_model.declared.commands.Command.{Command}
+use Rattle.mesa_history_spec.specs.mesa_model.declared.commands.Script.{Script}
+use Rattle.mesa_history_spec.specs.mesa_model.declared.entries.Entry.{Entry}
+use Rattle.mesa_history_spec.specs.mesa_model.declared.entries.Outcome.{Outcome}
+use Rattle.mesa_history_spec.specs.mesa_model.declared.entries.Outcome.TheVariants as outcome
+use Rattle.mesa_history_spec.specs.Run.{State, Stage, First, Place, Told, place_of, begins}
+use Rattle.mesa_history_spec.specs.Replay.{closes, is_later, is_later_than, last_moment_of, runs}
+use Rattle.mesa_history_spec.specs.Legal.{fits_moment, wrote, is_same_moment}
+use Rattle.mesa_history_spec.specs.Turns.{IsDue}
+use Rattle.mesa_history_spec.proofs.More.{last_moment_is}
 use Rattle.mesa_invariant_spec.specs.Invariant.{IsAtClock, run_at}
 
 le_is : (a b : ℕ) → a ≤ b → nat_le a b ≡ true

@@ -1,16 +1,16 @@
 -- Turns that may come, by their outcome.
 use Rattle.std.proofs.Common.{◌≡◌, ℕ, Bool, true, false, not, IsTrue, refl, sym, subst, Option, None, ◌||◌, ◌&&◌}
 use Rattle.std.specs.Prelude.{is_none}
-use Rattle.mesa_projection_laws.specs.mesa_model.declared.commands.Command.{Command}
-use Rattle.mesa_projection_laws.specs.mesa_model.declared.entries.Kind.{Kind}
-use Rattle.mesa_projection_laws.specs.mesa_model.declared.entries.Kind.TheVariants as kind
-use Rattle.mesa_projection_laws.specs.mesa_model.declared.entries.Outcome.{Outcome}
-use Rattle.mesa_projection_laws.specs.mesa_model.declared.entries.Outcome.TheVariants as outcome
-use Rattle.mesa_projection_laws.specs.mesa_history_spec.Run.{Stage, Run}
-use Rattle.mesa_projection_laws.specs.mesa_history_spec.Replay.{closes}
-use Rattle.mesa_projection_laws.specs.mesa_history_spec.Legal.{is_due_at, is_unrenewed, same_kind, is_stands, is_answered, outcome_fits, wrote, is_same_moment, builds_files}
-use Rattle.mesa_projection_laws.specs.mesa_history_spec.Turns.{would_print}
-use Rattle.mesa_projection_laws.proofs.mesa_history_spec.Turns.{MayCome, renewal_at}
+use Rattle.mesa_history_spec.specs.mesa_model.declared.commands.Command.{Command}
+use Rattle.mesa_history_spec.specs.mesa_model.declared.entries.Kind.{Kind}
+use Rattle.mesa_history_spec.specs.mesa_model.declared.entries.Kind.TheVariants as kind
+use Rattle.mesa_history_spec.specs.mesa_model.declared.entries.Outcome.{Outcome}
+use Rattle.mesa_history_spec.specs.mesa_model.declared.entries.Outcome.TheVariants as outcome
+use Rattle.mesa_history_spec.specs.Run.{Stage, Run}
+use Rattle.mesa_history_spec.specs.Replay.{closes}
+use Rattle.mesa_history_spec.specs.Legal.{is_due_at, is_unrenewed, same_kind, is_stands, is_answered, outcome_fits, wrote, is_same_moment, builds_files}
+use Rattle.mesa_history_spec.specs.Turns.{would_print}
+use Rattle.mesa_history_spec.proofs.Turns.{MayCome, renewal_at}
 use Rattle.mesa_invariant_spec.specs.Turns.{entry}
 
 -- ---- tests

@@ -4,11 +4,11 @@ use Rattle.std.specs.Prelude.{IsTrue}
 use Rattle.std.proofs.lemmas.List.{append_cancel_left}
 use Rattle.mesa_io.specs.Causes.{last}
 use Rattle.mesa_disk.specs.Story.{Story}
-use Rattle.mesa_projection_laws.specs.mesa_model.declared.commands.Script.{Script}
-use Rattle.mesa_projection_laws.specs.mesa_model.declared.entries.Entry.{Entry}
-use Rattle.mesa_projection_laws.specs.mesa_history_spec.Counting.{answers_disk, is_disk_fault}
-use Rattle.mesa_projection_laws.specs.mesa_history_spec.Replay.{closes}
-use Rattle.mesa_projection_laws.specs.mesa_history_spec.Run.{State}
+use Rattle.mesa_history_spec.specs.mesa_model.declared.commands.Script.{Script}
+use Rattle.mesa_history_spec.specs.mesa_model.declared.entries.Entry.{Entry}
+use Rattle.mesa_history_spec.specs.Counting.{answers_disk, is_disk_fault}
+use Rattle.mesa_history_spec.specs.Replay.{closes}
+use Rattle.mesa_history_spec.specs.Run.{State}
 use Rattle.mesa_invariant_spec.specs.Causes.{Cause, Replies, Unread, Damaged, Unwritten, NoMemory, is_read_fault, outcome_of}
 use Rattle.mesa_invariant_spec.specs.Turns.{AnswersDisk, Faults, NoneFell, Shown, SomeRose, faults_of}
 use Rattle.mesa_invariant_spec.specs.Invariant.{Counts, run_at}

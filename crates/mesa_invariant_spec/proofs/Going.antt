@@ -1,23 +1,23 @@
 -- Where a turn takes its session.
 use Rattle.std.proofs.Common.{◌≡◌, ℕ, [], ◌∷◌, ◌++◌, Bool, true, false, not, IsTrue, refl, ◌∙◌, ap, Result, Ok, Err}
-use Rattle.mesa_projection_laws.specs.mesa_model.declared.commands.Command.{Command}
-use Rattle.mesa_projection_laws.specs.mesa_model.declared.commands.Command.TheVariants as command
-use Rattle.mesa_projection_laws.specs.mesa_model.declared.commands.Script.{Script}
-use Rattle.mesa_projection_laws.specs.mesa_model.declared.entries.Kind.{Kind}
-use Rattle.mesa_projection_laws.specs.mesa_model.declared.entries.Kind.TheVariants as kind
-use Rattle.mesa_projection_laws.specs.mesa_model.declared.entries.Outcome.{Outcome}
-use Rattle.mesa_projection_laws.specs.mesa_model.declared.entries.Outcome.TheVariants as outcome
-use Rattle.mesa_projection_laws.specs.mesa_model.declared.replies.Refusal.{Refusal}
-use Rattle.mesa_projection_laws.specs.mesa_model.declared.replies.Reply.{Reply}
-use Rattle.mesa_projection_laws.specs.mesa_model.Query.{Answer}
-use Rattle.mesa_projection_laws.specs.mesa_schema.Recasts.{Recast}
-use Rattle.mesa_projection_laws.specs.mesa_model.Warehouse.{table_at}
-use Rattle.mesa_projection_laws.specs.mesa_history_spec.Machine.{Claim, Errand, Merges, Recasts, claim_checked, explained, still_checked}
-use Rattle.mesa_projection_laws.specs.mesa_history_spec.Run.{State, Stage, First, Looked, Answered, Granted, Renewed, Finished, Run, begins}
-use Rattle.mesa_projection_laws.specs.mesa_history_spec.Replay.{turn_of, decided_explain, completes, does, recasts, is_skip}
-use Rattle.mesa_projection_laws.specs.mesa_history_spec.Run.{place_of}
-use Rattle.mesa_projection_laws.specs.mesa_history_spec.Turns.{IsDue, place_then}
-use Rattle.mesa_projection_laws.proofs.mesa_history_spec.Turns.{turn_goes}
+use Rattle.mesa_history_spec.specs.mesa_model.declared.commands.Command.{Command}
+use Rattle.mesa_history_spec.specs.mesa_model.declared.commands.Command.TheVariants as command
+use Rattle.mesa_history_spec.specs.mesa_model.declared.commands.Script.{Script}
+use Rattle.mesa_history_spec.specs.mesa_model.declared.entries.Kind.{Kind}
+use Rattle.mesa_history_spec.specs.mesa_model.declared.entries.Kind.TheVariants as kind
+use Rattle.mesa_history_spec.specs.mesa_model.declared.entries.Outcome.{Outcome}
+use Rattle.mesa_history_spec.specs.mesa_model.declared.entries.Outcome.TheVariants as outcome
+use Rattle.mesa_history_spec.specs.mesa_model.declared.replies.Refusal.{Refusal}
+use Rattle.mesa_history_spec.specs.mesa_model.declared.replies.Reply.{Reply}
+use Rattle.mesa_history_spec.specs.mesa_model.Query.{Answer}
+use Rattle.mesa_history_spec.specs.mesa_schema.Recasts.{Recast}
+use Rattle.mesa_history_spec.specs.mesa_model.Warehouse.{table_at}
+use Rattle.mesa_history_spec.specs.Machine.{Claim, Errand, Merges, Recasts, claim_checked, explained, still_checked}
+use Rattle.mesa_history_spec.specs.Run.{State, Stage, First, Looked, Answered, Granted, Renewed, Finished, Run, begins}
+use Rattle.mesa_history_spec.specs.Replay.{turn_of, decided_explain, completes, does, recasts, is_skip}
+use Rattle.mesa_history_spec.specs.Run.{place_of}
+use Rattle.mesa_history_spec.specs.Turns.{IsDue, place_then}
+use Rattle.mesa_history_spec.proofs.Turns.{turn_goes}
 use Rattle.mesa_invariant_spec.specs.Turns.{Shown, entry, IsTurn, IsSeen, Takes, is_load, is_simple, Asks}
 use Rattle.mesa_invariant_spec.specs.Invariant.{run_at}
 use Rattle.mesa_invariant_spec.specs.Works.{closing_stage}

@@ -2,32 +2,32 @@
 use Rattle.std.proofs.Common.{◌≡◌, ℕ, ◌+◌, List, [], ◌∷◌, ◌++◌, length, Bool, true, refl, sym, ◌∙◌, ap, IsTrue, None, Option, Some, Result, Ok, Err, ok_or}
 use Rattle.std.specs.Prelude.{nat_le}
 use Rattle.mesa_list.specs.Checks.{◌>>=◌, ◌>>◌, refuse_if, refuse_unless, refused_as}
-use Rattle.mesa_projection_laws.specs.mesa_schema.declared.changes.Change.{Change}
-use Rattle.mesa_projection_laws.specs.mesa_schema.Changes.{change_checked, columns_of, epoch_of}
-use Rattle.mesa_projection_laws.specs.mesa_schema.Names.{is_name}
-use Rattle.mesa_projection_laws.specs.mesa_schema.Schema.{schema_checked}
-use Rattle.mesa_projection_laws.specs.mesa_schema.Views.{with_view}
-use Rattle.mesa_projection_laws.specs.mesa_batch.Batch.{Placed, batch_of}
-use Rattle.mesa_projection_laws.specs.mesa_batch.declared.words.RowWords.{RowWords}
-use Rattle.mesa_projection_laws.specs.mesa_model.declared.commands.AlterWords.{AlterWords}
-use Rattle.mesa_projection_laws.specs.mesa_model.declared.commands.TableWords.{TableWords}
-use Rattle.mesa_projection_laws.specs.mesa_model.declared.commands.ViewWords.{ViewWords}
-use Rattle.mesa_projection_laws.specs.mesa_model.declared.replies.Refusal.{Refusal}
-use Rattle.mesa_projection_laws.specs.mesa_model.declared.replies.Refusal.TheVariants as no
-use Rattle.mesa_projection_laws.specs.mesa_model.declared.replies.Reply.{Reply}
-use Rattle.mesa_projection_laws.specs.mesa_model.declared.replies.Reply.TheVariants as reply
-use Rattle.mesa_projection_laws.specs.mesa_model.declared.replies.SchemaFault.TheVariants as fault
-use Rattle.mesa_projection_laws.specs.mesa_model.Load.{load_batch, bounds_checked, tables_named, with_batch}
-use Rattle.mesa_projection_laws.specs.mesa_model.Refusals.{no_such_table, refuse_closed, bad_schema, batch_refusal, schema_refusal, change_refusal}
-use Rattle.mesa_projection_laws.specs.mesa_model.Relations.{is_taken, table_number}
-use Rattle.mesa_projection_laws.specs.mesa_model.Tables.{make_table, make_view, alter_table, columns_asked, names_are_good, new_table, view_of_table_checked, change_asked, changed_name, table_changed}
-use Rattle.mesa_projection_laws.specs.mesa_model.Versions.{expire_all, expire_table, store_from, table_from, version_checked}
-use Rattle.mesa_projection_laws.specs.mesa_model.Warehouse.{Warehouse, max_tables, max_versions, table_at, with_table, with_tables}
-use Rattle.mesa_projection_laws.specs.mesa_history_spec.Found.{kept_of}
-use Rattle.mesa_projection_laws.specs.mesa_history_spec.Machine.{Machine}
-use Rattle.mesa_projection_laws.specs.mesa_history_spec.Replay.{machine_after, stepped}
-use Rattle.mesa_projection_laws.specs.mesa_history_spec.Run.{State}
-use Rattle.mesa_projection_laws.specs.Bare.{bare, bare_done, bare_result}
+use Rattle.mesa_history_spec.specs.mesa_schema.declared.changes.Change.{Change}
+use Rattle.mesa_history_spec.specs.mesa_schema.Changes.{change_checked, columns_of, epoch_of}
+use Rattle.mesa_history_spec.specs.mesa_schema.Names.{is_name}
+use Rattle.mesa_history_spec.specs.mesa_schema.Schema.{schema_checked}
+use Rattle.mesa_history_spec.specs.mesa_schema.Views.{with_view}
+use Rattle.mesa_history_spec.specs.mesa_batch.Batch.{Placed, batch_of}
+use Rattle.mesa_history_spec.specs.mesa_batch.declared.words.RowWords.{RowWords}
+use Rattle.mesa_history_spec.specs.mesa_model.declared.commands.AlterWords.{AlterWords}
+use Rattle.mesa_history_spec.specs.mesa_model.declared.commands.TableWords.{TableWords}
+use Rattle.mesa_history_spec.specs.mesa_model.declared.commands.ViewWords.{ViewWords}
+use Rattle.mesa_history_spec.specs.mesa_model.declared.replies.Refusal.{Refusal}
+use Rattle.mesa_history_spec.specs.mesa_model.declared.replies.Refusal.TheVariants as no
+use Rattle.mesa_history_spec.specs.mesa_model.declared.replies.Reply.{Reply}
+use Rattle.mesa_history_spec.specs.mesa_model.declared.replies.Reply.TheVariants as reply
+use Rattle.mesa_history_spec.specs.mesa_model.declared.replies.SchemaFault.TheVariants as fault
+use Rattle.mesa_history_spec.specs.mesa_model.Load.{load_batch, bounds_checked, tables_named, with_batch}
+use Rattle.mesa_history_spec.specs.mesa_model.Refusals.{no_such_table, refuse_closed, bad_schema, batch_refusal, schema_refusal, change_refusal}
+use Rattle.mesa_history_spec.specs.mesa_model.Relations.{is_taken, table_number}
+use Rattle.mesa_history_spec.specs.mesa_model.Tables.{make_table, make_view, alter_table, columns_asked, names_are_good, new_table, view_of_table_checked, change_asked, changed_name, table_changed}
+use Rattle.mesa_history_spec.specs.mesa_model.Versions.{expire_all, expire_table, store_from, table_from, version_checked}
+use Rattle.mesa_history_spec.specs.mesa_model.Warehouse.{Warehouse, max_tables, max_versions, table_at, with_table, with_tables}
+use Rattle.mesa_history_spec.specs.Found.{kept_of}
+use Rattle.mesa_history_spec.specs.Machine.{Machine}
+use Rattle.mesa_history_spec.specs.Replay.{machine_after, stepped}
+use Rattle.mesa_history_spec.specs.Run.{State}
+use Rattle.mesa_history_spec.specs.Bare.{bare, bare_done, bare_result}
 use Rattle.mesa_invariant_spec.specs.Books.{Books, AreBooksOf}
 use Rattle.mesa_invariant_spec.specs.Changes.{Doing, IsChange, is_plain}
 use Rattle.mesa_invariant_spec.proofs.Pinning.{bare_after}

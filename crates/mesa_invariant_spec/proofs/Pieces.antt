@@ -2,10 +2,10 @@
 use Rattle.std.proofs.Common.{◌≡◌, ℕ, List, [], ◌∷◌, ◌++◌, Bool, true, false, refl, sym, ◌∙◌, ap, subst, append_assoc, append-nil, Option, None, Some}
 use Rattle.std.specs.Io.KnownBytes.{Appends}
 use Rattle.std.proofs.KnownBytes.{Appends-trans, Appends-nil}
-use Rattle.mesa_projection_laws.specs.mesa_model.declared.commands.Script.{Script}
-use Rattle.mesa_projection_laws.specs.mesa_model.declared.entries.Entry.{Entry}
-use Rattle.mesa_projection_laws.specs.mesa_history_spec.Run.{Told, Run}
-use Rattle.mesa_projection_laws.specs.mesa_history_spec.Replay.{told_by, runs, go}
+use Rattle.mesa_history_spec.specs.mesa_model.declared.commands.Script.{Script}
+use Rattle.mesa_history_spec.specs.mesa_model.declared.entries.Entry.{Entry}
+use Rattle.mesa_history_spec.specs.Run.{Told, Run}
+use Rattle.mesa_history_spec.specs.Replay.{told_by, runs, go}
 use Rattle.mesa_history_spec.specs.Output.{IsBlock}
 use Rattle.mesa_invariant_spec.specs.Printing.{HasAllButRows, HasFrontButRows, IsBlockButRows, IsOutputButRows, IsPrintedButRows, IsPut, Prints}
 use Rattle.mesa_invariant_spec.proofs.Printed.{no_block}

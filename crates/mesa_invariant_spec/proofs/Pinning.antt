@@ -3,26 +3,26 @@ use Rattle.std.proofs.Common.{◌≡◌, ℕ, ◌<◌, ◌^◌, List, [], ◌∷
 use Rattle.std.specs.Prelude.{is_none}
 use Rattle.mesa_list.specs.Checks.{◌>>=◌, ◌>>◌, refuse_if}
 use Rattle.mesa_disk.specs.Story.{Story}
-use Rattle.mesa_projection_laws.specs.mesa_filter.declared.words.VersionWord.{VersionWord}
-use Rattle.mesa_projection_laws.specs.mesa_model.declared.commands.Command.TheVariants as command
-use Rattle.mesa_projection_laws.specs.mesa_model.declared.entries.Entry.{Entry}
-use Rattle.mesa_projection_laws.specs.mesa_model.declared.entries.Kind.TheVariants as kind
-use Rattle.mesa_projection_laws.specs.mesa_model.declared.entries.Outcome.TheVariants as outcome
-use Rattle.mesa_projection_laws.specs.mesa_model.declared.replies.Refusal.{Refusal}
-use Rattle.mesa_projection_laws.specs.mesa_model.declared.replies.Refusal.TheVariants as no
-use Rattle.mesa_projection_laws.specs.mesa_model.declared.replies.Reply.{Reply}
-use Rattle.mesa_projection_laws.specs.mesa_model.declared.replies.Reply.TheVariants as reply
-use Rattle.mesa_projection_laws.specs.mesa_model.Warehouse.{Warehouse, max_pins}
-use Rattle.mesa_projection_laws.specs.mesa_model.Pins.{make_pin, release_pin, with_pin, next_token, store_at, pin_of}
-use Rattle.mesa_projection_laws.specs.mesa_model.Refusals.{refuse_closed}
-use Rattle.mesa_projection_laws.specs.mesa_model.Versions.{common_oldest, version_asked}
-use Rattle.mesa_projection_laws.specs.mesa_history_spec.Run.{First}
-use Rattle.mesa_projection_laws.specs.mesa_history_spec.Replay.{stepped}
-use Rattle.mesa_projection_laws.specs.mesa_history_spec.Found.{kept_of}
-use Rattle.mesa_projection_laws.specs.mesa_history_spec.Turns.{IsDue}
+use Rattle.mesa_history_spec.specs.mesa_filter.declared.words.VersionWord.{VersionWord}
+use Rattle.mesa_history_spec.specs.mesa_model.declared.commands.Command.TheVariants as command
+use Rattle.mesa_history_spec.specs.mesa_model.declared.entries.Entry.{Entry}
+use Rattle.mesa_history_spec.specs.mesa_model.declared.entries.Kind.TheVariants as kind
+use Rattle.mesa_history_spec.specs.mesa_model.declared.entries.Outcome.TheVariants as outcome
+use Rattle.mesa_history_spec.specs.mesa_model.declared.replies.Refusal.{Refusal}
+use Rattle.mesa_history_spec.specs.mesa_model.declared.replies.Refusal.TheVariants as no
+use Rattle.mesa_history_spec.specs.mesa_model.declared.replies.Reply.{Reply}
+use Rattle.mesa_history_spec.specs.mesa_model.declared.replies.Reply.TheVariants as reply
+use Rattle.mesa_history_spec.specs.mesa_model.Warehouse.{Warehouse, max_pins}
+use Rattle.mesa_history_spec.specs.mesa_model.Pins.{make_pin, release_pin, with_pin, next_token, store_at, pin_of}
+use Rattle.mesa_history_spec.specs.mesa_model.Refusals.{refuse_closed}
+use Rattle.mesa_history_spec.specs.mesa_model.Versions.{common_oldest, version_asked}
+use Rattle.mesa_history_spec.specs.Run.{First}
+use Rattle.mesa_history_spec.specs.Replay.{stepped}
+use Rattle.mesa_history_spec.specs.Found.{kept_of}
+use Rattle.mesa_history_spec.specs.Turns.{IsDue}
 use Rattle.mesa_history_spec.specs.Output.{block}
-use Rattle.mesa_projection_laws.specs.Bare.{bare, bare_done, bare_result}
-use Rattle.mesa_projection_laws.proofs.Steps.{pin-bare, release-bare}
+use Rattle.mesa_history_spec.specs.Bare.{bare, bare_done, bare_result}
+use Rattle.mesa_history_spec.proofs.BareSteps.{pin-bare, release-bare}
 use Rattle.mesa_invariant_spec.specs.Books.{Books, pinned_books, without_pin, released_books}
 use Rattle.mesa_invariant_spec.specs.Causes.{told_at}
 use Rattle.mesa_invariant_spec.specs.Changes.{Doing, IsChange, MakesPin, ReleasesPin}

@@ -3,13 +3,13 @@ use Rattle.std.proofs.Common.{◌≡◌, ◌<◌, ℕ, List, [], ◌∷◌, ◌+
 use Rattle.std.specs.Io.KnownBytes.{Appends}
 use Rattle.std.proofs.KnownBytes.{Appends-trans, Appends-nil}
 use Rattle.mesa_io.specs.Causes.{last}
-use Rattle.mesa_projection_laws.specs.mesa_model.declared.commands.Script.{Script}
-use Rattle.mesa_projection_laws.specs.mesa_model.declared.entries.Entry.{Entry}
-use Rattle.mesa_projection_laws.specs.mesa_model.declared.entries.Outcome.{Outcome}
-use Rattle.mesa_projection_laws.specs.mesa_model.declared.entries.Outcome.TheVariants as outcome
-use Rattle.mesa_projection_laws.specs.mesa_history_spec.Run.{Told, Run}
-use Rattle.mesa_projection_laws.specs.mesa_history_spec.Replay.{told_by, some_damage, is_skipped, last_of, runs}
-use Rattle.mesa_projection_laws.specs.mesa_history_spec.Legal.{fits_sink}
+use Rattle.mesa_history_spec.specs.mesa_model.declared.commands.Script.{Script}
+use Rattle.mesa_history_spec.specs.mesa_model.declared.entries.Entry.{Entry}
+use Rattle.mesa_history_spec.specs.mesa_model.declared.entries.Outcome.{Outcome}
+use Rattle.mesa_history_spec.specs.mesa_model.declared.entries.Outcome.TheVariants as outcome
+use Rattle.mesa_history_spec.specs.Run.{Told, Run}
+use Rattle.mesa_history_spec.specs.Replay.{told_by, some_damage, is_skipped, last_of, runs}
+use Rattle.mesa_history_spec.specs.Legal.{fits_sink}
 use Rattle.mesa_history_spec.specs.Output.{block, IsDamage, IsBlock, IsBlockAs}
 use Rattle.mesa_history_spec.proofs.Printing.{output_more}
 use Rattle.mesa_invariant_spec.specs.Causes.{Cause, Replies, Unread, Damaged, Unwritten, NoMemory, outcome_of, reply_of, replayed, CanBeTold, told_at}

@@ -1,19 +1,19 @@
 -- What books without rows say of a state with them.
 use Rattle.std.proofs.Common.{◌≡◌, List, Bool, true, false, refl, sym, ◌∙◌, ap, Result, Ok, Err}
 use Rattle.std.specs.Prelude.{is_ok}
-use Rattle.mesa_projection_laws.specs.mesa_schema.Changes.{columns_of}
-use Rattle.mesa_projection_laws.specs.mesa_batch.Batch.{Named, batch_of}
-use Rattle.mesa_projection_laws.specs.mesa_model.declared.commands.Command.{Command}
-use Rattle.mesa_projection_laws.specs.mesa_model.declared.commands.Command.TheVariants as command
-use Rattle.mesa_projection_laws.specs.mesa_model.declared.replies.Refusal.{Refusal}
-use Rattle.mesa_projection_laws.specs.mesa_model.declared.replies.Reply.{Reply}
-use Rattle.mesa_projection_laws.specs.mesa_model.declared.replies.Reply.TheVariants as reply
-use Rattle.mesa_projection_laws.specs.mesa_model.Warehouse.{Table, Store, Warehouse}
-use Rattle.mesa_projection_laws.specs.mesa_model.Load.{tables_named}
-use Rattle.mesa_projection_laws.specs.mesa_history_spec.Run.{State}
-use Rattle.mesa_projection_laws.specs.mesa_history_spec.Legal.{builds_files}
-use Rattle.mesa_projection_laws.specs.Bare.{bare_table, bare_store, bare_reply, bare_result}
-use Rattle.mesa_projection_laws.proofs.Lists.{maps_same}
+use Rattle.mesa_history_spec.specs.mesa_schema.Changes.{columns_of}
+use Rattle.mesa_history_spec.specs.mesa_batch.Batch.{Named, batch_of}
+use Rattle.mesa_history_spec.specs.mesa_model.declared.commands.Command.{Command}
+use Rattle.mesa_history_spec.specs.mesa_model.declared.commands.Command.TheVariants as command
+use Rattle.mesa_history_spec.specs.mesa_model.declared.replies.Refusal.{Refusal}
+use Rattle.mesa_history_spec.specs.mesa_model.declared.replies.Reply.{Reply}
+use Rattle.mesa_history_spec.specs.mesa_model.declared.replies.Reply.TheVariants as reply
+use Rattle.mesa_history_spec.specs.mesa_model.Warehouse.{Table, Store, Warehouse}
+use Rattle.mesa_history_spec.specs.mesa_model.Load.{tables_named}
+use Rattle.mesa_history_spec.specs.Run.{State}
+use Rattle.mesa_history_spec.specs.Legal.{builds_files}
+use Rattle.mesa_history_spec.specs.Bare.{bare_table, bare_store, bare_reply, bare_result}
+use Rattle.mesa_history_spec.proofs.BareLists.{maps_same}
 use Rattle.mesa_invariant_spec.specs.Books.{Books, AreBooksOf}
 use Rattle.mesa_invariant_spec.specs.Changes.{is_plain}
 

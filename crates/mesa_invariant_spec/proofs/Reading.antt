@@ -2,22 +2,22 @@
 use Rattle.std.proofs.Common.{◌≡◌, ℕ, ◌<◌, ◌^◌, List, length, Bool, true, false, not, ◌||◌, IsTrue, refl, sym, ◌∙◌, ap, Option, Some, Ok}
 use Rattle.std.specs.Prelude.{is_none}
 use Rattle.mesa_disk.specs.Story.{Story}
-use Rattle.mesa_projection_laws.specs.mesa_batch.declared.words.RowWords.{RowWords}
-use Rattle.mesa_projection_laws.specs.mesa_model.declared.commands.Command.TheVariants as command
-use Rattle.mesa_projection_laws.specs.mesa_model.declared.commands.ExplainWords.{ExplainWords}
-use Rattle.mesa_projection_laws.specs.mesa_model.declared.entries.Entry.{Entry}
-use Rattle.mesa_projection_laws.specs.mesa_model.declared.entries.Kind.TheVariants as kind
-use Rattle.mesa_projection_laws.specs.mesa_model.declared.entries.Outcome.{Outcome}
-use Rattle.mesa_projection_laws.specs.mesa_model.declared.entries.Outcome.TheVariants as outcome
-use Rattle.mesa_projection_laws.specs.mesa_model.declared.replies.Reply.{Reply}
-use Rattle.mesa_projection_laws.specs.mesa_history_spec.Machine.{explained}
-use Rattle.mesa_projection_laws.specs.mesa_history_spec.Run.{First, Looked, Run}
-use Rattle.mesa_projection_laws.specs.mesa_history_spec.Replay.{decided_explain, prints}
-use Rattle.mesa_projection_laws.specs.mesa_history_spec.Legal.{is_written}
-use Rattle.mesa_projection_laws.specs.mesa_history_spec.Refused.{is_refusal}
-use Rattle.mesa_projection_laws.specs.mesa_history_spec.Turns.{IsDue}
+use Rattle.mesa_history_spec.specs.mesa_batch.declared.words.RowWords.{RowWords}
+use Rattle.mesa_history_spec.specs.mesa_model.declared.commands.Command.TheVariants as command
+use Rattle.mesa_history_spec.specs.mesa_model.declared.commands.ExplainWords.{ExplainWords}
+use Rattle.mesa_history_spec.specs.mesa_model.declared.entries.Entry.{Entry}
+use Rattle.mesa_history_spec.specs.mesa_model.declared.entries.Kind.TheVariants as kind
+use Rattle.mesa_history_spec.specs.mesa_model.declared.entries.Outcome.{Outcome}
+use Rattle.mesa_history_spec.specs.mesa_model.declared.entries.Outcome.TheVariants as outcome
+use Rattle.mesa_history_spec.specs.mesa_model.declared.replies.Reply.{Reply}
+use Rattle.mesa_history_spec.specs.Machine.{explained}
+use Rattle.mesa_history_spec.specs.Run.{First, Looked, Run}
+use Rattle.mesa_history_spec.specs.Replay.{decided_explain, prints}
+use Rattle.mesa_history_spec.specs.Legal.{is_written}
+use Rattle.mesa_history_spec.specs.Refused.{is_refusal}
+use Rattle.mesa_history_spec.specs.Turns.{IsDue}
 use Rattle.mesa_history_spec.specs.Output.{block}
-use Rattle.mesa_projection_laws.proofs.Steps.{explain-bare}
+use Rattle.mesa_history_spec.proofs.BareSteps.{explain-bare}
 use Rattle.mesa_invariant_spec.specs.Books.{Books}
 use Rattle.mesa_invariant_spec.specs.Causes.{Cause, Replies, Unread, Damaged, Unwritten, NoMemory, outcome_of, reply_of, told_at}
 use Rattle.mesa_invariant_spec.specs.Changes.{HasNoPlan}

@@ -2,25 +2,25 @@
 use Rattle.std.proofs.Common.{◌≡◌, ℕ, ◌<◌, ◌^◌, List, length, map, slice_set, Bool, true, false, ◌||◌, IsTrue, refl, sym, ◌∙◌, ap, Option, Some, Ok, Err}
 use Rattle.mesa_io.specs.Causes.{last}
 use Rattle.mesa_disk.specs.Story.{Story, Unmoved}
-use Rattle.mesa_projection_laws.specs.mesa_schema.Recasts.{Recast}
-use Rattle.mesa_projection_laws.specs.mesa_model.declared.commands.Command.{Command}
-use Rattle.mesa_projection_laws.specs.mesa_model.declared.entries.Entry.{Entry}
-use Rattle.mesa_projection_laws.specs.mesa_model.declared.entries.Kind.TheVariants as kind
-use Rattle.mesa_projection_laws.specs.mesa_model.declared.entries.Outcome.TheVariants as outcome
-use Rattle.mesa_projection_laws.specs.mesa_model.declared.replies.Refusal.{Refusal}
-use Rattle.mesa_projection_laws.specs.mesa_model.declared.replies.Reply.{Reply}
-use Rattle.mesa_projection_laws.specs.mesa_model.declared.replies.Reply.TheVariants as reply
-use Rattle.mesa_projection_laws.specs.mesa_model.Tables.{recast_reply, table_recast, with_recast}
-use Rattle.mesa_projection_laws.specs.mesa_model.Warehouse.{Table, Warehouse, table_at}
-use Rattle.mesa_projection_laws.specs.mesa_history_spec.Machine.{Claim, Recasts, claim_checked, claim_recast, still_checked}
-use Rattle.mesa_projection_laws.specs.mesa_history_spec.Run.{State, Renewed, Run}
-use Rattle.mesa_projection_laws.specs.mesa_history_spec.Replay.{completes, does, prints, recasted, recasts}
-use Rattle.mesa_projection_laws.specs.mesa_history_spec.Legal.{is_work}
-use Rattle.mesa_projection_laws.specs.mesa_history_spec.Found.{Kept}
-use Rattle.mesa_projection_laws.specs.mesa_history_spec.Turns.{IsDue}
-use Rattle.mesa_projection_laws.specs.Bare.{bare, bare_store, bare_table}
-use Rattle.mesa_projection_laws.proofs.Lists.{set_same}
-use Rattle.mesa_projection_laws.proofs.Steps.{table_bare}
+use Rattle.mesa_history_spec.specs.mesa_schema.Recasts.{Recast}
+use Rattle.mesa_history_spec.specs.mesa_model.declared.commands.Command.{Command}
+use Rattle.mesa_history_spec.specs.mesa_model.declared.entries.Entry.{Entry}
+use Rattle.mesa_history_spec.specs.mesa_model.declared.entries.Kind.TheVariants as kind
+use Rattle.mesa_history_spec.specs.mesa_model.declared.entries.Outcome.TheVariants as outcome
+use Rattle.mesa_history_spec.specs.mesa_model.declared.replies.Refusal.{Refusal}
+use Rattle.mesa_history_spec.specs.mesa_model.declared.replies.Reply.{Reply}
+use Rattle.mesa_history_spec.specs.mesa_model.declared.replies.Reply.TheVariants as reply
+use Rattle.mesa_history_spec.specs.mesa_model.Tables.{recast_reply, table_recast, with_recast}
+use Rattle.mesa_history_spec.specs.mesa_model.Warehouse.{Table, Warehouse, table_at}
+use Rattle.mesa_history_spec.specs.Machine.{Claim, Recasts, claim_checked, claim_recast, still_checked}
+use Rattle.mesa_history_spec.specs.Run.{State, Renewed, Run}
+use Rattle.mesa_history_spec.specs.Replay.{completes, does, prints, recasted, recasts}
+use Rattle.mesa_history_spec.specs.Legal.{is_work}
+use Rattle.mesa_history_spec.specs.Found.{Kept}
+use Rattle.mesa_history_spec.specs.Turns.{IsDue}
+use Rattle.mesa_history_spec.specs.Bare.{bare, bare_store, bare_table}
+use Rattle.mesa_history_spec.proofs.BareLists.{set_same}
+use Rattle.mesa_history_spec.proofs.BareSteps.{table_bare}
 use Rattle.mesa_history_spec.specs.Output.{block}
 use Rattle.mesa_invariant_spec.specs.Books.{Books, AreBooksOf, closed_books, ended_books, recast_books}
 use Rattle.mesa_invariant_spec.specs.Causes.{Unwritten, reply_of, told_at}

@@ -4,18 +4,18 @@ use Rattle.std.proofs.lemmas.Bool.Decides.{leb_tells}
 use Rattle.mesa_io.specs.Causes.{last}
 use Rattle.mesa_disk.specs.Image.{Image}
 use Rattle.mesa_disk.specs.Story.{Story, Elapses, Unmoved, Spans}
-use Rattle.mesa_projection_laws.specs.mesa_model.declared.entries.Entry.{Entry}
-use Rattle.mesa_projection_laws.specs.mesa_model.Entry.{IsShort}
-use Rattle.mesa_projection_laws.specs.mesa_history_spec.Run.{Run, begins}
-use Rattle.mesa_projection_laws.specs.mesa_history_spec.Replay.{Turned, turned, told_by, closes, stood, is_skipped, last_of, go}
-use Rattle.mesa_projection_laws.specs.mesa_history_spec.Legal.{Fits, fits_sink}
-use Rattle.mesa_projection_laws.specs.mesa_history_spec.Found.{Kept, kept_of, kept_in, Found}
-use Rattle.mesa_projection_laws.specs.mesa_history_spec.Counting.{one_if, is_disk_fault}
-use Rattle.mesa_projection_laws.specs.mesa_history_spec.Refused.{some_refused, tells_refusal}
-use Rattle.mesa_projection_laws.proofs.mesa_history_spec.More.{runs_more, fit_more, state_after, moment_after, last_after, kept_after, kept_in_is}
-use Rattle.mesa_projection_laws.proofs.mesa_history_spec.Counting.{count_more}
-use Rattle.mesa_projection_laws.proofs.mesa_history_spec.Refusing.{refused_more}
-use Rattle.mesa_projection_laws.proofs.mesa_history_spec.Finding.{all_more, all_later, still, without, with_it, as_tried, unchanged}
+use Rattle.mesa_history_spec.specs.mesa_model.declared.entries.Entry.{Entry}
+use Rattle.mesa_history_spec.specs.mesa_model.Entry.{IsShort}
+use Rattle.mesa_history_spec.specs.Run.{Run, begins}
+use Rattle.mesa_history_spec.specs.Replay.{Turned, turned, told_by, closes, stood, is_skipped, last_of, go}
+use Rattle.mesa_history_spec.specs.Legal.{Fits, fits_sink}
+use Rattle.mesa_history_spec.specs.Found.{Kept, kept_of, kept_in, Found}
+use Rattle.mesa_history_spec.specs.Counting.{one_if, is_disk_fault}
+use Rattle.mesa_history_spec.specs.Refused.{some_refused, tells_refusal}
+use Rattle.mesa_history_spec.proofs.More.{runs_more, fit_more, state_after, moment_after, last_after, kept_after, kept_in_is}
+use Rattle.mesa_history_spec.proofs.Counting.{count_more}
+use Rattle.mesa_history_spec.proofs.Refusing.{refused_more}
+use Rattle.mesa_history_spec.proofs.Finding.{all_more, all_later, still, without, with_it, as_tried, unchanged}
 use Rattle.mesa_invariant_spec.specs.Books.{Books, AreBooksOf}
 use Rattle.mesa_invariant_spec.specs.Printing.{Prints}
 use Rattle.mesa_invariant_spec.specs.Invariant.{Outset, run_of, IsAtClock, AllFound, HasCounted, faults_in, HoldsInvariant, Counts, StandsForEither, AllStand, HasLaws, Passes}

@@ -2,23 +2,23 @@
 use Rattle.std.proofs.Common.{◌≡◌, ℕ, ◌<◌, List, length, Bool, true, false, not, ◌||◌, IsTrue, refl, sym, ◌∙◌, ap, subst, arith, Option, None, Some}
 use Rattle.mesa_io.specs.Causes.{Rose, last}
 use Rattle.mesa_disk.specs.Story.{Story, Unmoved, Spans}
-use Rattle.mesa_projection_laws.specs.mesa_model.declared.commands.Command.{Command}
-use Rattle.mesa_projection_laws.specs.mesa_model.declared.entries.Entry.{Entry}
-use Rattle.mesa_projection_laws.specs.mesa_model.declared.entries.Kind.{Kind}
-use Rattle.mesa_projection_laws.specs.mesa_model.declared.entries.Outcome.TheVariants as outcome
-use Rattle.mesa_projection_laws.specs.mesa_model.declared.replies.Reply.{Reply}
-use Rattle.mesa_projection_laws.specs.mesa_model.Entry.{IsShort}
-use Rattle.mesa_projection_laws.specs.mesa_model.Warehouse.{Warehouse}
-use Rattle.mesa_projection_laws.specs.mesa_history_spec.Run.{State, Stage, CutOff, Run, begins}
-use Rattle.mesa_projection_laws.specs.mesa_history_spec.Replay.{Turned, turned, turn_of, told_by, leaves, prints, closes, stood, is_skipped, go}
-use Rattle.mesa_projection_laws.specs.mesa_history_spec.Legal.{is_due_at, is_written, wrote, fits_sink}
-use Rattle.mesa_projection_laws.specs.mesa_history_spec.Found.{Kept, kept_of, kept_in}
-use Rattle.mesa_projection_laws.specs.mesa_history_spec.Counting.{is_disk_fault}
-use Rattle.mesa_projection_laws.specs.mesa_history_spec.Refused.{is_refusal, tells_refusal}
-use Rattle.mesa_projection_laws.specs.mesa_history_spec.Turns.{IsDue}
-use Rattle.mesa_projection_laws.proofs.mesa_history_spec.More.{position_is}
-use Rattle.mesa_projection_laws.proofs.mesa_history_spec.Refusing.{or-false}
-use Rattle.mesa_projection_laws.proofs.mesa_history_spec.Turns.{MayCome, turned_at, fits_at}
+use Rattle.mesa_history_spec.specs.mesa_model.declared.commands.Command.{Command}
+use Rattle.mesa_history_spec.specs.mesa_model.declared.entries.Entry.{Entry}
+use Rattle.mesa_history_spec.specs.mesa_model.declared.entries.Kind.{Kind}
+use Rattle.mesa_history_spec.specs.mesa_model.declared.entries.Outcome.TheVariants as outcome
+use Rattle.mesa_history_spec.specs.mesa_model.declared.replies.Reply.{Reply}
+use Rattle.mesa_history_spec.specs.mesa_model.Entry.{IsShort}
+use Rattle.mesa_history_spec.specs.mesa_model.Warehouse.{Warehouse}
+use Rattle.mesa_history_spec.specs.Run.{State, Stage, CutOff, Run, begins}
+use Rattle.mesa_history_spec.specs.Replay.{Turned, turned, turn_of, told_by, leaves, prints, closes, stood, is_skipped, go}
+use Rattle.mesa_history_spec.specs.Legal.{is_due_at, is_written, wrote, fits_sink}
+use Rattle.mesa_history_spec.specs.Found.{Kept, kept_of, kept_in}
+use Rattle.mesa_history_spec.specs.Counting.{is_disk_fault}
+use Rattle.mesa_history_spec.specs.Refused.{is_refusal, tells_refusal}
+use Rattle.mesa_history_spec.specs.Turns.{IsDue}
+use Rattle.mesa_history_spec.proofs.More.{position_is}
+use Rattle.mesa_history_spec.proofs.Refusing.{or-false}
+use Rattle.mesa_history_spec.proofs.Turns.{MayCome, turned_at, fits_at}
 use Rattle.mesa_history_spec.specs.Output.{block}
 use Rattle.mesa_invariant_spec.specs.Books.{Books, AreBooksOf}
 use Rattle.mesa_invariant_spec.specs.Causes.{Cause, Replies, Unread, Damaged, Unwritten, NoMemory, outcome_of, reply_of, replayed, CanBeTold, told_at}

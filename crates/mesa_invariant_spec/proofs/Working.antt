@@ -8,37 +8,37 @@ use Rattle.mesa_span.specs.declared.works.Work.{Work}
 use Rattle.mesa_span.specs.declared.works.Work.TheVariants as range
 use Rattle.mesa_lease.specs.Book.{holder}
 use Rattle.mesa_span.specs.Work.{next_work}
-use Rattle.mesa_projection_laws.specs.mesa_schema.Changes.{epoch_of}
-use Rattle.mesa_projection_laws.specs.mesa_schema.Recasts.{recast_checked}
-use Rattle.mesa_projection_laws.specs.mesa_model.declared.commands.Command.{Command}
-use Rattle.mesa_projection_laws.specs.mesa_model.declared.commands.Command.TheVariants as command
-use Rattle.mesa_projection_laws.specs.mesa_model.declared.commands.RecastWords.{RecastWords}
-use Rattle.mesa_projection_laws.specs.mesa_model.declared.commands.Script.{Script}
-use Rattle.mesa_projection_laws.specs.mesa_model.declared.entries.Entry.{Entry}
-use Rattle.mesa_projection_laws.specs.mesa_model.declared.entries.Kind.{Kind}
-use Rattle.mesa_projection_laws.specs.mesa_model.declared.entries.Kind.TheVariants as kind
-use Rattle.mesa_projection_laws.specs.mesa_model.declared.entries.Outcome.{Outcome}
-use Rattle.mesa_projection_laws.specs.mesa_model.declared.entries.Outcome.TheVariants as outcome
-use Rattle.mesa_projection_laws.specs.mesa_model.declared.replies.Refusal.{Refusal}
-use Rattle.mesa_projection_laws.specs.mesa_model.declared.replies.Refusal.TheVariants as no
-use Rattle.mesa_projection_laws.specs.mesa_model.declared.replies.Reply.{Reply}
-use Rattle.mesa_projection_laws.specs.mesa_model.declared.replies.Reply.TheVariants as reply
-use Rattle.mesa_projection_laws.specs.mesa_model.Entry.{IsShort}
-use Rattle.mesa_projection_laws.specs.mesa_model.Refusals.{no_such_table, recast_refusal, refuse_closed}
-use Rattle.mesa_projection_laws.specs.mesa_model.Relations.{table_number}
-use Rattle.mesa_projection_laws.specs.mesa_model.Tables.{recast_asked}
-use Rattle.mesa_projection_laws.specs.mesa_model.Warehouse.{Store, Warehouse, newest_of, table_at}
-use Rattle.mesa_projection_laws.specs.mesa_history_spec.Machine.{Machine, Claim, Merges, Recasts, ranges_at, refuse_busy, claim_of, recast_claim_of, max_deltas, singletons_of, claimed, claim_checked, claim_renewed, claim_ended, claim_merged, swapped_reply}
-use Rattle.mesa_projection_laws.specs.mesa_history_spec.Run.{State, Stage, First, Granted, Renewed, Finished, Run, begins}
-use Rattle.mesa_projection_laws.specs.mesa_history_spec.Replay.{Turned, turn_of, leaves, place_after, prints, refuses, refused_at, refused_turn, grants, claim_asked, renews, close, completes, does, closed_off, closed_if, closes, with_machine, some_damage, stood}
-use Rattle.mesa_projection_laws.specs.mesa_history_spec.Legal.{builds_files, is_answered, is_due_at, is_work, is_written, outcome_fits, wrote}
-use Rattle.mesa_projection_laws.specs.mesa_history_spec.Found.{Kept, kept_of}
-use Rattle.mesa_projection_laws.specs.mesa_history_spec.Refused.{is_refusal}
-use Rattle.mesa_projection_laws.specs.mesa_history_spec.Turns.{IsDue, would_print}
-use Rattle.mesa_projection_laws.proofs.mesa_history_spec.More.{kept_after, runs_more}
-use Rattle.mesa_projection_laws.proofs.mesa_history_spec.Turns.{goes_to, prologue_after, turned_at}
+use Rattle.mesa_history_spec.specs.mesa_schema.Changes.{epoch_of}
+use Rattle.mesa_history_spec.specs.mesa_schema.Recasts.{recast_checked}
+use Rattle.mesa_history_spec.specs.mesa_model.declared.commands.Command.{Command}
+use Rattle.mesa_history_spec.specs.mesa_model.declared.commands.Command.TheVariants as command
+use Rattle.mesa_history_spec.specs.mesa_model.declared.commands.RecastWords.{RecastWords}
+use Rattle.mesa_history_spec.specs.mesa_model.declared.commands.Script.{Script}
+use Rattle.mesa_history_spec.specs.mesa_model.declared.entries.Entry.{Entry}
+use Rattle.mesa_history_spec.specs.mesa_model.declared.entries.Kind.{Kind}
+use Rattle.mesa_history_spec.specs.mesa_model.declared.entries.Kind.TheVariants as kind
+use Rattle.mesa_history_spec.specs.mesa_model.declared.entries.Outcome.{Outcome}
+use Rattle.mesa_history_spec.specs.mesa_model.declared.entries.Outcome.TheVariants as outcome
+use Rattle.mesa_history_spec.specs.mesa_model.declared.replies.Refusal.{Refusal}
+use Rattle.mesa_history_spec.specs.mesa_model.declared.replies.Refusal.TheVariants as no
+use Rattle.mesa_history_spec.specs.mesa_model.declared.replies.Reply.{Reply}
+use Rattle.mesa_history_spec.specs.mesa_model.declared.replies.Reply.TheVariants as reply
+use Rattle.mesa_history_spec.specs.mesa_model.Entry.{IsShort}
+use Rattle.mesa_history_spec.specs.mesa_model.Refusals.{no_such_table, recast_refusal, refuse_closed}
+use Rattle.mesa_history_spec.specs.mesa_model.Relations.{table_number}
+use Rattle.mesa_history_spec.specs.mesa_model.Tables.{recast_asked}
+use Rattle.mesa_history_spec.specs.mesa_model.Warehouse.{Store, Warehouse, newest_of, table_at}
+use Rattle.mesa_history_spec.specs.Machine.{Machine, Claim, Merges, Recasts, ranges_at, refuse_busy, claim_of, recast_claim_of, max_deltas, singletons_of, claimed, claim_checked, claim_renewed, claim_ended, claim_merged, swapped_reply}
+use Rattle.mesa_history_spec.specs.Run.{State, Stage, First, Granted, Renewed, Finished, Run, begins}
+use Rattle.mesa_history_spec.specs.Replay.{Turned, turn_of, leaves, place_after, prints, refuses, refused_at, refused_turn, grants, claim_asked, renews, close, completes, does, closed_off, closed_if, closes, with_machine, some_damage, stood}
+use Rattle.mesa_history_spec.specs.Legal.{builds_files, is_answered, is_due_at, is_work, is_written, outcome_fits, wrote}
+use Rattle.mesa_history_spec.specs.Found.{Kept, kept_of}
+use Rattle.mesa_history_spec.specs.Refused.{is_refusal}
+use Rattle.mesa_history_spec.specs.Turns.{IsDue, would_print}
+use Rattle.mesa_history_spec.proofs.More.{kept_after, runs_more}
+use Rattle.mesa_history_spec.proofs.Turns.{goes_to, prologue_after, turned_at}
 use Rattle.mesa_history_spec.specs.Output.{block}
-use Rattle.mesa_projection_laws.proofs.Steps.{asked-bare}
+use Rattle.mesa_history_spec.proofs.BareSteps.{asked-bare}
 use Rattle.mesa_invariant_spec.specs.Books.{Books, AreBooksOf, closed_books, closed_books_if, granted_books, renewed_books, ended_books, swapped_books}
 use Rattle.mesa_invariant_spec.specs.Causes.{Cause, Replies, Unread, Damaged, Unwritten, NoMemory, is_read_fault, outcome_of, reply_of, told_at}
 use Rattle.mesa_invariant_spec.specs.Printing.{IsPut}

@@ -1,14 +1,14 @@
 -- What a vault's books stand for.
 use Rattle.std.specs.Prelude.{◌≡◌, ℕ, List, [], ◌∷◌, ◌++◌, filter, Bool, true, false, not, Some, IsTrue}
-use Rattle.mesa_projection_laws.specs.mesa_schema.Recasts.{Recast}
-use Rattle.mesa_projection_laws.specs.mesa_model.Warehouse.{Pin, Warehouse}
-use Rattle.mesa_projection_laws.specs.mesa_model.Pins.{with_pin, next_token, store_at, is_pin}
-use Rattle.mesa_projection_laws.specs.mesa_model.Tables.{with_recast}
+use Rattle.mesa_history_spec.specs.mesa_schema.Recasts.{Recast}
+use Rattle.mesa_history_spec.specs.mesa_model.Warehouse.{Pin, Warehouse}
+use Rattle.mesa_history_spec.specs.mesa_model.Pins.{with_pin, next_token, store_at, is_pin}
+use Rattle.mesa_history_spec.specs.mesa_model.Tables.{with_recast}
 use Rattle.mesa_span.specs.declared.works.Work.{Work}
-use Rattle.mesa_projection_laws.specs.mesa_history_spec.Machine.{Machine, Claim, claimed, claim_renewed, claim_ended, claim_merged, claim_recast}
-use Rattle.mesa_projection_laws.specs.mesa_history_spec.Run.{State}
-use Rattle.mesa_projection_laws.specs.mesa_history_spec.Found.{Kept, kept_of}
-use Rattle.mesa_projection_laws.specs.Bare.{bare}
+use Rattle.mesa_history_spec.specs.Machine.{Machine, Claim, claimed, claim_renewed, claim_ended, claim_merged, claim_recast}
+use Rattle.mesa_history_spec.specs.Run.{State}
+use Rattle.mesa_history_spec.specs.Found.{Kept, kept_of}
+use Rattle.mesa_history_spec.specs.Bare.{bare}
 
 -- What a vault's books (its catalogue, pins, leases and closing position) stand for: a warehouse without rows and a range machine, on every store; and what the store keeps, and the pins, with the rows that the vault takes its files to have.
 pub record Books : Type 0 where

@@ -1,13 +1,13 @@
 -- Why a turn didn't do what its command asks.
 use Rattle.std.specs.Prelude.{ℕ, Bool, true, false}
 use Rattle.mesa_disk.specs.mesa_file.declared.damage.Damage.{Damage}
-use Rattle.mesa_projection_laws.specs.mesa_model.declared.entries.Outcome.{Outcome}
-use Rattle.mesa_projection_laws.specs.mesa_model.declared.entries.Outcome.TheVariants as outcome
-use Rattle.mesa_projection_laws.specs.mesa_model.declared.replies.Refusal.TheVariants as no
-use Rattle.mesa_projection_laws.specs.mesa_model.declared.replies.Reply.{Reply}
-use Rattle.mesa_projection_laws.specs.mesa_model.declared.replies.Reply.TheVariants as reply
-use Rattle.mesa_projection_laws.specs.mesa_history_spec.Run.{Told}
-use Rattle.mesa_projection_laws.specs.mesa_history_spec.Replay.{no_rows, some_damage}
+use Rattle.mesa_history_spec.specs.mesa_model.declared.entries.Outcome.{Outcome}
+use Rattle.mesa_history_spec.specs.mesa_model.declared.entries.Outcome.TheVariants as outcome
+use Rattle.mesa_history_spec.specs.mesa_model.declared.replies.Refusal.TheVariants as no
+use Rattle.mesa_history_spec.specs.mesa_model.declared.replies.Reply.{Reply}
+use Rattle.mesa_history_spec.specs.mesa_model.declared.replies.Reply.TheVariants as reply
+use Rattle.mesa_history_spec.specs.Run.{Told}
+use Rattle.mesa_history_spec.specs.Replay.{no_rows, some_damage}
 use Rattle.mesa_history_spec.specs.Output.{IsDamage}
 
 -- The reference warehouse or the range machine answers otherwise; a file couldn't be read, or was damaged; a file or the journal couldn't be written; or there was no memory.

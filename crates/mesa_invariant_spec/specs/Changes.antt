@@ -1,20 +1,20 @@
 -- Commands that one turn decides, their checks, and what they make of a vault's books.
 use Rattle.std.specs.Prelude.{◌≡◌, ℕ, Bool, true, false, None, IsTrue, Result, Ok, Err}
-use Rattle.mesa_projection_laws.specs.mesa_filter.declared.words.VersionWord.{VersionWord}
-use Rattle.mesa_projection_laws.specs.mesa_model.declared.commands.Command.{Command}
-use Rattle.mesa_projection_laws.specs.mesa_model.declared.commands.ExplainWords.{ExplainWords}
-use Rattle.mesa_projection_laws.specs.mesa_model.declared.entries.Kind.TheVariants as kind
-use Rattle.mesa_projection_laws.specs.mesa_model.declared.replies.Refusal.{Refusal}
-use Rattle.mesa_projection_laws.specs.mesa_model.declared.replies.Reply.{Reply}
-use Rattle.mesa_projection_laws.specs.mesa_model.declared.replies.Reply.TheVariants as reply
-use Rattle.mesa_projection_laws.specs.mesa_model.Warehouse.{Warehouse}
-use Rattle.mesa_projection_laws.specs.mesa_model.Pins.{make_pin, next_token, release_pin, with_pin}
-use Rattle.mesa_projection_laws.specs.mesa_model.Step.{done_or_refused}
-use Rattle.mesa_projection_laws.specs.mesa_history_spec.Machine.{explained}
-use Rattle.mesa_projection_laws.specs.mesa_history_spec.Run.{State, Stage}
-use Rattle.mesa_projection_laws.specs.mesa_history_spec.Replay.{decide, decided, stepped}
-use Rattle.mesa_projection_laws.specs.mesa_history_spec.Legal.{is_due_at, is_release, is_writing, is_written, builds_files}
-use Rattle.mesa_projection_laws.specs.Bare.{bare, bare_done, bare_result}
+use Rattle.mesa_history_spec.specs.mesa_filter.declared.words.VersionWord.{VersionWord}
+use Rattle.mesa_history_spec.specs.mesa_model.declared.commands.Command.{Command}
+use Rattle.mesa_history_spec.specs.mesa_model.declared.commands.ExplainWords.{ExplainWords}
+use Rattle.mesa_history_spec.specs.mesa_model.declared.entries.Kind.TheVariants as kind
+use Rattle.mesa_history_spec.specs.mesa_model.declared.replies.Refusal.{Refusal}
+use Rattle.mesa_history_spec.specs.mesa_model.declared.replies.Reply.{Reply}
+use Rattle.mesa_history_spec.specs.mesa_model.declared.replies.Reply.TheVariants as reply
+use Rattle.mesa_history_spec.specs.mesa_model.Warehouse.{Warehouse}
+use Rattle.mesa_history_spec.specs.mesa_model.Pins.{make_pin, next_token, release_pin, with_pin}
+use Rattle.mesa_history_spec.specs.mesa_model.Step.{done_or_refused}
+use Rattle.mesa_history_spec.specs.Machine.{explained}
+use Rattle.mesa_history_spec.specs.Run.{State, Stage}
+use Rattle.mesa_history_spec.specs.Replay.{decide, decided, stepped}
+use Rattle.mesa_history_spec.specs.Legal.{is_due_at, is_release, is_writing, is_written, builds_files}
+use Rattle.mesa_history_spec.specs.Bare.{bare, bare_done, bare_result}
 use Rattle.mesa_invariant_spec.specs.Books.{Books, AreBooksOf, closed_books_if, without_pin}
 use Rattle.mesa_invariant_spec.specs.Causes.{Cause, Replies, Unread, Damaged, Unwritten, NoMemory}
 

@@ -4,16 +4,16 @@ use Rattle.std.specs.List.{AllByRecursion}
 use Rattle.mesa_io.specs.Causes.{last, Rose}
 use Rattle.mesa_disk.specs.Image.{Image}
 use Rattle.mesa_disk.specs.Story.{Story, Spans}
-use Rattle.mesa_projection_laws.specs.mesa_model.declared.commands.Script.{Script}
-use Rattle.mesa_projection_laws.specs.mesa_model.declared.entries.Entry.{Entry}
-use Rattle.mesa_projection_laws.specs.mesa_model.declared.replies.Reply.{Reply}
-use Rattle.mesa_projection_laws.specs.mesa_model.Entry.{IsShort}
-use Rattle.mesa_projection_laws.specs.mesa_history_spec.Run.{State, Run, begins}
-use Rattle.mesa_projection_laws.specs.mesa_history_spec.Replay.{told_by, runs}
-use Rattle.mesa_projection_laws.specs.mesa_history_spec.Legal.{AllFit, fits_sink, wrote}
-use Rattle.mesa_projection_laws.specs.mesa_history_spec.Found.{Kept, Found}
-use Rattle.mesa_projection_laws.specs.mesa_history_spec.Counting.{count_in, is_disk_fault}
-use Rattle.mesa_projection_laws.specs.mesa_history_spec.Refused.{some_refused}
+use Rattle.mesa_history_spec.specs.mesa_model.declared.commands.Script.{Script}
+use Rattle.mesa_history_spec.specs.mesa_model.declared.entries.Entry.{Entry}
+use Rattle.mesa_history_spec.specs.mesa_model.declared.replies.Reply.{Reply}
+use Rattle.mesa_history_spec.specs.mesa_model.Entry.{IsShort}
+use Rattle.mesa_history_spec.specs.Run.{State, Run, begins}
+use Rattle.mesa_history_spec.specs.Replay.{told_by, runs}
+use Rattle.mesa_history_spec.specs.Legal.{AllFit, fits_sink, wrote}
+use Rattle.mesa_history_spec.specs.Found.{Kept, Found}
+use Rattle.mesa_history_spec.specs.Counting.{count_in, is_disk_fault}
+use Rattle.mesa_history_spec.specs.Refused.{some_refused}
 use Rattle.mesa_invariant_spec.specs.Books.{Books, AreBooksOf}
 use Rattle.mesa_invariant_spec.specs.Causes.{told_at}
 use Rattle.mesa_invariant_spec.specs.Printing.{IsPrinted, IsPrintedButRows}

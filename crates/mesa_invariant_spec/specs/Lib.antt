@@ -1,7 +1,5 @@
 pub use Rattle.mesa_disk.specs as mesa_disk
-pub use Rattle.mesa_projection_laws.specs.mesa_history_spec as mesa_history_spec
 pub use Rattle.mesa_history_spec.specs as mesa_history_spec
-pub use Rattle.mesa_projection_laws.specs as mesa_projection_laws
 pub mod Books
 pub mod Printing
 pub mod Invariant

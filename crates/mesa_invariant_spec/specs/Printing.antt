@@ -2,11 +2,11 @@
 use Rattle.std.specs.Prelude.{◌≡◌, ◌<◌, ℕ, List, [], ◌∷◌, ◌++◌, Bool, true, false, Option, None, Some, IsTrue, option_map, take}
 use Rattle.std.specs.Io.KnownBytes.{Appends}
 use Rattle.mesa_io.specs.Causes.{last}
-use Rattle.mesa_projection_laws.specs.mesa_model.declared.commands.Script.{Script}
-use Rattle.mesa_projection_laws.specs.mesa_model.declared.entries.Entry.{Entry}
-use Rattle.mesa_projection_laws.specs.mesa_history_spec.Run.{Run, Told}
-use Rattle.mesa_projection_laws.specs.mesa_history_spec.Replay.{told_by, runs, go}
-use Rattle.mesa_projection_laws.specs.Bare.{bare_told}
+use Rattle.mesa_history_spec.specs.mesa_model.declared.commands.Script.{Script}
+use Rattle.mesa_history_spec.specs.mesa_model.declared.entries.Entry.{Entry}
+use Rattle.mesa_history_spec.specs.Run.{Run, Told}
+use Rattle.mesa_history_spec.specs.Replay.{told_by, runs, go}
+use Rattle.mesa_history_spec.specs.Bare.{bare_told}
 use Rattle.mesa_history_spec.specs.Output.{IsBlock, IsOutput}
 
 -- The sink was given the blocks of all these entries.

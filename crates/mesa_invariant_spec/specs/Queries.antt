@@ -1,19 +1,19 @@
 -- The turns of a query.
 use Rattle.std.specs.Prelude.{◌≡◌, ℕ, List, Bool, false, Option, None, Some, Ok, Err}
-use Rattle.mesa_projection_laws.specs.mesa_filter.declared.words.QueryWords.{QueryWords}
-use Rattle.mesa_projection_laws.specs.mesa_model.declared.commands.Command.TheVariants as command
-use Rattle.mesa_projection_laws.specs.mesa_model.declared.commands.Script.{Script}
-use Rattle.mesa_projection_laws.specs.mesa_model.declared.entries.Entry.{Entry}
-use Rattle.mesa_projection_laws.specs.mesa_model.declared.entries.Outcome.{Outcome}
-use Rattle.mesa_projection_laws.specs.mesa_model.declared.entries.Outcome.TheVariants as outcome
-use Rattle.mesa_projection_laws.specs.mesa_model.declared.replies.Page.{Page}
-use Rattle.mesa_projection_laws.specs.mesa_model.declared.replies.Refusal.{Refusal}
-use Rattle.mesa_projection_laws.specs.mesa_model.declared.replies.Reply.TheVariants as reply
-use Rattle.mesa_projection_laws.specs.mesa_model.Query.{Answer, query_answer}
-use Rattle.mesa_projection_laws.specs.mesa_history_spec.Run.{State, Stage, Answered, Finished, Run, Told}
-use Rattle.mesa_projection_laws.specs.mesa_history_spec.Turns.{IsDue}
-use Rattle.mesa_projection_laws.specs.Rows.{Rows}
-use Rattle.mesa_projection_laws.specs.Bare.{bare_page}
+use Rattle.mesa_history_spec.specs.mesa_filter.declared.words.QueryWords.{QueryWords}
+use Rattle.mesa_history_spec.specs.mesa_model.declared.commands.Command.TheVariants as command
+use Rattle.mesa_history_spec.specs.mesa_model.declared.commands.Script.{Script}
+use Rattle.mesa_history_spec.specs.mesa_model.declared.entries.Entry.{Entry}
+use Rattle.mesa_history_spec.specs.mesa_model.declared.entries.Outcome.{Outcome}
+use Rattle.mesa_history_spec.specs.mesa_model.declared.entries.Outcome.TheVariants as outcome
+use Rattle.mesa_history_spec.specs.mesa_model.declared.replies.Page.{Page}
+use Rattle.mesa_history_spec.specs.mesa_model.declared.replies.Refusal.{Refusal}
+use Rattle.mesa_history_spec.specs.mesa_model.declared.replies.Reply.TheVariants as reply
+use Rattle.mesa_history_spec.specs.mesa_model.Query.{Answer, query_answer}
+use Rattle.mesa_history_spec.specs.Run.{State, Stage, Answered, Finished, Run, Told}
+use Rattle.mesa_history_spec.specs.Turns.{IsDue}
+use Rattle.mesa_history_spec.specs.Rows.{Rows}
+use Rattle.mesa_history_spec.specs.Bare.{bare_page}
 use Rattle.mesa_history_spec.specs.Output.{IsDamage, block}
 use Rattle.mesa_invariant_spec.specs.Books.{Books, AreBooksOf}
 use Rattle.mesa_invariant_spec.specs.Causes.{Cause, Replies, Unread, Damaged, Unwritten, NoMemory, is_read_fault, outcome_of, reply_of, told_at}

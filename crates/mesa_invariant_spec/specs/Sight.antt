@@ -1,14 +1,14 @@
 -- What a load sees of the tables, and how many turns changed it.
 use Rattle.std.specs.Prelude.{ℕ, List, Bool, true, false, Option, None, Some}
-use Rattle.mesa_projection_laws.specs.mesa_batch.Batch.{Named}
-use Rattle.mesa_projection_laws.specs.mesa_model.declared.commands.Script.{Script}
-use Rattle.mesa_projection_laws.specs.mesa_model.declared.entries.Entry.{Entry}
-use Rattle.mesa_projection_laws.specs.mesa_model.declared.replies.Reply.{Reply}
-use Rattle.mesa_projection_laws.specs.mesa_model.declared.replies.Reply.TheVariants as reply
-use Rattle.mesa_projection_laws.specs.mesa_model.Load.{tables_named}
-use Rattle.mesa_projection_laws.specs.mesa_history_spec.Run.{Told, Run}
-use Rattle.mesa_projection_laws.specs.mesa_history_spec.Replay.{told_by}
-use Rattle.mesa_projection_laws.specs.mesa_history_spec.Counting.{count_in}
+use Rattle.mesa_history_spec.specs.mesa_batch.Batch.{Named}
+use Rattle.mesa_history_spec.specs.mesa_model.declared.commands.Script.{Script}
+use Rattle.mesa_history_spec.specs.mesa_model.declared.entries.Entry.{Entry}
+use Rattle.mesa_history_spec.specs.mesa_model.declared.replies.Reply.{Reply}
+use Rattle.mesa_history_spec.specs.mesa_model.declared.replies.Reply.TheVariants as reply
+use Rattle.mesa_history_spec.specs.mesa_model.Load.{tables_named}
+use Rattle.mesa_history_spec.specs.Run.{Told, Run}
+use Rattle.mesa_history_spec.specs.Replay.{told_by}
+use Rattle.mesa_history_spec.specs.Counting.{count_in}
 
 -- a reply that says that a table, a view or a table's columns were made or changed
 abbrev pub is_of_schemas : Reply → Bool

@@ -3,19 +3,19 @@ use Rattle.std.specs.Prelude.{◌≡◌, ◌⊎◌, ℕ, ◌<◌, ◌≤◌, Lis
 use Rattle.std.specs.List.{AllByRecursion}
 use Rattle.mesa_io.specs.Causes.{last, Rose}
 use Rattle.mesa_disk.specs.Story.{Story}
-use Rattle.mesa_projection_laws.specs.mesa_model.declared.commands.Command.{Command}
-use Rattle.mesa_projection_laws.specs.mesa_model.declared.commands.Command.TheVariants as command
-use Rattle.mesa_projection_laws.specs.mesa_model.declared.commands.Script.{Script}
-use Rattle.mesa_projection_laws.specs.mesa_model.declared.entries.Entry.{Entry}
-use Rattle.mesa_projection_laws.specs.mesa_model.declared.entries.Kind.{Kind}
-use Rattle.mesa_projection_laws.specs.mesa_model.declared.entries.Outcome.{Outcome}
-use Rattle.mesa_projection_laws.specs.mesa_model.declared.entries.Outcome.TheVariants as outcome
-use Rattle.mesa_projection_laws.specs.mesa_model.Entry.{IsShort}
-use Rattle.mesa_projection_laws.specs.mesa_history_spec.Run.{State, Stage, Run, place_of, begins}
-use Rattle.mesa_projection_laws.specs.mesa_history_spec.Counting.{is_bench_fault, is_disk_fault}
-use Rattle.mesa_projection_laws.specs.mesa_history_spec.Replay.{is_skip}
-use Rattle.mesa_projection_laws.specs.mesa_history_spec.Legal.{AllFit, fits_sink, is_query, is_work}
-use Rattle.mesa_projection_laws.specs.mesa_history_spec.Turns.{IsDue, place_then}
+use Rattle.mesa_history_spec.specs.mesa_model.declared.commands.Command.{Command}
+use Rattle.mesa_history_spec.specs.mesa_model.declared.commands.Command.TheVariants as command
+use Rattle.mesa_history_spec.specs.mesa_model.declared.commands.Script.{Script}
+use Rattle.mesa_history_spec.specs.mesa_model.declared.entries.Entry.{Entry}
+use Rattle.mesa_history_spec.specs.mesa_model.declared.entries.Kind.{Kind}
+use Rattle.mesa_history_spec.specs.mesa_model.declared.entries.Outcome.{Outcome}
+use Rattle.mesa_history_spec.specs.mesa_model.declared.entries.Outcome.TheVariants as outcome
+use Rattle.mesa_history_spec.specs.mesa_model.Entry.{IsShort}
+use Rattle.mesa_history_spec.specs.Run.{State, Stage, Run, place_of, begins}
+use Rattle.mesa_history_spec.specs.Counting.{is_bench_fault, is_disk_fault}
+use Rattle.mesa_history_spec.specs.Replay.{is_skip}
+use Rattle.mesa_history_spec.specs.Legal.{AllFit, fits_sink, is_query, is_work}
+use Rattle.mesa_history_spec.specs.Turns.{IsDue, place_then}
 use Rattle.mesa_invariant_spec.specs.Invariant.{run_at}
 
 -- What a caller sees of a vault: the history so far, whether its sink hasn't failed, and the disk's clock.

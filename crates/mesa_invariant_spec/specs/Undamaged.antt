@@ -1,9 +1,9 @@
 -- Histories in which nothing was damaged.
 use Rattle.std.specs.Prelude.{◌≡◌, List, Bool, true, false}
 use Rattle.std.specs.List.{AllByRecursion}
-use Rattle.mesa_projection_laws.specs.mesa_model.declared.entries.Entry.{Entry}
-use Rattle.mesa_projection_laws.specs.mesa_model.declared.entries.Outcome.{Outcome}
-use Rattle.mesa_projection_laws.specs.mesa_model.declared.entries.Outcome.TheVariants as outcome
+use Rattle.mesa_history_spec.specs.mesa_model.declared.entries.Entry.{Entry}
+use Rattle.mesa_history_spec.specs.mesa_model.declared.entries.Outcome.{Outcome}
+use Rattle.mesa_history_spec.specs.mesa_model.declared.entries.Outcome.TheVariants as outcome
 
 -- whether an entry met damage
 abbrev pub is_damaged : Outcome → Bool

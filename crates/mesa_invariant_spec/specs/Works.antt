@@ -1,12 +1,12 @@
 -- The turns of a work and of a recast.
 use Rattle.std.specs.Prelude.{◌≡◌, ℕ, Bool, true, false, Option, None, Some, IsTrue, Result, Ok, Err}
-use Rattle.mesa_projection_laws.specs.mesa_schema.Recasts.{Recast}
-use Rattle.mesa_projection_laws.specs.mesa_model.declared.replies.Reply.{Reply}
+use Rattle.mesa_history_spec.specs.mesa_schema.Recasts.{Recast}
+use Rattle.mesa_history_spec.specs.mesa_model.declared.replies.Reply.{Reply}
 use Rattle.mesa_span.specs.declared.works.Work.{Work}
-use Rattle.mesa_projection_laws.specs.mesa_history_spec.Machine.{Claim, claim_merged}
-use Rattle.mesa_projection_laws.specs.mesa_history_spec.Run.{State, Stage, Granted, Renewed, Finished}
-use Rattle.mesa_projection_laws.specs.mesa_history_spec.Replay.{recasted, with_machine}
-use Rattle.mesa_projection_laws.specs.mesa_history_spec.Found.{Kept, kept_of}
+use Rattle.mesa_history_spec.specs.Machine.{Claim, claim_merged}
+use Rattle.mesa_history_spec.specs.Run.{State, Stage, Granted, Renewed, Finished}
+use Rattle.mesa_history_spec.specs.Replay.{recasted, with_machine}
+use Rattle.mesa_history_spec.specs.Found.{Kept, kept_of}
 use Rattle.mesa_history_spec.specs.Output.{IsDamage}
 use Rattle.mesa_invariant_spec.specs.Books.{Books, AreBooksOf, closed_books_if, ended_books}
 use Rattle.mesa_invariant_spec.specs.Causes.{Cause, Replies, Unread, Damaged, Unwritten, NoMemory}

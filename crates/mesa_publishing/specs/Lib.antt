@@ -9,7 +9,7 @@ pub use Rattle.mesa_metadata.specs.mesa_invariant_spec as mesa_invariant_spec
 pub use Rattle.mesa_list.specs as mesa_list
 pub use Rattle.mesa_model.specs as mesa_model
 pub use Rattle.mesa_plans.specs as mesa_plans
-pub use Rattle.mesa_metadata.specs.mesa_projection_laws as mesa_projection_laws
+pub use Rattle.mesa_metadata.specs.mesa_history_spec as mesa_history_spec
 pub use Rattle.mesa_schema.specs as mesa_schema
 pub use Rattle.mesa_span.specs as mesa_span
 pub mod Batches

@@ -30,7 +30,7 @@ use Rattle.mesa_model.specs.declared.entries.Entry.{Entry}
 use Rattle.mesa_model.specs.declared.entries.Kind.TheVariants as kind
 use Rattle.mesa_engine.specs.mesa_history_spec.Output.{block}
 use Rattle.mesa_script.specs.declared.rendered.Rendered.{Rendered}
-use Rattle.mesa_engine.specs.mesa_projection_laws.Rows.{Rows}
+use Rattle.mesa_engine.specs.mesa_history_spec.Rows.{Rows}
 use Rattle.mesa_tasks.specs.GivingBack.{GivesBack, SomeFailed}
 use Rattle.mesa_engine.proofs.mesa_engine_spec.mesa_invariant_spec.Asking.{close_turn}
 use Rattle.mesa_engine.proofs.mesa_engine_spec.mesa_invariant_spec.Going.{close_takes}

@@ -33,7 +33,7 @@ use Rattle.mesa_model.specs.declared.entries.Entry.{Entry}
 use Rattle.mesa_model.specs.declared.entries.Kind.TheVariants as kind
 use Rattle.mesa_model.specs.declared.entries.Outcome.TheVariants as outcome
 use Rattle.mesa_engine.specs.mesa_history_spec.Output.{block}
-use Rattle.mesa_engine.specs.mesa_projection_laws.Rows.{Rows, no_rows}
+use Rattle.mesa_engine.specs.mesa_history_spec.Rows.{Rows, no_rows}
 use Rattle.mesa_tasks.specs.Opening.{Counted}
 use Rattle.mesa_engine.proofs.mesa_engine_spec.mesa_invariant_spec.Asking.{pinned_open, pinned_turn, unpinned_ends, unpinned_turn}
 use Rattle.mesa_engine.proofs.mesa_engine_spec.mesa_invariant_spec.Going.{takes_as}

@@ -22,7 +22,7 @@ use Rattle.mesa_model.specs.declared.replies.Refusal.TheVariants as no
 use Rattle.mesa_rules.proofs.Seen.{oldest_there}
 use Rattle.mesa_rules.specs.Found.{Sees, of_catalog, version_in}
 use Rattle.mesa_rules.specs.Seen.{HasCatalog, known_in, known_of}
-use Rattle.mesa_engine.specs.mesa_projection_laws.Rows.{Rows}
+use Rattle.mesa_engine.specs.mesa_history_spec.Rows.{Rows}
 
 -- the tables of a catalogue without their contents
 known_projections : (c : Catalog) → known_in (projections c) ≡ map known_as c.tables

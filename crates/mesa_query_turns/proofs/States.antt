@@ -28,7 +28,7 @@ use Rattle.mesa_model.specs.declared.replies.Refusal.{Refusal}
 use Rattle.mesa_model.specs.declared.replies.Refusal.TheVariants as no
 use Rattle.mesa_rules.specs.Found.{Sees, of_catalog, version_in}
 use Rattle.mesa_rules.specs.Seen.{HasCatalog}
-use Rattle.mesa_engine.specs.mesa_projection_laws.Rows.{no_rows}
+use Rattle.mesa_engine.specs.mesa_history_spec.Rows.{no_rows}
 use Rattle.mesa_engine.specs.mesa_engine_spec.mesa_invariant_spec.Books.{AreBooksOf}
 
 -- A query sees a catalogue's tables in a warehouse, and the content there of the one of a number at a version.

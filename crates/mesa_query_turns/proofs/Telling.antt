@@ -50,9 +50,9 @@ use Rattle.mesa_plans.proofs.Unsound.{seen_sound}
 use Rattle.mesa_plans.specs.Read.{relation_read}
 use Rattle.mesa_plans.proofs.Among.{all_planned}
 use Rattle.mesa_rules.specs.Found.{answer_found}
-use Rattle.mesa_engine.proofs.mesa_projection_laws.Steps.{query-bare}
-use Rattle.mesa_engine.specs.mesa_projection_laws.Bare.{bare_answer, bare_result}
-use Rattle.mesa_engine.specs.mesa_projection_laws.Rows.{Rows, no_rows}
+use Rattle.mesa_engine.proofs.mesa_history_spec.BareSteps.{query-bare}
+use Rattle.mesa_engine.specs.mesa_history_spec.Bare.{bare_answer, bare_result}
+use Rattle.mesa_engine.specs.mesa_history_spec.Rows.{Rows, no_rows}
 use Rattle.mesa_tasks.specs.declared.querying.Pinned.{Pinned}
 use Rattle.mesa_engine.specs.mesa_commit.Filed.{PinFiles}
 use Rattle.mesa_engine.specs.mesa_engine_spec.mesa_invariant_spec.Books.{AreBooksOf}

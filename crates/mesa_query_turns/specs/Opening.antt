@@ -24,7 +24,7 @@ use Rattle.mesa_plans.specs.Files.{want_in}
 use Rattle.mesa_rules.specs.Found.{IsAnswered, Sees, columns_at, version_in}
 use Rattle.mesa_rules.specs.Ordered.{as_read}
 use Rattle.mesa_rules.specs.declared.found.Found.{Found}
-use Rattle.mesa_engine.specs.mesa_projection_laws.Rows.{no_rows}
+use Rattle.mesa_engine.specs.mesa_history_spec.Rows.{no_rows}
 use Rattle.mesa_tasks.specs.declared.querying.Pinned.{Pinned}
 use Rattle.mesa_engine.specs.mesa_engine_spec.mesa_invariant_spec.Causes.{Cause, NoMemory, Replies, is_read_fault, outcome_of}
 use Rattle.mesa_engine.specs.mesa_engine_spec.mesa_invariant_spec.Undamaged.{is_damaged}

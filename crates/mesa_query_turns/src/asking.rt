@@ -8,7 +8,7 @@ ghost use Rattle.mesa_filter.specs.Query.{IsQueryOf};
 ghost use Rattle.mesa_engine.specs.mesa_engine_spec.EngineState.{books_of};
 ghost use Rattle.mesa_model.specs.Query.{query_answer};
 ghost use Rattle.mesa_rules.specs.Found.{IsAnswered, Sees, columns_at, version_in};
-ghost use Rattle.mesa_engine.specs.mesa_projection_laws.Rows.{Rows};
+ghost use Rattle.mesa_engine.specs.mesa_history_spec.Rows.{Rows};
 
 use crate::{Seen, seen_by};
 use mesa_binding::Failure;

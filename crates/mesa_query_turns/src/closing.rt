@@ -9,7 +9,7 @@ ghost use Rattle.mesa_engine.specs.Printing.{GoesOn};
 ghost use Rattle.mesa_engine.specs.mesa_metadata.Memory.{is_of_another};
 ghost use Rattle.mesa_model.specs.Entry.{IsShort};
 ghost use Rattle.mesa_model.specs.declared.entries.Kind.TheVariants as kind;
-ghost use Rattle.mesa_engine.specs.mesa_projection_laws.Rows.{Rows, no_rows};
+ghost use Rattle.mesa_engine.specs.mesa_history_spec.Rows.{Rows, no_rows};
 ghost use Rattle.mesa_tasks.specs.GivingBack.{SomeFailed, pinned_inputs};
 ghost use Rattle.mesa_engine.specs.mesa_engine_spec.mesa_invariant_spec.Printing.{IsPut};
 ghost use Rattle.mesa_engine.specs.mesa_engine_spec.mesa_invariant_spec.Queries.{closing_fault, closing_outcome};

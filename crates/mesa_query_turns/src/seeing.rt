@@ -4,7 +4,7 @@ ghost use Rattle.mesa_query_turns.specs.Seeing.{SeesBooks, catalogue_asked, pinn
 ghost use Rattle.mesa_filter.specs.declared.words.QueryWords.{QueryWords as AnyWords};
 ghost use Rattle.mesa_engine.specs.mesa_engine_spec.EngineState.{books_of};
 ghost use Rattle.mesa_model.specs.Query.{query_answer};
-ghost use Rattle.mesa_engine.specs.mesa_projection_laws.Rows.{Rows};
+ghost use Rattle.mesa_engine.specs.mesa_history_spec.Rows.{Rows};
 
 use mesa_engine::{Catalog, Metadata};
 use mesa_filter::VersionWord;

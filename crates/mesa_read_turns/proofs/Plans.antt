@@ -27,7 +27,7 @@ use Rattle.mesa_engine.specs.mesa_history_spec.Run.{First}
 use Rattle.mesa_engine.specs.mesa_history_spec.Turns.{IsDue}
 use Rattle.mesa_engine.specs.mesa_history_spec.Output.{block}
 use Rattle.mesa_read_turns.specs.Asked.{cause_asked}
-use Rattle.mesa_engine.specs.mesa_projection_laws.Rows.{Rows}
+use Rattle.mesa_engine.specs.mesa_history_spec.Rows.{Rows}
 use Rattle.mesa_rules.specs.mesa_span.Plan.{plan}
 use Rattle.mesa_engine.specs.mesa_engine_spec.mesa_invariant_spec.Causes.{told_at}
 use Rattle.mesa_engine.specs.mesa_engine_spec.mesa_invariant_spec.Changes.{HasNoPlan, is_plain}

@@ -15,7 +15,7 @@ use Rattle.mesa_model.specs.declared.replies.Reply.TheVariants as reply
 use Rattle.mesa_engine.specs.mesa_history_spec.Run.{First}
 use Rattle.mesa_engine.specs.mesa_history_spec.Turns.{IsDue}
 use Rattle.mesa_engine.specs.mesa_history_spec.Output.{block}
-use Rattle.mesa_engine.specs.mesa_projection_laws.Rows.{Rows}
+use Rattle.mesa_engine.specs.mesa_history_spec.Rows.{Rows}
 use Rattle.mesa_engine.specs.mesa_engine_spec.mesa_invariant_spec.Books.{without_pin}
 use Rattle.mesa_engine.specs.mesa_engine_spec.mesa_invariant_spec.Causes.{told_at}
 use Rattle.mesa_engine.specs.mesa_engine_spec.mesa_invariant_spec.Changes.{ReleasesPin}

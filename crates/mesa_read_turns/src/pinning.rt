@@ -6,7 +6,7 @@ ghost use Rattle.mesa_engine.specs.mesa_engine_spec.EngineState.{books_of};
 ghost use Rattle.mesa_model.specs.Pins.{make_pin};
 ghost use Rattle.mesa_model.specs.declared.commands.Command.TheVariants as command;
 ghost use Rattle.mesa_model.specs.declared.entries.Kind.TheVariants as kind;
-ghost use Rattle.mesa_engine.specs.mesa_projection_laws.Rows.{no_rows};
+ghost use Rattle.mesa_engine.specs.mesa_history_spec.Rows.{no_rows};
 ghost use Rattle.mesa_engine.specs.mesa_engine_spec.mesa_invariant_spec.Changes.{MakesPin};
 ghost use Rattle.mesa_engine.specs.mesa_engine_spec.mesa_invariant_spec.Turns.{AnswersDisk, Takes};
 ghost use Rattle.mesa_engine.specs.mesa_engine_spec.mesa_invariant_spec.Invariant.{run_at};

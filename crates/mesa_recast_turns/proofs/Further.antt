@@ -8,7 +8,7 @@ use Rattle.mesa_engine.specs.mesa_history_spec.Sources.{Source, Written}
 use Rattle.mesa_plans.specs.mesa_schema.Changes.{Lineage, columns_of, epoch_of}
 use Rattle.mesa_plans.specs.mesa_schema.Columns.{Columns}
 use Rattle.mesa_plans.specs.mesa_schema.Recasts.{Recast}
-use Rattle.mesa_engine.specs.mesa_projection_laws.Rows.{Rows}
+use Rattle.mesa_engine.specs.mesa_history_spec.Rows.{Rows}
 use Rattle.mesa_tasks.specs.Inputs.{AreInputsTo, IsMergeOf}
 use Rattle.mesa_tasks.specs.Opening.{Counted}
 use Rattle.mesa_tasks.specs.Recasts.{AreRangesOf, AreRewritten, own}

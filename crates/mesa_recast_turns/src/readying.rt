@@ -12,7 +12,7 @@ ghost use Rattle.mesa_model.specs.Tables.{recast_reply as reply_for};
 ghost use Rattle.mesa_model.specs.Warehouse.{table_at};
 ghost use Rattle.mesa_close_turns.specs.mesa_record.Reading.{record_at};
 ghost use Rattle.mesa_plans.specs.mesa_schema.Recasts.{recast_checked};
-ghost use Rattle.mesa_engine.specs.mesa_projection_laws.Rows.{no_rows};
+ghost use Rattle.mesa_engine.specs.mesa_history_spec.Rows.{no_rows};
 ghost use Rattle.mesa_close_turns.specs.mesa_publishing.Grown.{HasSameColumns};
 ghost use Rattle.mesa_close_turns.specs.mesa_publishing.Recasts.{IsRecastIn, stock_of_recast};
 ghost use Rattle.mesa_tasks.specs.Recasts.{IsRecastTask, IsRecasted, recast_in, recast_table};

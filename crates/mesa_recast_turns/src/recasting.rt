@@ -20,7 +20,7 @@ ghost use Rattle.mesa_model.specs.declared.commands.RecastWords.{RecastWords as 
 ghost use Rattle.mesa_model.specs.declared.entries.Kind.TheVariants as kind;
 ghost use Rattle.mesa_engine.specs.mesa_history_spec.Output.{block};
 ghost use Rattle.mesa_plans.specs.mesa_schema.Changes.{epoch_of};
-ghost use Rattle.mesa_engine.specs.mesa_projection_laws.Rows.{Rows, no_rows};
+ghost use Rattle.mesa_engine.specs.mesa_history_spec.Rows.{Rows, no_rows};
 ghost use Rattle.mesa_close_turns.specs.mesa_publishing.Recasts.{HasItsRanges, stock_of_recast};
 ghost use Rattle.mesa_tasks.specs.GivingBack.{SomeFailed};
 ghost use Rattle.mesa_tasks.specs.Recasts.{IsRecasted, claim_of_recast, recast_in, recast_inputs};

@@ -7,7 +7,7 @@ ghost use Rattle.mesa_engine.specs.mesa_image_spec.Catalog.{stock_at};
 ghost use Rattle.mesa_engine.specs.mesa_engine_spec.Written.{written_at};
 ghost use Rattle.mesa_engine.specs.mesa_engine_spec.mesa_invariant_spec.Turns.{NoneFell, SomeRose};
 ghost use Rattle.mesa_plans.specs.mesa_schema.Changes.{epoch_of};
-ghost use Rattle.mesa_engine.specs.mesa_projection_laws.Rows.{Rows};
+ghost use Rattle.mesa_engine.specs.mesa_history_spec.Rows.{Rows};
 ghost use Rattle.mesa_close_turns.specs.mesa_publishing.Grown.{HasBecome};
 ghost use Rattle.mesa_close_turns.specs.mesa_publishing.Recasts.{HasItsRanges, stock_of_recast};
 ghost use Rattle.mesa_tasks.specs.Recasts.{IsRecastTask, IsRecasted, IsRecastedSoFar, recast_table};

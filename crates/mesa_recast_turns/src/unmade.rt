@@ -7,7 +7,7 @@ ghost use Rattle.mesa_model.specs.declared.commands.Command.TheVariants as comma
 ghost use Rattle.mesa_model.specs.declared.commands.RecastWords.{RecastWords};
 ghost use Rattle.mesa_model.specs.declared.entries.Kind.TheVariants as kind;
 ghost use Rattle.mesa_engine.specs.mesa_history_spec.Output.{block};
-ghost use Rattle.mesa_engine.specs.mesa_projection_laws.Rows.{Rows, no_rows};
+ghost use Rattle.mesa_engine.specs.mesa_history_spec.Rows.{Rows, no_rows};
 ghost use Rattle.mesa_tasks.specs.GivingBack.{SomeFailed};
 ghost use Rattle.mesa_tasks.specs.Recasts.{claim_of_recast, recast_inputs};
 ghost use Rattle.mesa_tasks.specs.declared.merging.CompactError.TheVariants as compact;

@@ -4,7 +4,7 @@ ghost use Rattle.mesa_core.specs.mesa_history_spec.Legal.{is_query};
 ghost use Rattle.mesa_core.specs.mesa_history_spec.Run.{First, Finished, command_at};
 ghost use Rattle.mesa_core.specs.mesa_history_spec.Turns.{place_then};
 ghost use Rattle.mesa_model.specs.declared.commands.Command.TheVariants as command;
-ghost use Rattle.mesa_engine.specs.mesa_projection_laws.Rows.{no_rows};
+ghost use Rattle.mesa_engine.specs.mesa_history_spec.Rows.{no_rows};
 ghost use Rattle.mesa_engine.specs.mesa_invariant_spec.Turns.{is_merge, is_recast};
 ghost use Rattle.mesa_core.specs.mesa_session_laws.Answers.{Answers};
 ghost use Rattle.mesa_core.specs.mesa_session_laws.Passes.{HasSort, Mine, Took, at_stage};

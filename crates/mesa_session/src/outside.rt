@@ -12,7 +12,7 @@ ghost use Rattle.mesa_tasks.specs.declared.merging.CompactError.TheVariants as c
 ghost use Rattle.mesa_delta.specs.declared.error.FileError.TheVariants as file_error;
 ghost use Rattle.mesa_core.specs.Handing.{AllAreRested, IsRecastGranted, IsRecastHeld};
 ghost use Rattle.mesa_core.specs.mesa_recast_turns.Rested.{HasUnpaid};
-ghost use Rattle.mesa_engine.specs.mesa_projection_laws.Rows.{no_rows};
+ghost use Rattle.mesa_engine.specs.mesa_history_spec.Rows.{no_rows};
 ghost use Rattle.mesa_compact.specs.Tasks.{AreNumbered};
 ghost use Rattle.mesa_session_laws.specs.Drafts.{owed_by_work};
 ghost use Rattle.mesa_session_laws.specs.Pins.{CanBeAnswered, HasAnswered, heading_in, known_pin};

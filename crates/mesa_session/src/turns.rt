@@ -6,7 +6,7 @@ ghost use Rattle.mesa_core.specs.mesa_history_spec.Turns.{place_then};
 ghost use Rattle.mesa_model.specs.declared.commands.Command.TheVariants as command;
 ghost use Rattle.mesa_model.specs.Entry.{history_of};
 ghost use Rattle.mesa_core.specs.Handing.{IsGranted, IsRecastGranted, Tells};
-ghost use Rattle.mesa_engine.specs.mesa_projection_laws.Rows.{no_rows};
+ghost use Rattle.mesa_engine.specs.mesa_history_spec.Rows.{no_rows};
 ghost use Rattle.mesa_engine.specs.mesa_invariant_spec.Turns.{is_load, is_merge, is_recast, is_simple};
 ghost use Rattle.mesa_engine.specs.mesa_invariant_spec.Works.{closing_stage, stage_if};
 ghost use Rattle.mesa_core.specs.mesa_session_laws.Answers.{Answers};

@@ -14,7 +14,7 @@ use Rattle.mesa_publishing.specs.mesa_model.Query.{Answer, Heading}
 use Rattle.mesa_script.specs.declared.rendered.Rendered.{Rendered}
 use Rattle.mesa_script.specs.Rows.{rendered}
 use Rattle.mesa_publishing.specs.mesa_history_spec.Run.{State, Finished}
-use Rattle.mesa_publishing.specs.mesa_projection_laws.Rows.{Rows, no_rows}
+use Rattle.mesa_publishing.specs.mesa_history_spec.Rows.{Rows, no_rows}
 use Rattle.mesa_publishing.specs.mesa_invariant_spec.Queries.{IsOpen}
 use Rattle.mesa_publishing.specs.mesa_invariant_spec.Turns.{Shown, IsTurn, IsSeen, Takes}
 use Rattle.mesa_publishing.specs.mesa_copy.mesa_compact.mesa_answer.Answering.{KeepsSums}

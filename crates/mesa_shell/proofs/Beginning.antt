@@ -11,8 +11,8 @@ use Rattle.mesa_check.specs.mesa_history_spec.Claims.{HasRanges}
 use Rattle.mesa_check.specs.mesa_history_spec.Found.{Found, kept_in}
 use Rattle.mesa_check.specs.mesa_history_spec.Replay.{runs}
 use Rattle.mesa_check.specs.mesa_history_spec.Run.{begins}
-use Rattle.mesa_store_digest.specs.mesa_projection_laws.Bare.{bare_table}
-use Rattle.mesa_store_digest.specs.mesa_projection_laws.Rows.{Rows}
+use Rattle.mesa_store_digest.specs.mesa_history_spec.Bare.{bare_table}
+use Rattle.mesa_store_digest.specs.mesa_history_spec.Rows.{Rows}
 use Rattle.mesa_engine_spec.specs.mesa_commit.Filed.{AreFresh}
 use Rattle.mesa_engine_spec.specs.mesa_commit.Holding.{Among}
 use Rattle.mesa_engine_spec.specs.mesa_invariant_spec.Books.{AreBooksOf}

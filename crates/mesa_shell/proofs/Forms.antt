@@ -3,7 +3,7 @@ use Rattle.std.proofs.Common.{◌≡◌, ℕ, List, inl, subst, Option, Some}
 use Rattle.mesa_arguments.specs.declared.forms.Form.{Form}
 use Rattle.mesa_arguments.specs.declared.forms.Form.TheVariants as form
 use Rattle.mesa_model.specs.declared.commands.Script.{Script}
-use Rattle.mesa_store_digest.specs.mesa_projection_laws.Rows.{Rows}
+use Rattle.mesa_store_digest.specs.mesa_history_spec.Rows.{Rows}
 use Rattle.mesa_check.specs.mesa_catalog.mesa_image_spec.Catalog.{Catalog}
 use Rattle.mesa_exit.specs.mesa_exit_spec.mesa_recover.Opening.{IsSoundStart}
 use Rattle.mesa_exit.specs.mesa_exit_spec.Ports.{Ports}

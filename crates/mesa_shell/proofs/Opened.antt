@@ -6,7 +6,7 @@ use Rattle.mesa_disk.specs.mesa_io.Causes.{last}
 use Rattle.mesa_disk.specs.Image.{Image}
 use Rattle.mesa_disk.specs.Story.{Story, Unmoved}
 use Rattle.mesa_engine_spec.specs.mesa_commit.Filed.{FilesAdopted}
-use Rattle.mesa_store_digest.specs.mesa_projection_laws.Rows.{Rows}
+use Rattle.mesa_store_digest.specs.mesa_history_spec.Rows.{Rows}
 use Rattle.mesa_check.specs.mesa_catalog.mesa_image_spec.Catalog.{Catalog, applied}
 use Rattle.mesa_check.specs.mesa_catalog.mesa_image_spec.Shape.{IsCatalog}
 use Rattle.mesa_check.specs.mesa_catalog.mesa_image_spec.Fitting.{max_runs}

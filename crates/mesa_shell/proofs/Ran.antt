@@ -12,7 +12,7 @@ use Rattle.mesa_check.specs.mesa_history_spec.Replay.{runs}
 use Rattle.mesa_check.specs.mesa_history_spec.Run.{begins}
 use Rattle.mesa_history_laws.specs.Printed.{AnswersFromTheFold}
 use Rattle.mesa_history_laws.proofs.ReachedAnswers.{pages_fold}
-use Rattle.mesa_store_digest.specs.mesa_projection_laws.Rows.{Rows}
+use Rattle.mesa_store_digest.specs.mesa_history_spec.Rows.{Rows}
 use Rattle.mesa_check.specs.mesa_catalog.mesa_image_spec.Catalog.{Catalog}
 use Rattle.mesa_check.specs.mesa_catalog.mesa_image_spec.Contents.{kept_of}
 use Rattle.mesa_check.specs.mesa_catalog.mesa_image_spec.Sound.{StandsFor}

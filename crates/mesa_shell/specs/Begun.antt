@@ -5,7 +5,7 @@ use Rattle.mesa_disk.specs.Image.{Image}
 use Rattle.mesa_disk.specs.Story.{Story}
 use Rattle.mesa_disk.specs.declared.area.Area.{Area}
 use Rattle.mesa_engine_spec.specs.mesa_commit.Filed.{FilesAdopted}
-use Rattle.mesa_store_digest.specs.mesa_projection_laws.Rows.{Rows}
+use Rattle.mesa_store_digest.specs.mesa_history_spec.Rows.{Rows}
 use Rattle.mesa_check.specs.mesa_catalog.mesa_image_spec.Catalog.{Catalog, applied}
 use Rattle.mesa_check.specs.mesa_catalog.mesa_image_spec.Contents.{kept_of}
 use Rattle.mesa_check.specs.mesa_catalog.mesa_image_spec.Shape.{IsCatalog}

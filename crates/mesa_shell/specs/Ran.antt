@@ -4,7 +4,7 @@ use Rattle.mesa_disk.specs.mesa_io.Causes.{last, Rose}
 use Rattle.mesa_model.specs.declared.commands.Script.{Script}
 use Rattle.mesa_check.specs.mesa_history_spec.Refused.{some_refused}
 use Rattle.mesa_check.specs.mesa_history_spec.Run.{begins}
-use Rattle.mesa_store_digest.specs.mesa_projection_laws.Rows.{Rows}
+use Rattle.mesa_store_digest.specs.mesa_history_spec.Rows.{Rows}
 use Rattle.mesa_check.specs.mesa_catalog.declared.begun.Begun.{Begun}
 use Rattle.mesa_exit.specs.mesa_exit_spec.Counting.{HasBenchCounts}
 use Rattle.mesa_exit.specs.mesa_exit_spec.Ports.{Ports}

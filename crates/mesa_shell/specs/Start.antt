@@ -1,5 +1,5 @@
 -- What a run over a store finds when it begins.
-use Rattle.mesa_store_digest.specs.mesa_projection_laws.Rows.{Rows}
+use Rattle.mesa_store_digest.specs.mesa_history_spec.Rows.{Rows}
 use Rattle.mesa_check.specs.mesa_catalog.mesa_image_spec.Catalog.{Catalog, stock_at}
 use Rattle.mesa_check.specs.mesa_catalog.mesa_image_spec.Sourced.{found_written}
 use Rattle.mesa_check.specs.mesa_catalog.Lookups.{generation_of}

@@ -2,7 +2,7 @@
 ghost use Rattle.std.specs.Prelude.{◌≡◌, ◌≢◌, ◌≤◌, ℕ, List, Some, length, map};
 ghost use Rattle.mesa_check.specs.mesa_catalog.mesa_image_spec.Catalog.{Catalog as AnyCatalog};
 ghost use Rattle.mesa_model.specs.declared.commands.Script.{Script as AnyScript};
-ghost use Rattle.mesa_store_digest.specs.mesa_projection_laws.Rows.{Rows};
+ghost use Rattle.mesa_store_digest.specs.mesa_history_spec.Rows.{Rows};
 ghost use Rattle.mesa_exit.specs.mesa_exit_spec.Completing.{AsksFor, Completes, Decides, HasRoomToRun, IsUndamaged, NoneRose, NothingFailed};
 ghost use Rattle.mesa_exit.specs.mesa_exit_spec.Ending as spec;
 ghost use Rattle.mesa_exit.specs.mesa_exit_spec.Ports.{ports};

@@ -1,4 +1,4 @@
-pub use Rattle.mesa_projection_laws.proofs as mesa_projection_laws
+pub use Rattle.mesa_history_spec.proofs as mesa_history_spec
 pub mod AllAsked
 pub mod Newest
 pub mod Content

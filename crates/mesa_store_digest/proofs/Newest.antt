@@ -37,7 +37,7 @@ use Rattle.mesa_rules.specs.Found.{columns_at, relation_seen}
 use Rattle.mesa_rules.specs.Seen.{known_in, known_of}
 use Rattle.mesa_rules.specs.declared.found.Found.{Found}
 use Rattle.mesa_catalog.specs.mesa_table.declared.relation.Relation.{Relation as Place}
-use Rattle.mesa_projection_laws.specs.Rows.{no_rows}
+use Rattle.mesa_history_spec.specs.Rows.{no_rows}
 use Rattle.mesa_catalog.specs.mesa_history_spec.mesa_span.Ranges.{base_before}
 use Rattle.mesa_tasks.specs.Opening.{Counted, is_read_fault}
 use Rattle.mesa_tasks.specs.Pins.{IsPinned}

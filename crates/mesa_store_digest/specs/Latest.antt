@@ -12,7 +12,7 @@ use Rattle.mesa_image_spec.specs.Catalog.{Catalog}
 use Rattle.mesa_image_spec.specs.Contents.{Rows, kept_of}
 use Rattle.mesa_recover.specs.Opening.{IsSoundStart}
 use Rattle.mesa_plans.specs.Told.{TellContent}
-use Rattle.mesa_projection_laws.specs.Rows.{no_rows}
+use Rattle.mesa_history_spec.specs.Rows.{no_rows}
 use Rattle.mesa_tasks.specs.Pins.{IsPinned}
 use Rattle.mesa_tasks.specs.declared.querying.Pinned.{Pinned}
 use Rattle.mesa_store_digest.specs.declared.error.LookError.{LookError}

@@ -1,4 +1,4 @@
-pub use Rattle.mesa_projection_laws.specs as mesa_projection_laws
+pub use Rattle.mesa_history_spec.specs as mesa_history_spec
 pub mod Errors
 pub mod Latest
 pub mod Looked

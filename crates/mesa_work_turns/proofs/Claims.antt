@@ -26,7 +26,7 @@ use Rattle.mesa_model.specs.declared.replies.Reply.{Reply}
 use Rattle.mesa_model.specs.declared.replies.Reply.TheVariants as reply
 use Rattle.mesa_engine.specs.mesa_engine_spec.EngineState.{EngineState, books_of, projection_of}
 use Rattle.mesa_rules.specs.Seen.{number_of}
-use Rattle.mesa_engine.specs.mesa_projection_laws.Rows.{no_rows}
+use Rattle.mesa_engine.specs.mesa_history_spec.Rows.{no_rows}
 
 module _ (l : EngineState) (at : ℕ) (name : List ℕ) where
   abbrev bare : Warehouse

@@ -30,7 +30,7 @@ use Rattle.mesa_model.specs.declared.replies.Reply.{Reply}
 use Rattle.mesa_model.specs.declared.replies.Reply.TheVariants as reply
 use Rattle.mesa_rules.specs.Recastings.{recast_due}
 use Rattle.mesa_rules.specs.Seen.{number_of}
-use Rattle.mesa_engine.specs.mesa_projection_laws.Rows.{no_rows}
+use Rattle.mesa_engine.specs.mesa_history_spec.Rows.{no_rows}
 use Rattle.mesa_span.specs.Ranges.{base_before, start_of}
 use Rattle.mesa_work_turns.specs.Claims.{cause_refused}
 

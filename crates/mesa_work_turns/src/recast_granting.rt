@@ -13,7 +13,7 @@ ghost use Rattle.mesa_model.specs.declared.commands.Command.TheVariants as comma
 ghost use Rattle.mesa_model.specs.declared.commands.RecastWords.{RecastWords};
 ghost use Rattle.mesa_model.specs.declared.entries.Kind.TheVariants as kind;
 ghost use Rattle.mesa_plans.specs.mesa_schema.Recasts.{recast_checked};
-ghost use Rattle.mesa_engine.specs.mesa_projection_laws.Rows.{Rows, no_rows};
+ghost use Rattle.mesa_engine.specs.mesa_history_spec.Rows.{Rows, no_rows};
 ghost use Rattle.mesa_publishing.specs.Recasts.{HasItsRanges};
 ghost use Rattle.mesa_tasks.specs.Recasts.{IsRecastTask, claim_of_recast, recast_in, recast_table};
 ghost use Rattle.mesa_engine.specs.mesa_engine_spec.mesa_invariant_spec.Turns.{AnswersDisk, SomeRose, Takes};

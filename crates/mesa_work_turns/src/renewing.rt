@@ -10,7 +10,7 @@ ghost use Rattle.mesa_engine.specs.mesa_metadata.Memory.{with_leases};
 ghost use Rattle.mesa_model.specs.declared.commands.Command.{Command};
 ghost use Rattle.mesa_model.specs.declared.commands.Command.TheVariants as command;
 ghost use Rattle.mesa_model.specs.declared.entries.Kind.TheVariants as kind;
-ghost use Rattle.mesa_engine.specs.mesa_projection_laws.Rows.{no_rows};
+ghost use Rattle.mesa_engine.specs.mesa_history_spec.Rows.{no_rows};
 ghost use Rattle.mesa_engine.specs.mesa_engine_spec.mesa_invariant_spec.Turns.{AnswersDisk, SomeRose, Takes};
 ghost use Rattle.mesa_engine.specs.mesa_engine_spec.mesa_invariant_spec.Invariant.{run_at};
 ghost use Rattle.mesa_engine.specs.mesa_engine_spec.mesa_invariant_spec.Works.{stage_if};

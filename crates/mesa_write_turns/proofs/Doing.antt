@@ -43,7 +43,7 @@ use Rattle.mesa_engine.specs.mesa_engine_spec.mesa_image_spec.Moves.{Moves}
 use Rattle.mesa_engine.specs.mesa_engine_spec.mesa_image_spec.Sourced.{HasSources, tables_read}
 use Rattle.mesa_engine.specs.mesa_catalog.Lookups.{generation_of, turns_generation}
 use Rattle.mesa_rules.specs.Seen.{number_of}
-use Rattle.mesa_engine.specs.mesa_projection_laws.Rows.{Rows}
+use Rattle.mesa_engine.specs.mesa_history_spec.Rows.{Rows}
 use Rattle.mesa_engine.specs.mesa_engine_spec.mesa_invariant_spec.Causes.{told_at}
 use Rattle.mesa_engine.specs.mesa_engine_spec.mesa_invariant_spec.Changes.{Doing, IsChange, IsDecided}
 use Rattle.mesa_engine.specs.mesa_engine_spec.mesa_invariant_spec.Sight.{is_of_schemas}

@@ -29,8 +29,8 @@ use Rattle.mesa_engine.specs.mesa_catalog.mesa_image_spec.Catalog.{Catalog}
 use Rattle.mesa_engine.specs.mesa_engine_spec.mesa_image_spec.Sourced.{tables_read}
 use Rattle.mesa_engine.specs.mesa_catalog.Lookups.{sight_of}
 use Rattle.mesa_engine.specs.mesa_history_spec.Output.{block}
-use Rattle.mesa_engine.specs.mesa_projection_laws.Bare.{bare_state}
-use Rattle.mesa_engine.specs.mesa_projection_laws.Rows.{Rows, no_rows}
+use Rattle.mesa_engine.specs.mesa_history_spec.Bare.{bare_state}
+use Rattle.mesa_engine.specs.mesa_history_spec.Rows.{Rows, no_rows}
 use Rattle.mesa_engine.specs.mesa_engine_spec.mesa_invariant_spec.Causes.{Unwritten, reply_of, told_at}
 use Rattle.mesa_engine.specs.mesa_engine_spec.mesa_invariant_spec.Changes.{HasFailed}
 use Rattle.mesa_engine.specs.mesa_engine_spec.mesa_invariant_spec.Printing.{IsPut}

@@ -30,7 +30,7 @@ use Rattle.mesa_engine.specs.mesa_script.Rows.{body_of}
 use Rattle.mesa_rules.specs.declared.ruled.Ruled.{Ruled}
 use Rattle.mesa_rules.specs.Ruled.{IsRuled, IsRefused as IsUnruled}
 use Rattle.mesa_rules.specs.Seen.{HasCatalog, known_of}
-use Rattle.mesa_engine.specs.mesa_projection_laws.Rows.{Rows, no_rows}
+use Rattle.mesa_engine.specs.mesa_history_spec.Rows.{Rows, no_rows}
 use Rattle.mesa_engine.specs.mesa_engine_spec.mesa_invariant_spec.Causes.{NoMemory}
 use Rattle.mesa_engine.specs.mesa_engine_spec.mesa_invariant_spec.Changes.{Doing, HasFailed}
 use Rattle.mesa_engine.specs.mesa_engine_spec.mesa_invariant_spec.Turns.{Shown, IsSeen, Takes, entry}

@@ -28,7 +28,7 @@ use Rattle.mesa_engine.specs.mesa_catalog.mesa_image_spec.Sound.{wants}
 use Rattle.mesa_engine.specs.mesa_engine_spec.mesa_image_spec.Brought.{AreTold, BringsAll}
 use Rattle.mesa_engine.specs.mesa_engine_spec.mesa_image_spec.Ids.{brought_ids}
 use Rattle.mesa_engine.specs.mesa_engine_spec.mesa_image_spec.Sourced.{tables_read}
-use Rattle.mesa_engine.specs.mesa_projection_laws.Rows.{Rows, no_rows}
+use Rattle.mesa_engine.specs.mesa_history_spec.Rows.{Rows, no_rows}
 use Rattle.mesa_engine.specs.mesa_engine_spec.mesa_invariant_spec.Changes.{Doing}
 use Rattle.mesa_engine.specs.mesa_engine_spec.EngineState.{EngineState, books_of, next_id}
 use Rattle.mesa_engine.specs.mesa_engine_spec.Recorded.{Adopts}

@@ -12,7 +12,7 @@ ghost use Rattle.mesa_model.specs.declared.entries.Kind.TheVariants as kind;
 ghost use Rattle.mesa_model.specs.Load.{load_batch};
 ghost use Rattle.mesa_model.specs.Refusals.{batch_refusal};
 ghost use Rattle.mesa_model.specs.Warehouse.{max_versions};
-ghost use Rattle.mesa_engine.specs.mesa_projection_laws.Rows.{Rows, no_rows};
+ghost use Rattle.mesa_engine.specs.mesa_history_spec.Rows.{Rows, no_rows};
 ghost use Rattle.mesa_publishing.specs.mesa_commit.Holding.{Among};
 ghost use Rattle.mesa_engine.specs.mesa_engine_spec.mesa_invariant_spec.Causes.{Unwritten};
 ghost use Rattle.mesa_engine.specs.mesa_engine_spec.mesa_invariant_spec.Changes.{HasFailed};

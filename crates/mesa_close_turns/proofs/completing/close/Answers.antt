@@ -3,7 +3,7 @@ use Rattle.mesa_engine.specs.Engine.{Standing}
 use Rattle.mesa_engine.specs.mesa_engine_spec.EngineState.{books_of}
 use Rattle.mesa_publishing.specs.mesa_history_spec.Claims.{is_live}
 use Rattle.mesa_model.specs.declared.replies.Refusal.{Refusal}
-use Rattle.mesa_engine.specs.mesa_projection_laws.Rows.{no_rows}
+use Rattle.mesa_engine.specs.mesa_history_spec.Rows.{no_rows}
 use Rattle.mesa_tasks.specs.Tasks.{claim_in}
 use Rattle.mesa_work_turns.specs.Claims.{lease_checked}
 use Rattle.mesa_close_turns.specs.Swept.{ClaimHolds}

@@ -2,7 +2,7 @@ use Rattle.std.proofs.Common.{◌∙◌, refl, sym, subst}
 use Rattle.mesa_publishing.specs.mesa_history_spec.Run.{Renewed, Finished}
 use Rattle.mesa_model.specs.declared.commands.Command.TheVariants as command
 use Rattle.mesa_model.specs.declared.entries.Kind.TheVariants as kind
-use Rattle.mesa_engine.specs.mesa_projection_laws.Rows.{no_rows}
+use Rattle.mesa_engine.specs.mesa_history_spec.Rows.{no_rows}
 use Rattle.mesa_engine.specs.mesa_engine_spec.mesa_invariant_spec.Turns.{AnswersDisk, AnswersDraft, Shown, SomeRose, Takes}
 use Rattle.mesa_engine.proofs.mesa_engine_spec.mesa_invariant_spec.Alike.{due_alike}
 use Rattle.mesa_engine.proofs.mesa_engine_spec.mesa_invariant_spec.Faulting.{disk_also, rose_still}

@@ -16,7 +16,7 @@ use Rattle.mesa_model.specs.declared.entries.Outcome.TheVariants as outcome
 use Rattle.mesa_publishing.specs.mesa_history_spec.Replay.{no_rows as no_lines}
 use Rattle.mesa_record.proofs.RecordsBoth.{record_found}
 use Rattle.mesa_engine.specs.mesa_script.Rows.{body_of}
-use Rattle.mesa_engine.specs.mesa_projection_laws.Rows.{Rows, no_rows}
+use Rattle.mesa_engine.specs.mesa_history_spec.Rows.{Rows, no_rows}
 use Rattle.mesa_publishing.specs.Finished.{HasRange, IsFinished}
 use Rattle.mesa_publishing.specs.Swapped.{IsSwapped}
 use Rattle.mesa_engine.specs.mesa_engine_spec.mesa_invariant_spec.Causes.{Replies, Unwritten, told_at}

@@ -4,7 +4,7 @@ use Rattle.mesa_engine.specs.mesa_history_spec.Run.{Answered, Finished}
 use Rattle.mesa_model.specs.Query.{Answer}
 use Rattle.mesa_model.specs.declared.commands.Command.TheVariants as command
 use Rattle.mesa_model.specs.declared.entries.Kind.TheVariants as kind
-use Rattle.mesa_engine.specs.mesa_projection_laws.Rows.{Rows, no_rows}
+use Rattle.mesa_engine.specs.mesa_history_spec.Rows.{Rows, no_rows}
 use Rattle.mesa_engine.specs.mesa_engine_spec.Vault.{Starts}
 use Rattle.mesa_engine.proofs.mesa_engine_spec.Beginning.{vault_at_seen}
 use Rattle.mesa_tasks.specs.GivingBack.{pinned_inputs}

@@ -5,7 +5,7 @@ use Rattle.mesa_query_turns.proofs.opening.files_asked.Goals as goal
 use Rattle.mesa_engine.specs.mesa_catalog.mesa_image_spec.Catalog.{stock_at}
 use Rattle.mesa_engine.specs.mesa_engine_spec.EngineState.{books_of}
 use Rattle.mesa_rules.specs.Found.{answer_found}
-use Rattle.mesa_engine.specs.mesa_projection_laws.Rows.{no_rows}
+use Rattle.mesa_engine.specs.mesa_history_spec.Rows.{no_rows}
 use Rattle.mesa_engine.specs.mesa_engine_spec.mesa_invariant_spec.Causes.{Cause, outcome_of}
 use Rattle.mesa_engine.specs.mesa_engine_spec.mesa_invariant_spec.Queries.{HasNoAnswer}
 use Rattle.mesa_engine.specs.mesa_engine_spec.mesa_invariant_spec.Undamaged.{is_damaged}

@@ -1,5 +1,5 @@
 use Rattle.std.proofs.Common.{sym, ◌∙◌}
-use Rattle.mesa_engine.specs.mesa_projection_laws.Rows.{no_rows}
+use Rattle.mesa_engine.specs.mesa_history_spec.Rows.{no_rows}
 use Rattle.mesa_read_turns.proofs.Pins.{catalog_there, err_so, ok_so, pins_counted}
 use Rattle.mesa_read_turns.proofs.pinning.version_for.Goals as goal
 

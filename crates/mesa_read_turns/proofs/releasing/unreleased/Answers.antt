@@ -1,5 +1,5 @@
 use Rattle.std.proofs.Common.{not, sym, ◌∙◌, ap}
-use Rattle.mesa_engine.specs.mesa_projection_laws.Rows.{no_rows}
+use Rattle.mesa_engine.specs.mesa_history_spec.Rows.{no_rows}
 use Rattle.mesa_read_turns.proofs.Releases.{none_as, refuses_absent, releases}
 use Rattle.mesa_read_turns.proofs.releasing.unreleased.Goals as goal
 

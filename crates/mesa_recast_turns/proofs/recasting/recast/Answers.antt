@@ -5,7 +5,7 @@ use Rattle.mesa_delta.specs.declared.error.FileError.TheVariants as file_error
 use Rattle.mesa_engine.specs.mesa_history_spec.Run.{Finished}
 use Rattle.mesa_model.specs.declared.commands.Command.TheVariants as command
 use Rattle.mesa_model.specs.declared.entries.Kind.TheVariants as kind
-use Rattle.mesa_engine.specs.mesa_projection_laws.Rows.{no_rows}
+use Rattle.mesa_engine.specs.mesa_history_spec.Rows.{no_rows}
 use Rattle.mesa_tasks.specs.Recasts.{claim_of_recast}
 use Rattle.mesa_tasks.specs.declared.merging.CompactError.TheVariants as compact
 use Rattle.mesa_engine.specs.mesa_engine_spec.mesa_invariant_spec.Turns.{AnswersDisk, AnswersDraft, IsTurn, Shown, SomeRose, Takes}

@@ -16,7 +16,7 @@ use Rattle.mesa_model.specs.declared.entries.Outcome.TheVariants as outcome
 use Rattle.mesa_engine.specs.mesa_history_spec.Replay.{no_rows as no_lines}
 use Rattle.mesa_close_turns.proofs.mesa_record.RecordsBoth.{record_found}
 use Rattle.mesa_engine.specs.mesa_script.Rows.{body_of}
-use Rattle.mesa_engine.specs.mesa_projection_laws.Rows.{Rows, no_rows}
+use Rattle.mesa_engine.specs.mesa_history_spec.Rows.{Rows, no_rows}
 use Rattle.mesa_plans.specs.mesa_schema.Changes.{epoch_of}
 use Rattle.mesa_close_turns.specs.mesa_publishing.Recasts.{HasItsRanges, IsRecastIn, stock_of_recast}
 use Rattle.mesa_close_turns.proofs.mesa_publishing.Becoming.{same_columns}

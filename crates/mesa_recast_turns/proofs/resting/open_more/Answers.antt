@@ -6,7 +6,7 @@ use Rattle.mesa_engine.specs.mesa_image_spec.Catalog.{Catalog, Delta, Stock, sto
 use Rattle.mesa_engine.specs.mesa_image_spec.Fitting.{deltas_of}
 use Rattle.mesa_plans.specs.Ranges.{HoldsAll, IsDamagedRange, IsOfRange, IsOpenedRange}
 use Rattle.mesa_plans.specs.mesa_table.Meaning.{stock_of}
-use Rattle.mesa_engine.specs.mesa_projection_laws.Rows.{no_rows}
+use Rattle.mesa_engine.specs.mesa_history_spec.Rows.{no_rows}
 use Rattle.mesa_engine.specs.Engine.{Standing, starts_of}
 use Rattle.mesa_engine.specs.mesa_engine_spec.Vault.{Starts, outset_of}
 use Rattle.mesa_engine.specs.mesa_engine_spec.Written.{written_at}

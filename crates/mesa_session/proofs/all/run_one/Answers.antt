@@ -1,4 +1,4 @@
-use Rattle.mesa_engine.specs.mesa_projection_laws.Rows.{no_rows}
+use Rattle.mesa_engine.specs.mesa_history_spec.Rows.{no_rows}
 use Rattle.mesa_session_laws.proofs.Counting.{counted_whole}
 use Rattle.mesa_session.proofs.all.run_one.Goals as goal
 

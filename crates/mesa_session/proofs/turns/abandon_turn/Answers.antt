@@ -6,7 +6,7 @@ use Rattle.mesa_core.specs.Handing.{IsRecastGranted}
 use Rattle.mesa_engine.specs.mesa_invariant_spec.Turns.{is_recast}
 use Rattle.mesa_core.specs.mesa_history_spec.Run.{Finished, Granted}
 use Rattle.mesa_model.specs.declared.entries.Kind.TheVariants as kind
-use Rattle.mesa_engine.specs.mesa_projection_laws.Rows.{no_rows}
+use Rattle.mesa_engine.specs.mesa_history_spec.Rows.{no_rows}
 use Rattle.mesa_core.proofs.mesa_session_laws.Answering.{step_drafts}
 use Rattle.mesa_core.proofs.mesa_session_laws.Turning.{Step, step_took}
 use Rattle.mesa_tasks.specs.declared.merging.CompactError.{CompactError}

@@ -5,7 +5,7 @@ use Rattle.mesa_core.specs.Handing.{IsGranted}
 use Rattle.mesa_engine.specs.mesa_invariant_spec.Turns.{is_merge}
 use Rattle.mesa_core.specs.mesa_history_spec.Run.{Granted, Renewed}
 use Rattle.mesa_model.specs.declared.entries.Kind.TheVariants as kind
-use Rattle.mesa_engine.specs.mesa_projection_laws.Rows.{no_rows}
+use Rattle.mesa_engine.specs.mesa_history_spec.Rows.{no_rows}
 use Rattle.mesa_core.proofs.mesa_session_laws.Answering.{none_renewing, step_none}
 use Rattle.mesa_core.proofs.mesa_session_laws.Turning.{Step, step_took}
 use Rattle.mesa_engine.specs.mesa_invariant_spec.Works.{stage_if}

@@ -3,7 +3,7 @@ use Rattle.mesa_disk.specs.mesa_io.Causes.{Rose}
 use Rattle.mesa_model.specs.declared.commands.Script.{Script}
 use Rattle.mesa_model.specs.Warehouse.{Warehouse}
 use Rattle.mesa_session.specs.mesa_session_laws.Passes.{turns_of}
-use Rattle.mesa_store_digest.specs.mesa_projection_laws.Rows.{no_rows}
+use Rattle.mesa_store_digest.specs.mesa_history_spec.Rows.{no_rows}
 use Rattle.mesa_session.specs.mesa_core.Vault.{Stand}
 use Rattle.mesa_check.specs.mesa_history_spec.Refused.{some_refused}
 use Rattle.mesa_check.specs.mesa_history_spec.Run.{begins}

@@ -22,7 +22,7 @@ use Rattle.mesa_plans.specs.Gathered.{IsGathered, unread_views}
 use Rattle.mesa_lease.specs.Book.{granted}
 use Rattle.mesa_engine.specs.mesa_metadata.Memory.{with_leases}
 use Rattle.mesa_plans.specs.mesa_table.Meaning.{stock_of}
-use Rattle.mesa_engine.specs.mesa_projection_laws.Rows.{Rows, no_rows}
+use Rattle.mesa_engine.specs.mesa_history_spec.Rows.{Rows, no_rows}
 use Rattle.mesa_publishing.specs.Finished.{HasRange}
 use Rattle.mesa_tasks.specs.Tasks.{IsTask}
 use Rattle.mesa_tasks.specs.declared.merging.Task.{Task}

@@ -10,7 +10,7 @@ use Rattle.mesa_plans.specs.mesa_schema.Recasts.{Recast, recast_checked}
 use Rattle.mesa_engine.specs.mesa_engine_spec.EngineState.{books_of}
 use Rattle.mesa_engine.specs.mesa_engine_spec.mesa_invariant_spec.Works.{HasNoClaim}
 use Rattle.mesa_engine.specs.mesa_history_spec.Machine.{Recasts, recast_claim_of}
-use Rattle.mesa_engine.specs.mesa_projection_laws.Rows.{no_rows}
+use Rattle.mesa_engine.specs.mesa_history_spec.Rows.{no_rows}
 use Rattle.mesa_work_turns.proofs.RecastClaims.{busy, claimed, crowded, denied, over, shut, within}
 use Rattle.mesa_work_turns.proofs.recast_claiming.claim_recast.Goals as goal
 

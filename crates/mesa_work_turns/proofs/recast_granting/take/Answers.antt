@@ -15,7 +15,7 @@ use Rattle.mesa_engine.specs.Failure.{cause_in}
 use Rattle.mesa_lease.specs.Book.{granted}
 use Rattle.mesa_engine.specs.mesa_metadata.Memory.{with_leases}
 use Rattle.mesa_plans.specs.mesa_table.Meaning.{stock_of}
-use Rattle.mesa_engine.specs.mesa_projection_laws.Rows.{Rows, no_rows}
+use Rattle.mesa_engine.specs.mesa_history_spec.Rows.{Rows, no_rows}
 use Rattle.mesa_engine.specs.mesa_engine_spec.mesa_invariant_spec.Turns.{AnswersDisk, Shown, SomeRose, Takes, entry, faults_of}
 use Rattle.mesa_engine.specs.mesa_engine_spec.mesa_invariant_spec.Invariant.{run_at}
 use Rattle.mesa_engine.proofs.mesa_engine_spec.mesa_invariant_spec.Alike.{due_alike}

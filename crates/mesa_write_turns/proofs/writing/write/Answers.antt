@@ -10,7 +10,7 @@ use Rattle.mesa_model.specs.Entry.{IsShort}
 use Rattle.mesa_model.specs.declared.entries.Kind.TheVariants as kind
 use Rattle.mesa_model.specs.declared.entries.Outcome.TheVariants as outcome
 use Rattle.mesa_record.proofs.RecordsBoth.{record_found}
-use Rattle.mesa_engine.specs.mesa_projection_laws.Rows.{no_rows}
+use Rattle.mesa_engine.specs.mesa_history_spec.Rows.{no_rows}
 use Rattle.mesa_engine.specs.mesa_engine_spec.mesa_invariant_spec.Causes.{Unwritten, reply_of, told_at}
 use Rattle.mesa_engine.specs.mesa_engine_spec.mesa_invariant_spec.Turns.{AnswersDisk, AnswersDraft, Shown, SomeRose, Takes, entry, faults_of}
 use Rattle.mesa_engine.specs.mesa_engine_spec.mesa_invariant_spec.Invariant.{Counts, run_at}

@@ -4,7 +4,7 @@ use Rattle.mesa_core.specs.Vault.{Stand}
 use Rattle.mesa_core.proofs.Handed.{has_differed, has_failed, none_damaged, to_close}
 use Rattle.mesa_session_laws.specs.Pins.{IsOpenQuery, known_pin}
 use Rattle.mesa_engine.specs.mesa_invariant_spec.Turns.{AnswersDisk, SomeRose}
-use Rattle.mesa_engine.specs.mesa_projection_laws.Rows.{no_rows}
+use Rattle.mesa_engine.specs.mesa_history_spec.Rows.{no_rows}
 use Rattle.mesa_core.proofs.vault.Vault.close_query.Goals as goal
 
 pub close_query-requires-clause-due : goal.close_query-requires-clause-due

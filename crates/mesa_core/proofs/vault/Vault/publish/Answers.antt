@@ -4,7 +4,7 @@ use Rattle.mesa_session_laws.specs.mesa_history_spec.Run.{Looked, command_at}
 use Rattle.mesa_model.specs.declared.commands.Command.TheVariants as command
 use Rattle.mesa_model.specs.declared.commands.Script.{Script}
 use Rattle.mesa_session_laws.specs.Sight.{sight_after}
-use Rattle.mesa_engine.specs.mesa_projection_laws.Rows.{no_rows}
+use Rattle.mesa_engine.specs.mesa_history_spec.Rows.{no_rows}
 use Rattle.mesa_tasks.specs.Batches.{HasPrepared}
 use Rattle.mesa_engine.specs.mesa_invariant_spec.Turns.{Asks, is_load}
 use Rattle.mesa_engine.specs.mesa_invariant_spec.Invariant.{run_at}

@@ -13,7 +13,7 @@ use Rattle.mesa_recast_turns.specs.mesa_close_turns.Swept.{ClaimHolds, HasStood,
 use Rattle.mesa_recast_turns.specs.mesa_close_turns.Unmerged.{closing_cause}
 use Rattle.mesa_recast_turns.specs.Rested.{HasUnpaid}
 use Rattle.mesa_model.specs.mesa_schema.Changes.{epoch_of}
-use Rattle.mesa_engine.specs.mesa_projection_laws.Rows.{no_rows}
+use Rattle.mesa_engine.specs.mesa_history_spec.Rows.{no_rows}
 use Rattle.mesa_tasks.specs.Recasts.{claim_of_recast, recast_in}
 use Rattle.mesa_tasks.specs.declared.merging.CompactError.TheVariants as compact
 use Rattle.mesa_engine.specs.mesa_invariant_spec.mesa_history_spec.Output.{block}

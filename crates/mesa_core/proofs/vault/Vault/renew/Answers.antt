@@ -1,7 +1,7 @@
 use Rattle.std.proofs.Common.{sym, subst}
 use Rattle.mesa_session_laws.specs.mesa_history_spec.Run.{Granted}
 use Rattle.mesa_model.specs.declared.commands.Command.TheVariants as command
-use Rattle.mesa_engine.specs.mesa_projection_laws.Rows.{no_rows}
+use Rattle.mesa_engine.specs.mesa_history_spec.Rows.{no_rows}
 use Rattle.mesa_tasks.specs.Tasks.{claim_in}
 use Rattle.mesa_engine.specs.mesa_invariant_spec.Turns.{AnswersDisk, Asks, SomeRose, is_merge}
 use Rattle.mesa_engine.specs.mesa_invariant_spec.Invariant.{run_at}

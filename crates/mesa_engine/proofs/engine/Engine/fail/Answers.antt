@@ -7,7 +7,7 @@ use Rattle.mesa_metadata.specs.mesa_engine_spec.Vault.{Starts, IsVault, outset_o
 use Rattle.mesa_metadata.proofs.mesa_engine_spec.Beginning.{vault_at_seen}
 use Rattle.mesa_engine.specs.Failure.{cause_in}
 use Rattle.mesa_metadata.specs.mesa_engine_spec.mesa_history_spec.Output.{block}
-use Rattle.mesa_metadata.specs.mesa_engine_spec.mesa_projection_laws.Rows.{no_rows}
+use Rattle.mesa_metadata.specs.mesa_engine_spec.mesa_history_spec.Rows.{no_rows}
 use Rattle.mesa_metadata.specs.mesa_engine_spec.mesa_invariant_spec.Causes.{outcome_of, reply_of, told_at}
 use Rattle.mesa_metadata.specs.mesa_engine_spec.mesa_invariant_spec.Printing.{IsPut}
 use Rattle.mesa_metadata.specs.mesa_engine_spec.mesa_invariant_spec.Turns.{AnswersDisk, AnswersDraft, Shown, Takes, entry}

@@ -3,7 +3,7 @@ use Rattle.mesa_model.specs.Entry.{IsShort}
 use Rattle.mesa_model.specs.declared.entries.Outcome.TheVariants as outcome
 use Rattle.mesa_metadata.specs.mesa_engine_spec.Vault.{Starts, outset_of}
 use Rattle.mesa_metadata.proofs.mesa_engine_spec.Beginning.{vault_at_seen}
-use Rattle.mesa_metadata.specs.mesa_engine_spec.mesa_projection_laws.Rows.{Rows, no_rows}
+use Rattle.mesa_metadata.specs.mesa_engine_spec.mesa_history_spec.Rows.{Rows, no_rows}
 use Rattle.mesa_metadata.specs.mesa_engine_spec.mesa_invariant_spec.Turns.{AnswersDisk, AnswersDraft, Shown, Takes, entry}
 use Rattle.mesa_metadata.specs.mesa_engine_spec.mesa_invariant_spec.Invariant.{run_at}
 use Rattle.mesa_metadata.proofs.mesa_engine_spec.mesa_invariant_spec.Faulting.{disk_never}

@@ -19,8 +19,8 @@ use Rattle.mesa_history_spec.specs.mesa_model.Tables.{recast_reply}
 use Rattle.mesa_history_spec.specs.Machine.{Machine, Claim, Errand, Merges, Recasts, claim_checked, claim_ended, claim_recast, still_checked, explained}
 use Rattle.mesa_history_spec.specs.Run.{State, Stage, First, Looked, Answered, Granted, Renewed, Finished, CutOff, Run, place_of, command_of}
 use Rattle.mesa_history_spec.specs.Replay.{turned, turn_as, turn_of, standing, decide, decided, decided_query, decided_explain, grants, claim_asked, renews, renew, completes, does, recasts, close, prints, leaves, refused_turn, closed_if, closes, machine_after, no_rows, some_damage, with_machine}
-use Rattle.mesa_projection_laws.specs.Bare.{bare, bare_done, bare_reply, bare_answer, bare_state, bare_stage, bare_turned, bare_run}
-use Rattle.mesa_projection_laws.proofs.Steps.{answer_of, asked-bare, bare_twice, explain-bare, nothing_step-bare, query-bare, recast_same, step-bare, table_bare}
+use Rattle.mesa_history_spec.specs.Bare.{bare, bare_done, bare_reply, bare_answer, bare_state, bare_stage, bare_turned, bare_run}
+use Rattle.mesa_history_spec.proofs.BareSteps.{answer_of, asked-bare, bare_twice, explain-bare, nothing_step-bare, query-bare, recast_same, step-bare, table_bare}
 
 state_twice : (s : State) → bare_state s ≡ bare_state (bare_state s)
 state_twice s = λ i. record s { warehouse = sym (bare_twice s.warehouse) i }

@@ -41,8 +41,8 @@ use Rattle.mesa_history_spec.specs.Machine.{Machine, Claim, Merges, Recasts, cla
 use Rattle.mesa_history_spec.specs.Replay.{claim_asked}
 use Rattle.mesa_history_spec.specs.mesa_span.Work.{next_work}
 use Rattle.mesa_history_spec.specs.mesa_lease.Book.{holder}
-use Rattle.mesa_projection_laws.specs.Bare.{bare, bare_table, bare_store, bare_pin, bare_done, bare_reply, bare_answer, bare_result}
-use Rattle.mesa_projection_laws.proofs.Lists.{same_check, same_value, same_bare, some_bare, is_some_same, maps_same, length_same, at_same, set_same, append_same, find_same, filter_same}
+use Rattle.mesa_history_spec.specs.Bare.{bare, bare_table, bare_store, bare_pin, bare_done, bare_reply, bare_answer, bare_result}
+use Rattle.mesa_history_spec.proofs.BareLists.{same_check, same_value, same_bare, some_bare, is_some_same, maps_same, length_same, at_same, set_same, append_same, find_same, filter_same}
 
 abbrev pub done_of : Result (Warehouse × Reply) Refusal → Result (Warehouse × Reply) Refusal
 done_of = bare_result bare_done

@@ -1,8 +1,8 @@
 use Rattle.std.proofs.Common.{ap}
 use Rattle.mesa_history_spec.specs.Run.{begins}
-use Rattle.mesa_projection_laws.proofs.Turns.{turned-bare}
-use Rattle.mesa_projection_laws.proofs.Alike.{runs_alike, legal_alike, refused_alike}
-use Rattle.mesa_projection_laws.proofs.laws.runs_are_alike.Goals as goal
+use Rattle.mesa_history_spec.proofs.BareTurns.{turned-bare}
+use Rattle.mesa_history_spec.proofs.Alike.{runs_alike, legal_alike, refused_alike}
+use Rattle.mesa_history_spec.proofs.projections.runs_are_alike.Goals as goal
 
 pub returns : goal.returns
 returns c = record {

@@ -14,7 +14,7 @@ ghost use Rattle.mesa_history_spec.specs.mesa_model.declared.commands.ExplainWor
 ghost use Rattle.mesa_history_spec.specs.mesa_model.declared.commands.RecastWords.{RecastWords};
 ghost use Rattle.mesa_history_spec.specs.mesa_model.declared.commands.Script.{Script};
 ghost use Rattle.mesa_history_spec.specs.mesa_model.declared.entries.Entry.{Entry};
-ghost use Rattle.mesa_projection_laws.specs.Bare.{bare, bare_answer, bare_done, bare_result, bare_run, bare_state, bare_turned};
+ghost use Rattle.mesa_history_spec.specs.Bare.{bare, bare_answer, bare_done, bare_result, bare_run, bare_state, bare_turned};
 
 /// A command does the same to a warehouse and to its projection: it is refused alike, and else has the
 /// same reply but for a page's rows, and leaves the same projection. A work, a recast and an explain are

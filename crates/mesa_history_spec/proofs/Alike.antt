@@ -17,9 +17,9 @@ use Rattle.mesa_history_spec.specs.mesa_model.declared.replies.Reply.TheVariants
 use Rattle.mesa_history_spec.specs.Run.{State, Stage, First, Looked, Answered, Granted, Renewed, Finished, CutOff, Place, Told, Last, Silent, Printed, Skipped, Run, place_of, command_of, begins}
 use Rattle.mesa_history_spec.specs.Replay.{Turned, closes, stood, is_later, turned, told_by, is_skipped, after, with_place, place_after, last_of, go, runs}
 use Rattle.mesa_history_spec.specs.Legal.{same_kind, is_stands, Fits, AllFit, IsLegal, ends_well, fits_moment, fits_sink, is_answered, is_complete, is_cut_off, is_due, is_due_at, is_due_of, is_unrenewed, is_written, wrote, sessions_of, fits_renewal, is_unread, is_unwritten, is_same_moment, would_write, builds_files, builds_files_in}
-use Rattle.mesa_projection_laws.specs.Bare.{bare_table, bare_store, bare_place, bare_reply, bare_run, bare_stage, bare_state, bare_told, bare_turned}
-use Rattle.mesa_projection_laws.proofs.Lists.{maps_same}
-use Rattle.mesa_projection_laws.proofs.Turns.{turned-bare}
+use Rattle.mesa_history_spec.specs.Bare.{bare_table, bare_store, bare_place, bare_reply, bare_run, bare_stage, bare_state, bare_told, bare_turned}
+use Rattle.mesa_history_spec.proofs.BareLists.{maps_same}
+use Rattle.mesa_history_spec.proofs.BareTurns.{turned-bare}
 use Rattle.mesa_history_spec.specs.Refused.{is_refusal, tells_refusal, some_refused}
 
 -- ---- one entry
