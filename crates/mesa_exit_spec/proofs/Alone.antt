@@ -1,8 +1,8 @@
 -- What the sink was given by a run of one session alone.
 use Rattle.std.proofs.Common.{◌≡◌, ℕ, List, Bool, false, not, subst, Option, None}
 use Rattle.std.specs.Io.KnownBytes.{Appends}
-use Rattle.mesa_single_session_laws.specs.Alone.{AllTurnsStand, IsAlone, output_alone}
-use Rattle.mesa_single_session_laws.proofs.Printing.{prints_alone}
+use Rattle.mesa_history_laws.specs.Alone.{AllTurnsStand, IsAlone, output_alone}
+use Rattle.mesa_history_laws.proofs.OneText.{prints_alone}
 use Rattle.mesa_model.specs.declared.commands.Script.{Script}
 use Rattle.mesa_model.specs.declared.entries.Entry.{Entry}
 use Rattle.mesa_check.specs.mesa_history_spec.Legal.{IsLegal}

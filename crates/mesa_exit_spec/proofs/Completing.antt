@@ -25,7 +25,7 @@ use Rattle.mesa_exit_spec.specs.Ending.{Ended, EndedOpening, Ends, EndsForm, End
 use Rattle.mesa_exit_spec.specs.Completing.{AllQuiet, AsksFor, Completes, HasRoomToRun, NothingFailed}
 use Rattle.mesa_exit_spec.specs.declared.done.Devices.{Devices}
 use Rattle.mesa_exit_spec.specs.declared.done.Done.{Done}
-use Rattle.mesa_single_session_laws.proofs.Settled.{ends_unskipped, none_skipped}
+use Rattle.mesa_history_laws.proofs.Settled.{ends_unskipped, none_skipped}
 use Rattle.mesa_exit_spec.proofs.Quiet.{all_quiet, not_risen, sessions_there}
 use Rattle.mesa_exit_spec.proofs.Readable.{reads_same, sound_fits, sound_whole}
 use Rattle.mesa_exit_spec.proofs.Small.{scripts_small}

@@ -1,7 +1,7 @@
 -- A run in which no count rose and no printed reply is memory.
 use Rattle.std.proofs.Common.{◌≡◌, ◌⊎◌, inl, inr, ◌<◌, ℕ, List, [], ◌∷◌, length, Bool, true, false, refl, sym, ◌∙◌, ap, subst, arith, Option, Some}
 use Rattle.std.specs.Prelude.{◌≢◌, ◌||◌, IfSome, Ok}
-use Rattle.mesa_single_session_laws.specs.Alone.{AllTurnsStand}
+use Rattle.mesa_history_laws.specs.Alone.{AllTurnsStand}
 use Rattle.mesa_model.specs.declared.commands.Script.{Script}
 use Rattle.mesa_model.specs.declared.entries.Entry.{Entry}
 use Rattle.mesa_model.specs.declared.entries.Kind.{Kind}

@@ -1,7 +1,7 @@
 -- A run of one session alone in which nothing failed and no reply tells that memory was short.
 use Rattle.std.specs.Prelude.{◌≡◌, ◌≢◌, ℕ, List, [], ◌∷◌, Bool, true, false, ◌||◌, Option, None, Some}
 use Rattle.std.specs.Io.KnownBytes.{Appends}
-use Rattle.mesa_single_session_laws.specs.Alone.{AllTurnsStand, IsAlone, output_alone}
+use Rattle.mesa_history_laws.specs.Alone.{AllTurnsStand, IsAlone, output_alone}
 use Rattle.mesa_model.specs.declared.commands.Script.{Script}
 use Rattle.mesa_model.specs.declared.entries.Entry.{Entry}
 use Rattle.mesa_model.specs.declared.replies.Refusal.{Refusal}

@@ -37,3 +37,9 @@ pub mod Turns
 pub mod WellFormed
 pub mod Wholes
 pub mod Closing
+pub mod Settled
+mod Undated
+mod Standing
+mod Walking
+mod Sessions
+pub mod OneText

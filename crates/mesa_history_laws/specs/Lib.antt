@@ -1,3 +1,4 @@
+pub use Rattle.mesa_history_spec.specs as mesa_history_spec
 pub mod Answers
 pub mod Given
 pub mod Later
@@ -6,3 +7,4 @@ pub mod Printed
 pub mod Versions
 pub mod Whole
 pub mod Closing
+pub mod Alone

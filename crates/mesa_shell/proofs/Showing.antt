@@ -2,7 +2,7 @@
 use Rattle.std.proofs.Common.{◌≡◌, ℕ, ◌+◌, ◌++◌, List, [], Bool, true, false, refl, sym, ap, subst, inl, inr, Option, Some, Ok}
 use Rattle.std.specs.Prelude.{if◌then◌else◌}
 use Rattle.std.specs.Io.KnownBytes.{Appends}
-use Rattle.mesa_exit.specs.mesa_exit_spec.mesa_single_session_laws.Alone.{output_alone}
+use Rattle.mesa_exit.specs.mesa_exit_spec.mesa_history_laws.Alone.{output_alone}
 use Rattle.mesa_disk.specs.Story.{Story}
 use Rattle.mesa_model.specs.declared.commands.Script.{Script}
 use Rattle.mesa_check.specs.mesa_history_spec.Refused.{some_refused}

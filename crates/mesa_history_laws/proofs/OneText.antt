@@ -7,11 +7,11 @@ use Rattle.mesa_history_spec.specs.Legal.{IsLegal}
 use Rattle.mesa_history_spec.specs.Replay.{runs}
 use Rattle.mesa_history_spec.specs.Run.{State, begins}
 use Rattle.mesa_history_spec.specs.Output.{IsOutput}
-use Rattle.mesa_single_session_laws.specs.Alone.{AllTurnsStand, AreAlike, IsAlone, output_alone}
-use Rattle.mesa_single_session_laws.proofs.Sessions.{sessions_run_alone}
-use Rattle.mesa_single_session_laws.proofs.Settled.{AllSettled, all_settled, ends_unskipped, none_skipped}
-use Rattle.mesa_single_session_laws.proofs.Undated.{output_is_one, outputs_alike}
-use Rattle.mesa_single_session_laws.proofs.Walking.{sessions_stand}
+use Rattle.mesa_history_laws.specs.Alone.{AllTurnsStand, AreAlike, IsAlone, output_alone}
+use Rattle.mesa_history_laws.proofs.OneSession.{sessions_run_alone}
+use Rattle.mesa_history_laws.proofs.Settled.{AllSettled, all_settled, ends_unskipped, none_skipped}
+use Rattle.mesa_history_laws.proofs.Undated.{output_is_one, outputs_alike}
+use Rattle.mesa_history_laws.proofs.Walking.{sessions_stand}
 
 -- each turn of a legal run whose sink didn't fail is settled, where all but looks stand
 legal_settled : (start : State) (script : Script) (h : List Entry) → IsLegal start script h false → AllTurnsStand h → AllSettled h

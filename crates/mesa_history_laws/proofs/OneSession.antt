@@ -10,10 +10,10 @@ use Rattle.mesa_history_spec.specs.Legal.{AllFit, IsLegal, is_complete, sessions
 use Rattle.mesa_history_spec.specs.Replay.{runs}
 use Rattle.mesa_history_spec.specs.Run.{State, Run, command_at, commands_of, numbered, begins, place_of}
 use Rattle.mesa_history_spec.proofs.Due.{due_turn}
-use Rattle.mesa_single_session_laws.specs.Alone.{IsAlone, undated}
-use Rattle.mesa_single_session_laws.proofs.Settled.{AllSettled}
-use Rattle.mesa_single_session_laws.proofs.Standing.{turns_to}
-use Rattle.mesa_single_session_laws.proofs.Walking.{walks_alone}
+use Rattle.mesa_history_laws.specs.Alone.{IsAlone, undated}
+use Rattle.mesa_history_laws.proofs.Settled.{AllSettled}
+use Rattle.mesa_history_laws.proofs.Standing.{turns_to}
+use Rattle.mesa_history_laws.proofs.Walking.{walks_alone}
 
 -- ---- lists
 

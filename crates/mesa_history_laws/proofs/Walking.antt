@@ -17,10 +17,10 @@ use Rattle.mesa_history_spec.proofs.Due.{due_turn}
 use Rattle.mesa_history_spec.proofs.Finding.{all_more}
 use Rattle.mesa_history_spec.proofs.More.{state_after, turned_is}
 use Rattle.mesa_history_spec.proofs.Places.{place_of-go}
-use Rattle.mesa_single_session_laws.specs.Alone.{undated}
-use Rattle.mesa_single_session_laws.proofs.Settled.{AllSettled, IsSettled, settled_goes}
-use Rattle.mesa_single_session_laws.proofs.Undated.{go_same, undated_run, undated_stands}
-use Rattle.mesa_single_session_laws.proofs.Standing.{few_turns, kind_stands, look_due, turn_goes, turn_stays, turns_after, turns_to, turns_at}
+use Rattle.mesa_history_laws.specs.Alone.{undated}
+use Rattle.mesa_history_laws.proofs.Settled.{AllSettled, IsSettled, settled_goes}
+use Rattle.mesa_history_laws.proofs.Undated.{go_same, undated_run, undated_stands}
+use Rattle.mesa_history_laws.proofs.Standing.{few_turns, kind_stands, look_due, turn_goes, turn_stays, turns_after, turns_to, turns_at}
 
 -- ---- the entry that comes next
 

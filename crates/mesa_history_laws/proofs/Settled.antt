@@ -18,7 +18,7 @@ use Rattle.mesa_history_spec.specs.Replay.{is_skip, is_skipped, last_of, refused
 use Rattle.mesa_history_spec.specs.Run.{Last, Run, Skipped, Stage, First, Looked, Answered, Granted, Renewed, Finished, CutOff, Told, place_of}
 use Rattle.mesa_history_spec.proofs.Due.{due_turn}
 use Rattle.mesa_history_spec.proofs.More.{last_after}
-use Rattle.mesa_single_session_laws.specs.Alone.{AllTurnsStand, outcome_told}
+use Rattle.mesa_history_laws.specs.Alone.{AllTurnsStand, outcome_told}
 
 -- An entry's turn stands, or it is a look that lacked memory.
 abbrev pub IsSettledAs : Kind → Outcome → Type 0

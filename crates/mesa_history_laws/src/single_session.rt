@@ -1,5 +1,5 @@
 // Laws of one session alone.
-ghost use Rattle.mesa_single_session_laws.specs.Alone.{PrintsAlone, RunsAlone};
+ghost use Rattle.mesa_history_laws.specs.Alone.{PrintsAlone, RunsAlone};
 
 /// Let at most one session of a script have commands, and let a run begin on a store that isn't closed. Where
 /// every turn but a look stands, its history has the entries, but for their moments and the outcomes of looks,

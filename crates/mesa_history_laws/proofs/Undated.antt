@@ -8,8 +8,8 @@ use Rattle.mesa_history_spec.specs.mesa_model.declared.entries.Outcome.TheVarian
 use Rattle.mesa_history_spec.specs.Replay.{Turned, turned, told_by, turn_of, turn_as, is_skip, is_skipped, last_of, after, go}
 use Rattle.mesa_history_spec.specs.Run.{Told, Run, place_of, command_of}
 use Rattle.mesa_history_spec.specs.Output.{block, IsBlockAs, IsOutput, output}
-use Rattle.mesa_single_session_laws.specs.Alone.{AreAlike, undated}
-use Rattle.mesa_single_session_laws.proofs.Settled.{AllSettled, IsSettled, settled_goes, settled_told}
+use Rattle.mesa_history_laws.specs.Alone.{AreAlike, undated}
+use Rattle.mesa_history_laws.proofs.Settled.{AllSettled, IsSettled, settled_goes, settled_told}
 
 -- a run without the moment of its last turn
 abbrev pub undated_run : Run → Run

@@ -1,6 +1,0 @@
-pub mod Settled
-mod Undated
-mod Standing
-mod Walking
-mod Sessions
-pub mod Printing

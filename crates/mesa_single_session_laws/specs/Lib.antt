@@ -1,2 +1,0 @@
-pub use Rattle.mesa_history_spec.specs as mesa_history_spec
-pub mod Alone
