@@ -3,7 +3,7 @@ use Rattle.std.proofs.Common.{◌≡◌, inl, inr, ⊎_elim, ◌≤◌, ℕ, Lis
 use Rattle.std.specs.Prelude.{◌↔◌}
 use Rattle.mesa_disk.specs.Image.{Image}
 use Rattle.mesa_disk.specs.Story.{Story}
-use Rattle.mesa_arguments.specs.declared.forms.Form.TheVariants as form
+use Rattle.mesa_parse.specs.declared.forms.Form.TheVariants as form
 use Rattle.mesa_check.specs.mesa_commit.Images.{Has}
 use Rattle.mesa_store_digest.specs.mesa_history_spec.Rows.{Rows}
 use Rattle.mesa_check.specs.mesa_image_spec.Catalog.{Catalog}

@@ -9,8 +9,8 @@ use Rattle.mesa_check.specs.mesa_history_spec.Run.{Run, begins}
 use Rattle.mesa_script.specs.declared.script.ScriptError.{ScriptError}
 use Rattle.mesa_script.specs.Generated.{generated}
 use Rattle.mesa_script.specs.Script.{script_of}
-use Rattle.mesa_arguments.specs.declared.forms.Form.{Form}
-use Rattle.mesa_arguments.specs.declared.forms.Form.TheVariants as form
+use Rattle.mesa_parse.specs.declared.forms.Form.{Form}
+use Rattle.mesa_parse.specs.declared.forms.Form.TheVariants as form
 use Rattle.mesa_store_digest.specs.mesa_history_spec.Rows.{Rows}
 use Rattle.mesa_check.specs.mesa_image_spec.Catalog.{Catalog}
 use Rattle.mesa_check.specs.mesa_recover.declared.error.OpenError.{OpenError}

@@ -15,7 +15,7 @@ use Rattle.mesa_check.specs.mesa_history_spec.Run.{Run, Stage, State, begins, pl
 use Rattle.mesa_check.proofs.mesa_history_spec.Due.{due_turn}
 use Rattle.mesa_check.proofs.mesa_history_spec.More.{turned_is}
 use Rattle.mesa_script.specs.Script.{script_of}
-use Rattle.mesa_arguments.specs.declared.forms.Form.TheVariants as form
+use Rattle.mesa_parse.specs.declared.forms.Form.TheVariants as form
 use Rattle.mesa_store_digest.specs.mesa_history_spec.Rows.{Rows}
 use Rattle.mesa_check.specs.mesa_image_spec.Catalog.{Catalog}
 use Rattle.mesa_exit_spec.specs.Ports.{Ports}

@@ -10,7 +10,7 @@ use Rattle.mesa_model.specs.declared.replies.Reply.{Reply}
 use Rattle.mesa_model.specs.declared.replies.Reply.TheVariants as reply
 use Rattle.mesa_check.specs.mesa_history_spec.Replay.{go, told_by}
 use Rattle.mesa_check.specs.mesa_history_spec.Run.{Run, Told, begins}
-use Rattle.mesa_arguments.specs.declared.forms.Form.TheVariants as form
+use Rattle.mesa_parse.specs.declared.forms.Form.TheVariants as form
 use Rattle.mesa_store_digest.specs.mesa_history_spec.Rows.{Rows}
 use Rattle.mesa_check.specs.mesa_image_spec.Catalog.{Catalog}
 use Rattle.mesa_exit_spec.specs.Ports.{Ports}

@@ -6,7 +6,7 @@ use Rattle.mesa_model.specs.declared.commands.Script.{Script}
 use Rattle.mesa_model.specs.declared.entries.Entry.{Entry}
 use Rattle.mesa_check.specs.mesa_history_spec.Found.{Kept}
 use Rattle.mesa_check.specs.mesa_history_spec.Law.{HoldsIn}
-use Rattle.mesa_arguments.specs.declared.forms.Form.{Form}
+use Rattle.mesa_parse.specs.declared.forms.Form.{Form}
 use Rattle.mesa_invariant_spec.specs.Invariant.{run_at}
 use Rattle.mesa_exit_spec.specs.Ports.{Ports}
 use Rattle.mesa_exit_spec.specs.Start.{state_of}

@@ -7,7 +7,7 @@ use Rattle.mesa_disk.specs.Story.{Story}
 use Rattle.mesa_model.specs.declared.commands.Script.{Script}
 use Rattle.mesa_model.specs.declared.entries.Entry.{Entry}
 use Rattle.mesa_check.specs.mesa_history_spec.Found.{Kept}
-use Rattle.mesa_arguments.specs.declared.forms.Form.{Form}
+use Rattle.mesa_parse.specs.declared.forms.Form.{Form}
 use Rattle.mesa_store_digest.specs.mesa_history_spec.Rows.{Rows}
 use Rattle.mesa_invariant_spec.specs.Invariant.{run_at}
 use Rattle.mesa_check.specs.mesa_image_spec.Catalog.{Catalog}

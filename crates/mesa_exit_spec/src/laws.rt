@@ -19,7 +19,7 @@ ghost use Rattle.mesa_model.specs.declared.commands.Script.{Script};
 ghost use Rattle.mesa_script.specs.Script.{script_of};
 ghost use Rattle.mesa_store_digest.specs.mesa_history_spec.Bare.{bare_state};
 ghost use Rattle.mesa_store_digest.specs.mesa_history_spec.Rows.{Rows, no_rows};
-ghost use Rattle.mesa_arguments.specs.declared.forms.Form.{Form as AnyForm};
+ghost use Rattle.mesa_parse.specs.declared.forms.Form.{Form as AnyForm};
 
 use mesa_disk::{Disk, Made};
 

@@ -4,3 +4,6 @@ pub mod RecordsLeft
 pub mod RowItems
 pub mod Steps
 pub mod Taking
+pub mod Named
+pub mod Outcomes
+pub mod Walking

@@ -1,9 +1,14 @@
 //! Reading scripts: what their records say, as csv reads them.
+//!
+//! The words that the program is called with: `run`, `check`, `gen SEED VERSIONS`,
+//! or `digest NAME`.
 #![tactic(auto)]
 
 mod changes;
 mod columns;
+mod command;
 mod failed;
+mod forms;
 mod items;
 mod kinds;
 mod numbers;
@@ -14,3 +19,4 @@ mod versions;
 
 pub use numbers::number_in;
 pub use scripts::parse;
+pub use forms::{Form, read_form};

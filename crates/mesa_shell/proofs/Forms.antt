@@ -1,7 +1,7 @@
 -- What the top call ends with, by the form of its words.
 use Rattle.std.proofs.Common.{◌≡◌, ℕ, List, inl, subst, Option, Some}
-use Rattle.mesa_arguments.specs.declared.forms.Form.{Form}
-use Rattle.mesa_arguments.specs.declared.forms.Form.TheVariants as form
+use Rattle.mesa_parse.specs.declared.forms.Form.{Form}
+use Rattle.mesa_parse.specs.declared.forms.Form.TheVariants as form
 use Rattle.mesa_model.specs.declared.commands.Script.{Script}
 use Rattle.mesa_store_digest.specs.mesa_history_spec.Rows.{Rows}
 use Rattle.mesa_check.specs.mesa_catalog.mesa_image_spec.Catalog.{Catalog}

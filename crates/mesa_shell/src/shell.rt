@@ -9,15 +9,15 @@ ghost use Rattle.mesa_exit.specs.mesa_exit_spec.Ports.{ports};
 ghost use Rattle.mesa_exit.specs.mesa_exit_spec.Scripts.{IsSmall};
 ghost use Rattle.mesa_exit.specs.mesa_exit_spec.Statuses.{Tells};
 ghost use Rattle.mesa_exit.specs.mesa_exit_spec.mesa_recover.Opening.{IsSoundStart};
-ghost use Rattle.mesa_arguments.specs.Forms.{form_of};
-ghost use Rattle.mesa_arguments.specs.declared.forms.Form.TheVariants as form;
+ghost use Rattle.mesa_parse.specs.Forms.{form_of};
+ghost use Rattle.mesa_parse.specs.declared.forms.Form.TheVariants as form;
 
 use crate::checking::check_store;
 use crate::digesting::digest_relation;
 use crate::generating::run_generated;
 use crate::opening::open;
 use crate::running::{Left, run_begun};
-use mesa_arguments::{Form, read_form};
+use mesa_parse::{Form, parse, read_form};
 use mesa_disk::{Bench, Disk, Made};
 use mesa_exit::{
     Devices, Done, ended, ended_opening, ended_refused, lacks_memory, run_status,
@@ -25,7 +25,6 @@ use mesa_exit::{
 };
 use mesa_io::{ReadError, Sink, Source, read_all};
 use mesa_model::Script;
-use mesa_parse::parse;
 use mesa_script::ScriptError;
 use mesa_session::Gate;
 use std::alloc::{AllocError, Global};

@@ -1,6 +1,6 @@
 // The words that the program is called with, and the script that a seed gives.
 use crate::expected::expect_same;
-use mesa_arguments::{Form, read_form};
+use mesa_parse::{Form, read_form};
 use mesa_generate::generate;
 use std::str;
 

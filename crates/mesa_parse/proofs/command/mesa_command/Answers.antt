@@ -2,8 +2,8 @@ use Rattle.std.proofs.Common.{◌≡◌, ◌∙◌, ap, ap₂, codes, rules}
 use Rattle.std.proofs.lemmas.Result.{IfOk-weaker}
 use Rattle.clap.specs.Words.{App, Shape, app_of, new_app, with_subcommand}
 use Rattle.clap.specs.Simple.{on_top}
-use Rattle.mesa_arguments.specs.Command.{digest, gen, set_up}
-use Rattle.mesa_arguments.proofs.command.mesa_command.Goals as goal
+use Rattle.mesa_parse.specs.Command.{digest, gen, set_up}
+use Rattle.mesa_parse.proofs.command.mesa_command.Goals as goal
 
 abbrev top_of : App → Shape
 top_of a = a.top

@@ -2,9 +2,9 @@
 use Rattle.std.specs.Prelude.{List, codes, if◌then◌else◌, Option, Some, None}
 use Rattle.std.specs.Str.{bytes_eq}
 use Rattle.clap.specs.Words.{Row, Text, first_of}
-use Rattle.mesa_arguments.specs.declared.forms.Form.{Form}
-use Rattle.mesa_arguments.specs.declared.forms.Form.TheVariants.{Run, Check, Digest}
-use Rattle.mesa_arguments.specs.Forms.{gen_of}
+use Rattle.mesa_parse.specs.declared.forms.Form.{Form}
+use Rattle.mesa_parse.specs.declared.forms.Form.TheVariants.{Run, Check, Digest}
+use Rattle.mesa_parse.specs.Forms.{gen_of}
 
 -- a script to be generated, where both of its words were found
 abbrev pub gen_found : Option Text → Option Text → Option Form

@@ -1,8 +1,8 @@
 use Rattle.std.proofs.Common.{◌≡◌, ◌∙◌, ap, ap₂, codes, rules}
 use Rattle.std.proofs.lemmas.Result.{IfOk-weaker}
 use Rattle.clap.specs.Words.{App, app_of, rule_of, with_rule, with_subcommand}
-use Rattle.mesa_arguments.specs.Command.{digest, needed}
-use Rattle.mesa_arguments.proofs.command.with_digest.Goals as goal
+use Rattle.mesa_parse.specs.Command.{digest, needed}
+use Rattle.mesa_parse.proofs.command.with_digest.Goals as goal
 
 pub returns : goal.returns
 returns c =

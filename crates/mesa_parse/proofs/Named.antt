@@ -9,8 +9,8 @@ use Rattle.clap.specs.declared.parser.matches.Found.{Found}
 use Rattle.clap.specs.declared.parser.matches.SubCommand.{SubCommand}
 use Rattle.clap.specs.declared.parser.matches.ArgMatches.TheViews.{out-SubCommand}
 use Rattle.clap.proofs.WalkLemmas.{first_value-rows}
-use Rattle.mesa_arguments.specs.declared.forms.Form.TheVariants.{Run, Check, Digest}
-use Rattle.mesa_arguments.specs.Found.{digest_found, form_found, gen_found}
+use Rattle.mesa_parse.specs.declared.forms.Form.TheVariants.{Run, Check, Digest}
+use Rattle.mesa_parse.specs.Found.{digest_found, form_found, gen_found}
 
 module _ {Z : Type 0} where
   told : (s : Option (Box SubCommand Z)) (n : Text) (rows : List Row) → option_map (λ b. (out-SubCommand (box_value b)).name.now) s ≡ Some n → option_map (λ p. p.1) (subcommand_rows s) ≡ Some rows → subcommand_rows s ≡ Some (n, rows)

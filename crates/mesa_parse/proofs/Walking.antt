@@ -13,7 +13,7 @@ use Rattle.std.specs.Option.{option_map_or}
 use Rattle.clap.proofs.OnLiterals.{clap_on_literals}
 use Rattle.clap.specs.declared.builder.value_parser.Reading.TheVariants.{AsWritten}
 use Rattle.clap.specs.declared.parser.matches.ValueSource.TheVariants.{CommandLine}
-use Rattle.mesa_arguments.specs.Command.{digest, gen, mesa}
+use Rattle.mesa_parse.specs.Command.{digest, gen, mesa}
 
 -- the word begins with no hyphen
 abbrev pub IsPlain : Text → Type 0

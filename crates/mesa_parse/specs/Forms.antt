@@ -4,8 +4,8 @@ use Rattle.mesa_list.specs.Bytes.{same_bytes}
 use Rattle.mesa_script.specs.declared.script.Reason.{Reason}
 use Rattle.mesa_script.specs.Records.{named}
 use Rattle.mesa_script.specs.Words.{number_in}
-use Rattle.mesa_arguments.specs.declared.forms.Form.{Form}
-use Rattle.mesa_arguments.specs.declared.forms.Form.TheVariants.{Run, Check, Gen, Digest}
+use Rattle.mesa_parse.specs.declared.forms.Form.{Form}
+use Rattle.mesa_parse.specs.declared.forms.Form.TheVariants.{Run, Check, Gen, Digest}
 
 -- the greatest seed
 abbrev pub max_seed : ℕ

@@ -1,7 +1,7 @@
 // The command line.
 ghost use Rattle.std.specs.Prelude.{◌≡◌, IfOk};
 ghost use Rattle.clap.specs.Words.{app_of, with_subcommand};
-ghost use Rattle.mesa_arguments.specs.Command.{digest, gen, mesa};
+ghost use Rattle.mesa_parse.specs.Command.{digest, gen, mesa};
 
 use clap::{Arg, Command};
 use std::alloc::{AllocError, Global};

@@ -2,14 +2,14 @@
 ghost use Rattle.std.specs.Prelude.{◌≡◌, ◌≢◌, IfOk, None, codes, false, map};
 ghost use Rattle.std.specs.List.{list_any};
 ghost use Rattle.clap.specs.Words.{first_value, found_of, subcommand_rows_of};
-ghost use Rattle.mesa_arguments.specs.Forms.{begins_hyphen, form_of, gen_of};
-ghost use Rattle.mesa_arguments.specs.Found.{digest_found, form_found, gen_found};
+ghost use Rattle.mesa_parse.specs.Forms.{begins_hyphen, form_of, gen_of};
+ghost use Rattle.mesa_parse.specs.Found.{digest_found, form_found, gen_found};
 
 use crate::command::mesa_command;
 use clap::ArgMatches;
 use clap::error::ErrorKind;
 use mesa_list::Items;
-use mesa_parse::number_in;
+use crate::number_in;
 use mesa_schema::Words;
 use std::alloc::{AllocError, Global};
 

@@ -12,11 +12,11 @@ use Rattle.clap.proofs.OnLiterals.{clap_on_literals}
 use Rattle.mesa_script.specs.declared.script.Reason.{Reason}
 use Rattle.mesa_script.specs.declared.script.Reason.TheVariants as reason
 use Rattle.mesa_script.specs.Words.{number_in}
-use Rattle.mesa_arguments.specs.Command.{mesa}
-use Rattle.mesa_arguments.specs.Forms.{begins_hyphen, digest_of, form_of, gen_from, gen_of, max_seed}
-use Rattle.mesa_arguments.specs.Found.{form_found}
-use Rattle.mesa_arguments.specs.declared.forms.Form.TheVariants.{Run, Check, Digest}
-use Rattle.mesa_arguments.proofs.Walking.{HasSome, IsPlain, check_stray, digest_matches, digest_none, digest_one, digest_stray, gen_matches, gen_none, gen_one, gen_stray, gen_two, run_stray, top_stray}
+use Rattle.mesa_parse.specs.Command.{mesa}
+use Rattle.mesa_parse.specs.Forms.{begins_hyphen, digest_of, form_of, gen_from, gen_of, max_seed}
+use Rattle.mesa_parse.specs.Found.{form_found}
+use Rattle.mesa_parse.specs.declared.forms.Form.TheVariants.{Run, Check, Digest}
+use Rattle.mesa_parse.proofs.Walking.{HasSome, IsPlain, check_stray, digest_matches, digest_none, digest_one, digest_stray, gen_matches, gen_none, gen_one, gen_stray, gen_two, run_stray, top_stray}
 
 -- ---- words that begin with no hyphen
 

@@ -1,8 +1,8 @@
 use Rattle.std.proofs.Common.{◌∙◌, sym}
 use Rattle.std.proofs.lemmas.Result.{IfOk-weaker}
-use Rattle.mesa_arguments.proofs.Named.{digest_named, gen_named}
+use Rattle.mesa_parse.proofs.Named.{digest_named, gen_named}
 use Rattle.clap.specs.Words.{found_of}
-use Rattle.mesa_arguments.proofs.forms.found_form.Goals as goal
+use Rattle.mesa_parse.proofs.forms.found_form.Goals as goal
 
 pub returns-then-eq-3 : goal.returns-then-eq-3
 returns-then-eq-3 c =

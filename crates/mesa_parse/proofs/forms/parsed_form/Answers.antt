@@ -1,10 +1,10 @@
 use Rattle.std.proofs.Common.{◌≡◌, ◌∙◌, inl, inr, ap, subst, sym}
 use Rattle.std.proofs.lemmas.Result.{IfOk-weaker}
 use Rattle.clap.specs.Words.{IsAmong, app_of, fault_of, is_simple, is_simple_and_free, kind_of, subcommand_of}
-use Rattle.mesa_arguments.specs.Command.{mesa}
-use Rattle.mesa_arguments.specs.Found.{form_found}
-use Rattle.mesa_arguments.proofs.Outcomes.{refused_form, taken_form, texts}
-use Rattle.mesa_arguments.proofs.forms.parsed_form.Goals as goal
+use Rattle.mesa_parse.specs.Command.{mesa}
+use Rattle.mesa_parse.specs.Found.{form_found}
+use Rattle.mesa_parse.proofs.Outcomes.{refused_form, taken_form, texts}
+use Rattle.mesa_parse.proofs.forms.parsed_form.Goals as goal
 
 pub returns-in-Ok : goal.returns-in-Ok
 returns-in-Ok c =
