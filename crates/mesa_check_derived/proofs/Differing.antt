@@ -10,7 +10,7 @@ use Rattle.mesa_schema.specs.Folded.{folded}
 use Rattle.mesa_schema.specs.mesa_value.declared.Agg.{Agg}
 use Rattle.mesa_delta.specs.Reading.{IsIndexed, index_of}
 use Rattle.mesa_delta.specs.declared.input.Input.{Input}
-use Rattle.mesa_cursor.specs.Cursors.{IsAllOf, IsSameInput, lift_by, reader_in}
+use Rattle.mesa_scan.specs.Cursors.{IsAllOf, IsSameInput, lift_by, reader_in}
 use Rattle.mesa_merge.specs.Inputs.{AreAll, AreTold, Known, lifted_parts}
 use Rattle.mesa_check_derived.specs.Difference.{first_difference, next_of}
 use Rattle.mesa_check_derived.specs.Compared.{Shows}

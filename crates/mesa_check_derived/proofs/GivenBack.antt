@@ -8,7 +8,7 @@ use Rattle.mesa_disk.specs.Story.{Story, Unmoved}
 use Rattle.mesa_delta.specs.declared.error.FileError.{FileError}
 use Rattle.mesa_delta.specs.declared.error.FileError.TheVariants.{Damaged, Memory, Read}
 use Rattle.mesa_delta.specs.declared.input.Input.{Input}
-use Rattle.mesa_cursor.specs.Cursors.{reader_in}
+use Rattle.mesa_scan.specs.Cursors.{reader_in}
 use Rattle.mesa_merge.specs.Faults.{HaveFaultCause, SomeRose, faults_of}
 use Rattle.mesa_tasks.specs.GivingBack.{GivesBack}
 use Rattle.mesa_tasks.specs.Opening.{Counted, one_if}

@@ -10,7 +10,7 @@ use Rattle.mesa_disk.specs.mesa_file.declared.damage.Damage.{Damage}
 use Rattle.mesa_delta.specs.File.{IsFile, file_bytes}
 use Rattle.mesa_delta.specs.Reading.{index_of}
 use Rattle.mesa_delta.specs.declared.input.Input.{Input}
-use Rattle.mesa_cursor.specs.Cursors.{IsInput, lift_by, reader_in}
+use Rattle.mesa_scan.specs.Cursors.{IsInput, lift_by, reader_in}
 use Rattle.mesa_merge.specs.Inputs.{AreAlike, AreTold, IsTold, known_of, knowns_of, lifted_parts}
 use Rattle.mesa_tasks.specs.Opening.{HaveOpened, IsDamageOf, IsOpened, wanted_columns, wanted_layout}
 use Rattle.mesa_tasks.specs.declared.opening.Wanted.{Wanted}

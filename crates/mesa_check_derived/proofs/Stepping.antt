@@ -10,8 +10,8 @@ use Rattle.mesa_schema.specs.Folded.{folded}
 use Rattle.mesa_schema.specs.Lent.{lent}
 use Rattle.mesa_schema.specs.Rows.{IsRowOf}
 use Rattle.mesa_delta.specs.declared.input.Input.{Input}
-use Rattle.mesa_cursor.specs.Cursors.{HasGiven, IsAllOf}
-use Rattle.mesa_cursor.specs.declared.cursor.Cursor.{Cursor}
+use Rattle.mesa_scan.specs.Cursors.{HasGiven, IsAllOf}
+use Rattle.mesa_scan.specs.declared.cursor.Cursor.{Cursor}
 use Rattle.mesa_merge.specs.Inputs.{AreAll, knowns_of}
 use Rattle.mesa_merge.specs.Merged.{HasMerged, IsGoing, failed_of, inputs_of, last_in}
 use Rattle.mesa_merge.specs.Sums.{IsLastOf}

@@ -10,7 +10,7 @@ ghost use Rattle.mesa_schema.specs.Columns.{Columns, aggs_of};
 ghost use Rattle.mesa_schema.specs.Folded.{folded, rows_of};
 ghost use Rattle.mesa_batch.specs.Bound.{KeepsBound};
 ghost use Rattle.mesa_delta.specs.Reading.{IsIndexed, index_of};
-ghost use Rattle.mesa_cursor.specs.Cursors.{IsInput, lift_by, reader_in};
+ghost use Rattle.mesa_scan.specs.Cursors.{IsInput, lift_by, reader_in};
 ghost use Rattle.mesa_merge.specs.Inputs.{AreInputs, AreTold, knowns_of, lifted_parts};
 ghost use Rattle.mesa_merge.specs.Merged.{HasMerged, inputs_of};
 ghost use Rattle.mesa_tasks.specs.Opening.{Counted, HasEpoch};

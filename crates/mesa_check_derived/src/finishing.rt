@@ -8,13 +8,13 @@ ghost use Rattle.mesa_schema.specs.Folded.{folded, rows_of};
 ghost use Rattle.mesa_batch.specs.Bound.{KeepsBound};
 ghost use Rattle.mesa_delta.specs.declared.error.FileError.TheVariants as file_error;
 ghost use Rattle.mesa_delta.specs.Reading.{IsIndexed, index_of};
-ghost use Rattle.mesa_cursor.specs.Cursors.{HasGiven, IsAllOf, IsInput, IsSameInput, low_of, reader_in};
+ghost use Rattle.mesa_scan.specs.Cursors.{HasGiven, IsAllOf, IsInput, IsSameInput, low_of, reader_in};
 ghost use Rattle.mesa_merge.specs.Faults.{HaveFaultCause, faults_of};
 ghost use Rattle.mesa_merge.specs.Inputs.{AreAll, AreTold, knowns_of, lifted_parts};
 ghost use Rattle.mesa_merge.specs.Merged.{HasMerged, inputs_of};
 
 use mesa_check_file::next_row;
-use mesa_cursor::Cursor;
+use mesa_scan::Cursor;
 use mesa_delta::{FileError, Input};
 use mesa_disk::FileReader;
 use mesa_merge::Merge;

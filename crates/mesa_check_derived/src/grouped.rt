@@ -9,7 +9,7 @@ ghost use Rattle.mesa_schema.specs.Views.{view_rows};
 ghost use Rattle.mesa_answer.specs.Answering.{KeepsSums};
 ghost use Rattle.mesa_delta.specs.Reading.{IsIndexed, index_of};
 ghost use Rattle.mesa_delta.specs.declared.error.FileError.TheVariants as file_error;
-ghost use Rattle.mesa_cursor.specs.Cursors.{HasGiven, IsInput, IsSameInput, lift_by, low_of, reader_in};
+ghost use Rattle.mesa_scan.specs.Cursors.{HasGiven, IsInput, IsSameInput, lift_by, low_of, reader_in};
 ghost use Rattle.mesa_merge.specs.Faults.{HaveFaultCause};
 ghost use Rattle.mesa_check_derived.specs.Difference.{first_difference};
 
@@ -17,7 +17,7 @@ use crate::finishing::finish_input;
 use crate::keys::difference_at;
 use crate::same_rows_differ_nowhere;
 use mesa_check_file::next_row;
-use mesa_cursor::Cursor;
+use mesa_scan::Cursor;
 use mesa_delta::{FileError, Input};
 use mesa_disk::FileReader;
 use mesa_key::KeyBytes;

@@ -8,7 +8,7 @@ ghost use Rattle.mesa_schema.specs.Changes.{columns_of};
 ghost use Rattle.mesa_schema.specs.Views.{view_rows};
 ghost use Rattle.mesa_answer.specs.Answering.{KeepsSums};
 ghost use Rattle.mesa_delta.specs.Reading.{IsIndexed, index_of};
-ghost use Rattle.mesa_cursor.specs.Cursors.{IsInput, lift_by, reader_in};
+ghost use Rattle.mesa_scan.specs.Cursors.{IsInput, lift_by, reader_in};
 ghost use Rattle.mesa_tasks.specs.Opening.{Counted, HasEpoch};
 ghost use Rattle.mesa_check_derived.specs.Difference.{first_difference};
 ghost use Rattle.mesa_check_file.specs.Examined.{is_read_failure};

@@ -25,8 +25,8 @@ use Rattle.mesa_delta.specs.declared.input.Input.{Input}
 use Rattle.mesa_delta.proofs.Packing.{FitsAlone}
 use Rattle.mesa_delta.proofs.Placed.{IsTailOf, places_long, tail_is, tail_of_file}
 use Rattle.mesa_delta.proofs.Tailing.{tail_long}
-use Rattle.mesa_cursor.specs.Cursors.{IsAllOf, IsSameInput, lift_by, reader_in}
-use Rattle.mesa_cursor.proofs.Lifted.{lifts_all}
+use Rattle.mesa_scan.specs.Cursors.{IsAllOf, IsSameInput, lift_by, reader_in}
+use Rattle.mesa_scan.proofs.Lifted.{lifts_all}
 use Rattle.mesa_tasks.specs.Opening.{HasBytes, IsOpened, wanted_columns, wanted_layout}
 use Rattle.mesa_tasks.specs.declared.opening.Wanted.{Wanted}
 use Rattle.mesa_check_file.specs.Examined.{AreJudged, IsExaminedAs}

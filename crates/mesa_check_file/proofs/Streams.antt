@@ -6,7 +6,7 @@ use Rattle.mesa_schema.specs.declared.rows.Row.{Row}
 use Rattle.mesa_schema.specs.Columns.{Columns}
 use Rattle.mesa_schema.specs.Rows.{AreRowsOf, IsRowOf}
 use Rattle.mesa_delta.specs.declared.input.Input.{Input}
-use Rattle.mesa_cursor.specs.Cursors.{IsSameInput}
+use Rattle.mesa_scan.specs.Cursors.{IsSameInput}
 
 -- one of many rows has the form of all
 pub form_in : (s : Columns) (front : List Row) (row : Row) (rows : List Row) → AreRowsOf s (front ++ row ∷ rows) → IsRowOf s row

@@ -1,7 +1,7 @@
 // A file's rows one by one.
 ghost use Rattle.std.specs.Prelude.{◌≡◌, [], ◌∷◌, ◌++◌, ℕ, List, IfOk, IfErr, IfSome, IfNone, None, Some};
 ghost use Rattle.std.specs.Bool.{then_some};
-ghost use Rattle.mesa_tasks.specs.mesa_cursor.Cursors.{HasGiven, IsAllOf, IsInput, IsSameInput, low_of, reader_in};
+ghost use Rattle.mesa_tasks.specs.mesa_scan.Cursors.{HasGiven, IsAllOf, IsInput, IsSameInput, low_of, reader_in};
 ghost use Rattle.mesa_disk.specs.mesa_io.Causes.{HasFaultCause};
 ghost use Rattle.mesa_disk.specs.mesa_file.declared.damage.Damage.{Damage as AnyDamage};
 ghost use Rattle.mesa_schema.specs.declared.rows.Row.{Row as AnyRow};
@@ -10,7 +10,7 @@ ghost use Rattle.mesa_schema.specs.Rows.{IsRowOf};
 ghost use Rattle.mesa_delta.specs.Reading.{IsIndexed, index_of};
 ghost use Rattle.mesa_delta.specs.declared.error.FileError.TheVariants as file_error;
 
-use mesa_cursor::Cursor;
+use mesa_scan::Cursor;
 use mesa_delta::{FileError, Input};
 use mesa_disk::FileReader;
 use mesa_schema::Row;

@@ -11,7 +11,7 @@ use Rattle.mesa_schema.specs.Columns.{Columns}
 use Rattle.mesa_schema.specs.Changes.{Lineage, columns_of}
 use Rattle.mesa_schema.specs.Views.{view_columns, view_rows}
 use Rattle.mesa_delta.specs.declared.input.Input.{Input}
-use Rattle.mesa_tasks.specs.mesa_cursor.Cursors.{IsInput, reader_in}
+use Rattle.mesa_tasks.specs.mesa_scan.Cursors.{IsInput, reader_in}
 use Rattle.mesa_merge.specs.Faults.{faults_of}
 use Rattle.mesa_merge.specs.Inputs.{Known, known_of, knowns_of}
 use Rattle.mesa_merge.specs.Inputs.{AreInputs as AreMergeable}

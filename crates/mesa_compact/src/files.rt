@@ -7,7 +7,7 @@ ghost use Rattle.mesa_schema.specs.Columns.{aggs_of};
 ghost use Rattle.mesa_schema.specs.Folded.{folded, rows_of};
 ghost use Rattle.mesa_batch.specs.Bound.{KeepsBound};
 ghost use Rattle.mesa_answer.specs.Answering.{KeepsSums};
-ghost use Rattle.mesa_tasks.specs.mesa_cursor.Cursors.{IsInput};
+ghost use Rattle.mesa_tasks.specs.mesa_scan.Cursors.{IsInput};
 ghost use Rattle.mesa_merge.specs.Faults.{faults_of};
 ghost use Rattle.mesa_merge.specs.Inputs.{AreAll, AreInputs, AreTold, knowns_of, lifted_parts};
 ghost use Rattle.mesa_merge.specs.Merged.{HasMerged, inputs_of};

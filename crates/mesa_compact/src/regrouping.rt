@@ -10,7 +10,7 @@ ghost use Rattle.mesa_batch.specs.Totals.{abs_totals, sum_bound};
 ghost use Rattle.mesa_filter.specs.Query.{are_places};
 ghost use Rattle.mesa_answer.specs.Answering.{KeepsSums, grouped_columns};
 ghost use Rattle.mesa_answer.specs.Gathered.{HasPut, wanted_of};
-ghost use Rattle.mesa_tasks.specs.mesa_cursor.Cursors.{IsInput};
+ghost use Rattle.mesa_tasks.specs.mesa_scan.Cursors.{IsInput};
 ghost use Rattle.mesa_merge.specs.Faults.{faults_of};
 ghost use Rattle.mesa_merge.specs.Inputs.{AreAll, AreInputs, knowns_of};
 ghost use Rattle.mesa_merge.specs.Merged.{HasMerged, inputs_of};

@@ -6,7 +6,7 @@ ghost use Rattle.mesa_schema.specs.declared.rows.Row.{Row as AnyRow};
 ghost use Rattle.mesa_schema.specs.Changes.{columns_of};
 ghost use Rattle.mesa_schema.specs.Recasts.{Recast as Asked, recast_columns, recast_rows};
 ghost use Rattle.mesa_batch.specs.Totals.{abs_totals, sum_bound};
-ghost use Rattle.mesa_tasks.specs.mesa_cursor.Cursors.{IsInput};
+ghost use Rattle.mesa_tasks.specs.mesa_scan.Cursors.{IsInput};
 ghost use Rattle.mesa_delta.specs.declared.error.FileError.TheVariants as file_error;
 ghost use Rattle.mesa_merge.specs.Faults.{faults_of};
 ghost use Rattle.mesa_merge.specs.Inputs.{known_of, knowns_of};

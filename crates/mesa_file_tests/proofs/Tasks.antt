@@ -7,7 +7,7 @@ use Rattle.mesa_schema.specs.declared.views.View.{View}
 use Rattle.mesa_schema.specs.Columns.{Columns}
 use Rattle.mesa_schema.specs.Changes.{Lineage, columns_of}
 use Rattle.mesa_delta.specs.declared.input.Input.{Input}
-use Rattle.mesa_cursor.specs.Cursors.{reader_in}
+use Rattle.mesa_scan.specs.Cursors.{reader_in}
 use Rattle.mesa_merge.specs.Inputs.{AreInputs}
 use Rattle.mesa_tasks.specs.Spares.{AreSpareInputs, AreSpareViews, HasSpareOwn, IsSpareInput, IsSpareOf}
 use Rattle.mesa_tasks.specs.Tasks.{AreTaskViews}

@@ -4,7 +4,7 @@ use Rattle.std.specs.List.{AllByRecursion}
 use Rattle.mesa_file.specs.declared.file_ref.FileRef.{FileRef}
 use Rattle.mesa_schema.specs.Changes.{Lineage, columns_of}
 use Rattle.mesa_delta.specs.declared.input.Input.{Input}
-use Rattle.mesa_cursor.specs.Cursors.{IsInput}
+use Rattle.mesa_scan.specs.Cursors.{IsInput}
 use Rattle.mesa_tasks.specs.Inputs.{lineage_of}
 use Rattle.mesa_tasks.specs.Spares.{IsReferredBy}
 use Rattle.mesa_tasks.specs.Tasks.{AreTaskViews}

@@ -6,8 +6,8 @@ use Rattle.mesa_schema.specs.declared.rows.Row.{Row}
 use Rattle.mesa_delta.specs.Ahead.{AreAhead, AreOfFile, IsOfFile, Told, Untested}
 use Rattle.mesa_delta.specs.Reading.{index_of}
 use Rattle.mesa_delta.specs.declared.input.Input.{Input}
-use Rattle.mesa_cursor.specs.declared.cursor.Cursor.{Cursor}
-use Rattle.mesa_cursor.specs.Cursors.{HasGivenFrom, IsInput, IsReady, reader_in}
+use Rattle.mesa_scan.specs.declared.cursor.Cursor.{Cursor}
+use Rattle.mesa_scan.specs.Cursors.{HasGivenFrom, IsInput, IsReady, reader_in}
 use Rattle.mesa_scan.specs.Moving.{moved_to, told_in}
 use Rattle.mesa_scan.proofs.Moving.{stays_input, stays_same}
 use Rattle.mesa_merge.specs.Inputs.{Known, knowns_of, tolds_of}

@@ -7,9 +7,9 @@ use Rattle.mesa_schema.specs.Columns.{Columns, aggs_of}
 use Rattle.mesa_schema.specs.Folded.{folded}
 use Rattle.mesa_delta.specs.declared.error.FileError.{FileError}
 use Rattle.mesa_delta.specs.declared.input.Input.{Input}
-use Rattle.mesa_cursor.specs.declared.cursor.Cursor.{Cursor}
-use Rattle.mesa_cursor.specs.Cut.{cut, is_from, is_under, lies_in}
-use Rattle.mesa_cursor.proofs.Cutting.{cuts_fold, is_less}
+use Rattle.mesa_scan.specs.declared.cursor.Cursor.{Cursor}
+use Rattle.mesa_scan.specs.Cut.{cut, is_from, is_under, lies_in}
+use Rattle.mesa_scan.proofs.Cutting.{cuts_fold, is_less}
 use Rattle.mesa_merge.specs.Calls.{IsNextBetween, IsNextOf}
 use Rattle.mesa_merge.specs.Hands.{IsPast, hands_of}
 use Rattle.mesa_merge.specs.Inputs.{AreAll, AreTold, knowns_of, lifted_parts}

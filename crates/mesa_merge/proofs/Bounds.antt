@@ -10,7 +10,7 @@ use Rattle.mesa_schema.specs.Folded.{AllCombine, folded, rows_of}
 use Rattle.mesa_schema.specs.Laws.{AreFull}
 use Rattle.mesa_schema.specs.Rows.{AreRowsOf}
 use Rattle.mesa_batch.specs.Totals.{abs_total, sum_bound}
-use Rattle.mesa_cursor.specs.Cut.{cut, lies_in}
+use Rattle.mesa_scan.specs.Cut.{cut, lies_in}
 use Rattle.mesa_batch.specs.Bound.{FoldsTotals, KeepsBound}
 use Rattle.mesa_batch.proofs.Sums.{AllCombine-at}
 use Rattle.mesa_merge.proofs.Ending.{AreFronts}

@@ -11,7 +11,7 @@ use Rattle.mesa_schema.specs.Rows.{AreRowsOf, IsRowOf}
 use Rattle.mesa_schema.proofs.Lifts.{row_combined-length}
 use Rattle.mesa_schema.proofs.Ranges.{ranges_combined}
 use Rattle.mesa_delta.specs.declared.input.Input.{Input}
-use Rattle.mesa_cursor.specs.declared.cursor.Cursor.{Cursor}
+use Rattle.mesa_scan.specs.declared.cursor.Cursor.{Cursor}
 use Rattle.mesa_merge.specs.Hands.{IsAhead, IsFrom, IsLeastAt, IsLeastOf, hands_of}
 use Rattle.mesa_merge.specs.Inputs.{AreAlike, knowns_of}
 use Rattle.mesa_merge.specs.Merging.{AreReady, HasGivens, IsGathering, IsMerging, IsStage}

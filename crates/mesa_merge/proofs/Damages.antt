@@ -12,7 +12,7 @@ use Rattle.mesa_schema.specs.declared.rows.Row.{Row}
 use Rattle.mesa_schema.specs.Columns.{Columns, aggs_of}
 use Rattle.mesa_batch.proofs.Place.{flipped}
 use Rattle.mesa_delta.specs.declared.input.Input.{Input}
-use Rattle.mesa_cursor.specs.declared.cursor.Cursor.{Cursor}
+use Rattle.mesa_scan.specs.declared.cursor.Cursor.{Cursor}
 use Rattle.mesa_merge.specs.Damaged.{IsSumOf, SumsKeep}
 use Rattle.mesa_merge.specs.Hands.{IsAhead, IsFrom, hands_of}
 use Rattle.mesa_merge.specs.Inputs.{Known, knowns_of}

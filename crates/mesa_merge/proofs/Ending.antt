@@ -10,12 +10,12 @@ use Rattle.mesa_schema.specs.declared.rows.Row.{Row}
 use Rattle.mesa_schema.proofs.PresentRows.{present_rise}
 use Rattle.mesa_batch.proofs.Place.{flipped}
 use Rattle.mesa_delta.specs.declared.input.Input.{Input}
-use Rattle.mesa_cursor.specs.declared.cursor.Cursor.{Cursor}
-use Rattle.mesa_cursor.specs.Cursors.{HasGivenFrom, IsReady, at_hand, lift_by}
-use Rattle.mesa_cursor.specs.Cut.{cut, cut_each}
-use Rattle.mesa_cursor.proofs.Cuts.{cut_twice, under_stay}
-use Rattle.mesa_cursor.proofs.Cutting.{cut_none}
-use Rattle.mesa_cursor.proofs.Ending.{all_between, all_from, all_given, all_given_from}
+use Rattle.mesa_scan.specs.declared.cursor.Cursor.{Cursor}
+use Rattle.mesa_scan.specs.Cursors.{HasGivenFrom, IsReady, at_hand, lift_by}
+use Rattle.mesa_scan.specs.Cut.{cut, cut_each}
+use Rattle.mesa_scan.proofs.Cuts.{cut_twice, under_stay}
+use Rattle.mesa_scan.proofs.Cutting.{cut_none}
+use Rattle.mesa_scan.proofs.Ending.{all_between, all_from, all_given, all_given_from}
 use Rattle.mesa_merge.specs.Hands.{IsPast, hands_of}
 use Rattle.mesa_merge.specs.Inputs.{AreAll, AreTold, IsTold, Known, known_of, knowns_of, lifted_in, lifted_parts}
 use Rattle.mesa_merge.specs.Merged.{AreBelow}

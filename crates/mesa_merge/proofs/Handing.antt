@@ -5,7 +5,7 @@ use Rattle.std.specs.Prelude.{Option, None}
 use Rattle.mesa_schema.specs.declared.rows.Row.{Row}
 use Rattle.mesa_schema.specs.Columns.{Columns, aggs_of}
 use Rattle.mesa_delta.specs.declared.input.Input.{Input}
-use Rattle.mesa_cursor.specs.declared.cursor.Cursor.{Cursor}
+use Rattle.mesa_scan.specs.declared.cursor.Cursor.{Cursor}
 use Rattle.mesa_merge.specs.Hands.{hands_of}
 use Rattle.mesa_merge.specs.Matches.{IsTree}
 use Rattle.mesa_merge.specs.Merged.{AreBelow, HasMergedBetween}

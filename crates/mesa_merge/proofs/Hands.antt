@@ -1,7 +1,7 @@
 -- The rows at hand of inputs, one after the other.
 use Rattle.std.proofs.Common.{◌≡◌, ◌≢◌, ℕ, zero, suc, ◌<◌, List, [], ◌∷◌, refl, sym, ap, length, get_or, set, arith}
-use Rattle.mesa_cursor.specs.declared.cursor.Cursor.{Cursor}
-use Rattle.mesa_cursor.specs.Cursors.{at_hand}
+use Rattle.mesa_scan.specs.declared.cursor.Cursor.{Cursor}
+use Rattle.mesa_scan.specs.Cursors.{at_hand}
 use Rattle.mesa_merge.specs.Hands.{hands_of}
 
 pub hands_length : (cs : List Cursor) → length (hands_of cs) ≡ length cs

@@ -4,8 +4,8 @@ use Rattle.std.specs.Prelude.{Option, sum_by}
 use Rattle.std.proofs.lemmas.List.Sums.{sum_by-append}
 use Rattle.mesa_schema.specs.declared.rows.Row.{Row}
 use Rattle.mesa_delta.specs.declared.input.Input.{Input}
-use Rattle.mesa_cursor.specs.declared.cursor.Cursor.{Cursor}
-use Rattle.mesa_cursor.specs.Cursors.{at_hand}
+use Rattle.mesa_scan.specs.declared.cursor.Cursor.{Cursor}
+use Rattle.mesa_scan.specs.Cursors.{at_hand}
 use Rattle.mesa_merge.specs.Hands.{hands_of}
 use Rattle.mesa_merge.specs.Merging.{HasGivens}
 

@@ -9,10 +9,10 @@ use Rattle.mesa_schema.specs.Columns.{Columns}
 use Rattle.mesa_delta.specs.declared.error.FileError.{FileError}
 use Rattle.mesa_delta.specs.declared.error.FileError.TheVariants.{Read}
 use Rattle.mesa_delta.specs.declared.input.Input.{Input}
-use Rattle.mesa_cursor.specs.declared.cursor.Cursor.{Cursor}
-use Rattle.mesa_cursor.specs.Cursors.{HasGivenFrom, IsInput, IsReady, IsSameInput, reader_in}
-use Rattle.mesa_cursor.specs.Cut.{is_from}
-use Rattle.mesa_cursor.proofs.Rising.{from_low}
+use Rattle.mesa_scan.specs.declared.cursor.Cursor.{Cursor}
+use Rattle.mesa_scan.specs.Cursors.{HasGivenFrom, IsInput, IsReady, IsSameInput, reader_in}
+use Rattle.mesa_scan.specs.Cut.{is_from}
+use Rattle.mesa_scan.proofs.Rising.{from_low}
 use Rattle.mesa_merge.specs.Faults.{HaveFaultCause, NoneFell, SomeRose, faults_of}
 use Rattle.mesa_merge.specs.Hands.{hands_of}
 use Rattle.mesa_merge.specs.Inputs.{AreAlike, AreTold, IsTold, known_of, knowns_of}

@@ -11,8 +11,8 @@ use Rattle.mesa_key.specs.Order.{byte_cmp}
 use Rattle.mesa_schema.specs.declared.rows.Row.{Row}
 use Rattle.mesa_schema.proofs.Folds.{is_equal}
 use Rattle.mesa_batch.proofs.Place.{flipped}
-use Rattle.mesa_cursor.specs.Cut.{is_under}
-use Rattle.mesa_cursor.proofs.Cutting.{at_below}
+use Rattle.mesa_scan.specs.Cut.{is_under}
+use Rattle.mesa_scan.proofs.Cutting.{at_below}
 use Rattle.mesa_merge.specs.Hands.{ComesBefore, IsAhead, IsBefore, IsFrom, IsLeastAt, IsPast}
 
 -- a key compared with itself

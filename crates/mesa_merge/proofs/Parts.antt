@@ -4,8 +4,8 @@ use Rattle.std.specs.Prelude.{Option, map}
 use Rattle.mesa_value.specs.declared.Agg.{Agg}
 use Rattle.mesa_schema.specs.Folded.{folded, folded_at, keys_of, rows_of}
 use Rattle.mesa_delta.specs.declared.input.Input.{Input}
-use Rattle.mesa_cursor.specs.declared.cursor.Cursor.{Cursor}
-use Rattle.mesa_cursor.specs.Cursors.{HasGivenFrom, at_hand}
+use Rattle.mesa_scan.specs.declared.cursor.Cursor.{Cursor}
+use Rattle.mesa_scan.specs.Cursors.{HasGivenFrom, at_hand}
 use Rattle.mesa_merge.specs.Hands.{hands_of}
 use Rattle.mesa_merge.specs.Merged.{nothing_given}
 use Rattle.mesa_merge.specs.Merging.{HasGivens}

@@ -5,9 +5,9 @@ use Rattle.mesa_schema.specs.declared.rows.Row.{Row}
 use Rattle.mesa_schema.specs.Columns.{Columns}
 use Rattle.mesa_schema.specs.Rows.{AreRowsOf, IsRowOf}
 use Rattle.mesa_delta.specs.declared.input.Input.{Input}
-use Rattle.mesa_cursor.specs.declared.cursor.Cursor.{Cursor}
-use Rattle.mesa_cursor.specs.Cursors.{HasGivenFrom, IsStill, at_hand}
-use Rattle.mesa_cursor.proofs.Taken.{not_taken, stepped, taken}
+use Rattle.mesa_scan.specs.declared.cursor.Cursor.{Cursor}
+use Rattle.mesa_scan.specs.Cursors.{HasGivenFrom, IsStill, at_hand}
+use Rattle.mesa_scan.proofs.Taken.{not_taken, stepped, taken}
 
 -- what is given where the row at hand, if there is one, is given
 pub stepped_given : {R : Type 0} (bytes : R → Option (List ℕ)) (low : Option (List ℕ)) (i : Input R) (old new : Cursor) (given : List Row) → HasGivenFrom bytes low i old given → at_hand new ≡ drop 1 (at_hand old) → IsStill old new → (after : List Row) × HasGivenFrom bytes low i new after

@@ -10,8 +10,8 @@ use Rattle.mesa_schema.specs.Folded.{folded}
 use Rattle.mesa_schema.specs.Laws.{AreUnder}
 use Rattle.mesa_delta.specs.Reading.{IsIndexed, index_of}
 use Rattle.mesa_delta.specs.declared.input.Input.{Input}
-use Rattle.mesa_cursor.specs.declared.cursor.Cursor.{Cursor}
-use Rattle.mesa_cursor.specs.Cursors.{IsFall, reader_in}
+use Rattle.mesa_scan.specs.declared.cursor.Cursor.{Cursor}
+use Rattle.mesa_scan.specs.Cursors.{IsFall, reader_in}
 use Rattle.mesa_scan.specs.Damaged.{IsDamaged}
 use Rattle.mesa_merge.specs.Hands.{IsAhead, hands_of}
 use Rattle.mesa_merge.specs.Inputs.{AreAlike, Known, known_of, knowns_of}

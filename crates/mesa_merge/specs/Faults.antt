@@ -2,7 +2,7 @@
 use Rattle.std.specs.Prelude.{◌≡◌, ◌⊎◌, ℕ, ◌≤◌, List, [], ◌∷◌, map, Result, OnOk, IfErr, ⊤}
 use Rattle.mesa_io.specs.Causes.{Rose}
 use Rattle.mesa_delta.specs.declared.input.Input.{Input}
-use Rattle.mesa_cursor.specs.Cursors.{reader_in}
+use Rattle.mesa_scan.specs.Cursors.{reader_in}
 
 -- the counts of faults of the inputs' readers
 abbrev pub faults_of : {R : Type 0} → (R → ℕ) → List (Input R) → List ℕ

@@ -4,9 +4,9 @@ use Rattle.std.specs.Ordering.{is_ge}
 use Rattle.std.specs.declared.cmp.Ordering.TheVariants.{Less}
 use Rattle.mesa_key.specs.Order.{byte_cmp}
 use Rattle.mesa_schema.specs.declared.rows.Row.{Row}
-use Rattle.mesa_cursor.specs.declared.cursor.Cursor.{Cursor}
-use Rattle.mesa_cursor.specs.Cursors.{at_hand}
-use Rattle.mesa_cursor.specs.Cut.{is_under}
+use Rattle.mesa_scan.specs.declared.cursor.Cursor.{Cursor}
+use Rattle.mesa_scan.specs.Cursors.{at_hand}
+use Rattle.mesa_scan.specs.Cut.{is_under}
 
 -- the rows at hand of each input
 abbrev pub hands_of : List Cursor → List (List Row)

@@ -8,7 +8,7 @@ use Rattle.mesa_delta.specs.Ahead.{Told}
 use Rattle.mesa_delta.specs.Indexed.{Indexed}
 use Rattle.mesa_delta.specs.Reading.{IsIndexed, IsWhole, index_of}
 use Rattle.mesa_delta.specs.declared.input.Input.{Input}
-use Rattle.mesa_cursor.specs.Cursors.{IsInput, reader_in}
+use Rattle.mesa_scan.specs.Cursors.{IsInput, reader_in}
 
 -- What is known of an input: its file's index, the table or view whose rows it has, their epoch, and its bytes where they are told.
 pub record Known : Type 0 where

@@ -9,8 +9,8 @@ use Rattle.mesa_schema.specs.Folded.{folded}
 use Rattle.mesa_schema.specs.Laws.{AreUnder}
 use Rattle.mesa_schema.specs.Rows.{AreRowsOf, IsRowOf}
 use Rattle.mesa_delta.specs.declared.input.Input.{Input}
-use Rattle.mesa_cursor.specs.declared.cursor.Cursor.{Cursor}
-use Rattle.mesa_cursor.specs.Cursors.{HasGivenFrom, IsReady}
+use Rattle.mesa_scan.specs.declared.cursor.Cursor.{Cursor}
+use Rattle.mesa_scan.specs.Cursors.{HasGivenFrom, IsReady}
 use Rattle.mesa_merge.specs.Hands.{IsAhead, IsFrom, hands_of}
 use Rattle.mesa_merge.specs.Inputs.{AreAlike, knowns_of}
 use Rattle.mesa_merge.specs.Sums.{HasKey}

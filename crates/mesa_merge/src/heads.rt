@@ -3,9 +3,9 @@ ghost use Rattle.std.specs.Prelude.{◌≡◌, ◌∷◌, List, OnOk, length};
 ghost use Rattle.std.specs.Bool.{OnFalse, OnTrue};
 ghost use Rattle.mesa_schema.specs.declared.rows.Row.{Row as AnyRow};
 ghost use Rattle.mesa_schema.specs.Folded.{AllCombine, row_combined};
-ghost use Rattle.mesa_cursor.specs.Cursors.{at_hand};
+ghost use Rattle.mesa_scan.specs.Cursors.{at_hand};
 
-use mesa_cursor::Cursor;
+use mesa_scan::Cursor;
 use mesa_batch::{combine_into, combines_all};
 use mesa_schema::Row;
 use mesa_value::Agg;

@@ -3,7 +3,7 @@ ghost use Rattle.std.specs.Prelude.{◌≡◌, ◌<◌, [], ℕ, length, map, ge
 ghost use Rattle.std.specs.List.{AllByRecursion};
 ghost use Rattle.mesa_schema.specs.Changes.{columns_of};
 ghost use Rattle.mesa_schema.specs.Columns.{Columns, aggs_of};
-ghost use Rattle.mesa_cursor.specs.Cursors.{IsInput};
+ghost use Rattle.mesa_scan.specs.Cursors.{IsInput};
 ghost use Rattle.mesa_merge.specs.Hands.{hands_of};
 ghost use Rattle.mesa_merge.specs.Inputs.{AreAlike, knowns_of};
 ghost use Rattle.mesa_merge.specs.Matches.{IsTree};
@@ -11,7 +11,7 @@ ghost use Rattle.mesa_merge.specs.Merged.{nothing_given};
 ghost use Rattle.mesa_merge.specs.Merging.{HasGivens};
 
 use crate::matches::{Tree, first_tree};
-use mesa_cursor::Cursor;
+use mesa_scan::Cursor;
 use mesa_delta::Input;
 use mesa_disk::FileReader;
 use mesa_key::KeyBytes;

@@ -1,11 +1,11 @@
 // Which input has the least row at hand: a tree of matches, so that a row taken costs one match for each of its levels.
 ghost use Rattle.std.specs.Prelude.{◌≡◌, ◌⊎◌, ◌+◌, ◌-◌, ◌/◌, ◌^◌, ◌<◌, ◌≤◌, ℕ, List, [], length, get_or, replicate, IfOk, IfSome, IfNone};
-ghost use Rattle.mesa_cursor.specs.Cursors.{at_hand};
+ghost use Rattle.mesa_scan.specs.Cursors.{at_hand};
 ghost use Rattle.mesa_merge.specs.Fronts.{AreFronts, HasFront, IsFront};
 ghost use Rattle.mesa_merge.specs.Hands.{IsBefore, IsLeastAt, hands_of};
 ghost use Rattle.mesa_merge.specs.Matches.{AreWinners, AreWon, IsTree, IsTreeBut, above};
 
-use mesa_cursor::Cursor;
+use mesa_scan::Cursor;
 use mesa_key::{compare, short};
 use std::alloc::{AllocError, Global};
 use std::cmp::Ordering;

@@ -7,7 +7,7 @@ ghost use Rattle.mesa_schema.specs.Columns.{Columns};
 ghost use Rattle.mesa_schema.specs.Folded.{folded};
 ghost use Rattle.mesa_schema.specs.Lent.{lent};
 ghost use Rattle.mesa_delta.specs.declared.error.FileError.{FileError as AnyError};
-ghost use Rattle.mesa_cursor.specs.Cursors.{IsInput};
+ghost use Rattle.mesa_scan.specs.Cursors.{IsInput};
 ghost use Rattle.mesa_merge.specs.Inputs.{AreInputs, Known as AnyKnown, knowns_of};
 
 use crate::making::{Parts, parts_of};
@@ -15,7 +15,7 @@ use crate::matches::Tree;
 use crate::next::{begin, next_row};
 use crate::streams::held_by;
 use crate::sums::file_at;
-use mesa_cursor::Cursor;
+use mesa_scan::Cursor;
 use mesa_delta::{FileError, Input};
 use mesa_disk::{FileId, FileReader};
 use mesa_key::KeyBytes;

@@ -1,12 +1,12 @@
 // Where a merge ends.
 ghost use Rattle.std.specs.Prelude.{◌≡◌, ◌<◌, ◌∷◌, [], ℕ, List, length, get_or, IsTrue, IfSome, IfNone, None};
 ghost use Rattle.mesa_schema.specs.declared.rows.Row.{Row as AnyRow};
-ghost use Rattle.mesa_cursor.specs.Cut.{is_under};
+ghost use Rattle.mesa_scan.specs.Cut.{is_under};
 ghost use Rattle.mesa_merge.specs.Hands.{IsLeastAt, IsPast, hands_of};
 ghost use Rattle.mesa_merge.specs.Matches.{IsTree};
 
 use crate::matches::{Tree, least};
-use mesa_cursor::Cursor;
+use mesa_scan::Cursor;
 use mesa_key::KeyBytes;
 
 // The first of the inputs whose rows at hand have the least key, where that key is below the high end.

@@ -7,7 +7,7 @@ ghost use Rattle.mesa_schema.specs.Columns.{Columns};
 ghost use Rattle.mesa_schema.specs.Rows.{IsRowOf};
 ghost use Rattle.mesa_delta.specs.declared.error.FileError.TheVariants as file_error;
 ghost use Rattle.mesa_delta.specs.Ahead.{AreAhead};
-ghost use Rattle.mesa_cursor.specs.Cursors.{IsInput};
+ghost use Rattle.mesa_scan.specs.Cursors.{IsInput};
 ghost use Rattle.mesa_merge.specs.Damaged.{IsBlockOf};
 ghost use Rattle.mesa_merge.specs.Faults.{HaveFaultCause, faults_of};
 ghost use Rattle.mesa_merge.specs.Hands.{IsAhead, hands_of};
@@ -16,7 +16,7 @@ ghost use Rattle.mesa_merge.specs.Matches.{IsTree};
 ghost use Rattle.mesa_merge.specs.Merging.{AreReady, HasGivens};
 
 use crate::matches::{Tree, play};
-use mesa_cursor::Cursor;
+use mesa_scan::Cursor;
 use mesa_delta::{Ahead, FileError, Input};
 use mesa_disk::FileReader;
 

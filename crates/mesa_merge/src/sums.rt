@@ -2,12 +2,12 @@
 ghost use Rattle.std.specs.Prelude.{◌≡◌, ◌<◌, ◌+◌, ◌∷◌, List, length, slice_get, Some};
 ghost use Rattle.std.specs.Bool.{OnFalse, OnTrue};
 ghost use Rattle.mesa_delta.specs.declared.error.FileError.TheVariants as file_error;
-ghost use Rattle.mesa_cursor.specs.Cursors.{at_hand};
+ghost use Rattle.mesa_scan.specs.Cursors.{at_hand};
 ghost use Rattle.mesa_merge.specs.Hands.{hands_of};
 ghost use Rattle.mesa_merge.specs.Inputs.{Known as AnyKnown, knowns_of};
 ghost use Rattle.mesa_merge.specs.Sums.{HasHead, IsNewest, sum_damage};
 
-use mesa_cursor::Cursor;
+use mesa_scan::Cursor;
 use mesa_delta::{FileError, Input};
 use mesa_disk::{Damage, FileId, FileReader, Seen};
 

@@ -3,12 +3,12 @@ ghost use Rattle.std.specs.Prelude.{◌≡◌, ◌<◌, List, length, Some, slic
 ghost use Rattle.mesa_io.specs.Causes.{HasFaultCause};
 ghost use Rattle.mesa_delta.specs.declared.error.FileError.TheVariants as file_error;
 ghost use Rattle.mesa_delta.specs.Ahead.{AreAhead, Told as AnyTold};
-ghost use Rattle.mesa_cursor.specs.Cursors.{reader_in};
+ghost use Rattle.mesa_scan.specs.Cursors.{reader_in};
 ghost use Rattle.mesa_scan.specs.Moving.{moved_to, told_in};
 ghost use Rattle.mesa_merge.specs.Faults.{HaveFaultCause, faults_of};
 ghost use Rattle.mesa_merge.specs.Waiting.{AreWaiting};
 
-use mesa_cursor::Cursor;
+use mesa_scan::Cursor;
 use mesa_delta::{Ahead, FileError, Input};
 use mesa_disk::FileReader;
 

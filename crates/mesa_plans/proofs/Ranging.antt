@@ -16,7 +16,7 @@ use Rattle.mesa_table.specs.declared.table.Base.{Base}
 use Rattle.mesa_table.specs.declared.table.Loaded.{Loaded}
 use Rattle.mesa_table.specs.declared.table.Table.{Table}
 use Rattle.mesa_table.proofs.Tens.{base_ends}
-use Rattle.mesa_tasks.specs.mesa_cursor.Cursors.{reader_in}
+use Rattle.mesa_tasks.specs.mesa_scan.Cursors.{reader_in}
 use Rattle.mesa_tasks.specs.mesa_delta.declared.input.Input.{Input}
 use Rattle.mesa_plans.specs.Files.{want_of}
 use Rattle.mesa_tasks.specs.Opening.{IsOpened}

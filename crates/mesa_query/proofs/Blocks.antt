@@ -21,7 +21,7 @@ use Rattle.mesa_delta.specs.Reading.{index_of}
 use Rattle.mesa_delta.specs.Spread.{blocks_of}
 use Rattle.mesa_delta.specs.declared.input.Input.{Input}
 use Rattle.mesa_delta.proofs.Packing.{blocks_rows}
-use Rattle.mesa_scan.specs.mesa_cursor.Cursors.{IsSameInput, lift_by, reader_in}
+use Rattle.mesa_scan.specs.Cursors.{IsSameInput, lift_by, reader_in}
 use Rattle.mesa_merge.specs.Inputs.{IsTold, known_of}
 use Rattle.mesa_scan.specs.declared.scanning.Scan.{Scan}
 use Rattle.mesa_scan.specs.Matching.{matching_rows}

@@ -12,7 +12,7 @@ use Rattle.mesa_delta.specs.Damages.{IsWrongLength, IsPieceDamage}
 use Rattle.mesa_delta.specs.Indexed.{Indexed}
 use Rattle.mesa_delta.specs.Reading.{IsBlockDamage}
 use Rattle.mesa_delta.specs.declared.input.Input.{Input}
-use Rattle.mesa_scan.specs.mesa_cursor.Cursors.{reader_in}
+use Rattle.mesa_scan.specs.Cursors.{reader_in}
 use Rattle.mesa_scan.specs.Damaged.{IsDamaged}
 use Rattle.mesa_merge.specs.Faults.{SomeRose, faults_of}
 use Rattle.mesa_view.specs.SumDamage.{IsSumDamage}

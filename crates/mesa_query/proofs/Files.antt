@@ -15,7 +15,7 @@ use Rattle.mesa_delta.specs.Reading.{IsIndexed, index_of}
 use Rattle.mesa_delta.specs.declared.error.FileError.{FileError}
 use Rattle.mesa_delta.specs.declared.error.FileError.TheVariants.{Read}
 use Rattle.mesa_delta.specs.declared.input.Input.{Input}
-use Rattle.mesa_scan.specs.mesa_cursor.Cursors.{IsSameInput, reader_in}
+use Rattle.mesa_scan.specs.Cursors.{IsSameInput, reader_in}
 use Rattle.mesa_scan.specs.Damaged.{IsDamaged}
 use Rattle.mesa_scan.specs.Moving.{moved_to, told_in}
 use Rattle.mesa_scan.proofs.Moving.{stays_input}

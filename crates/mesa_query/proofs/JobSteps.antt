@@ -19,7 +19,7 @@ use Rattle.mesa_delta.specs.Ahead.{AreAhead, IsOfFile, Told, Untested}
 use Rattle.mesa_delta.specs.Indexed.{Indexed}
 use Rattle.mesa_delta.specs.Reading.{IsBlock, IsIndexed}
 use Rattle.mesa_delta.specs.Spread.{blocks_of}
-use Rattle.mesa_cursor.proofs.Lifted.{block_forms, lifts_all}
+use Rattle.mesa_scan.proofs.Lifted.{block_forms, lifts_all}
 use Rattle.mesa_merge.specs.Inputs.{AreAlike, AreTold, IsTold, Known, lifted_in}
 use Rattle.mesa_answer.specs.Gathered.{HasPut, wanted_of}
 use Rattle.mesa_answer.specs.Gathering.{Wanted}

@@ -9,7 +9,7 @@ use Rattle.mesa_schema.specs.Columns.{Columns}
 use Rattle.mesa_schema.specs.Views.{view_columns}
 use Rattle.mesa_filter.specs.declared.terms.Term.{Term}
 use Rattle.mesa_filter.specs.Filter.{filtered}
-use Rattle.mesa_scan.specs.mesa_cursor.Cursors.{IsInput, IsSameInput}
+use Rattle.mesa_scan.specs.Cursors.{IsInput, IsSameInput}
 use Rattle.mesa_merge.specs.Inputs.{AreAlike, knowns_of}
 use Rattle.mesa_answer.specs.Answering.{KeepsSums}
 use Rattle.mesa_tasks.specs.Inputs.{lineage_of}

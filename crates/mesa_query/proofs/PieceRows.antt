@@ -16,7 +16,7 @@ use Rattle.mesa_delta.specs.Indexed.{Indexed}
 use Rattle.mesa_delta.specs.Reading.{IsBlock, IsIndexed, index_of}
 use Rattle.mesa_delta.specs.Spread.{blocks_of}
 use Rattle.mesa_delta.specs.declared.input.Input.{Input}
-use Rattle.mesa_cursor.proofs.Lifted.{block_forms, lifts_all}
+use Rattle.mesa_scan.proofs.Lifted.{block_forms, lifts_all}
 use Rattle.mesa_merge.specs.Inputs.{AreTold, IsTold, Known, known_of, lifted_in}
 use Rattle.mesa_scan.specs.Matching.{matching_rows}
 use Rattle.mesa_scan.specs.Scanning.{matching, matching_block}

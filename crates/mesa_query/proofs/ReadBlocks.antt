@@ -8,7 +8,7 @@ use Rattle.std.proofs.lemmas.List.{get_or_default}
 use Rattle.mesa_filter.specs.Filter.{KeyFilter}
 use Rattle.mesa_delta.specs.Ahead.{AreAhead, IsOfFile, Told, Untested}
 use Rattle.mesa_delta.specs.Reading.{index_of}
-use Rattle.mesa_scan.specs.mesa_cursor.Cursors.{reader_in}
+use Rattle.mesa_scan.specs.Cursors.{reader_in}
 use Rattle.mesa_merge.specs.Inputs.{Known, known_of, knowns_of}
 use Rattle.mesa_answer.specs.Gathered.{HasPut, wanted_of}
 use Rattle.mesa_answer.specs.Gathering.{Wanted}

@@ -3,7 +3,7 @@ use Rattle.std.specs.Prelude.{◌≡◌, ◌⊎◌, ℕ, List, [], ◌∷◌, ma
 use Rattle.mesa_file.specs.declared.damage.Damage.{Damage}
 use Rattle.mesa_delta.specs.Ahead.{Told}
 use Rattle.mesa_delta.specs.declared.input.Input.{Input}
-use Rattle.mesa_scan.specs.mesa_cursor.Cursors.{reader_in}
+use Rattle.mesa_scan.specs.Cursors.{reader_in}
 use Rattle.mesa_scan.specs.Damaged.{IsDamaged}
 use Rattle.mesa_scan.specs.Moving.{moved_to}
 use Rattle.mesa_merge.specs.Inputs.{Known}

@@ -2,7 +2,7 @@
 ghost use Rattle.std.specs.Prelude.{IfOk};
 ghost use Rattle.std.specs.List.{AllByRecursion};
 ghost use Rattle.mesa_merge.specs.Inputs.{knowns_of};
-ghost use Rattle.mesa_scan.specs.mesa_cursor.Cursors.{IsInput};
+ghost use Rattle.mesa_scan.specs.Cursors.{IsInput};
 ghost use Rattle.mesa_query.specs.Files.{inputs_in};
 ghost use Rattle.mesa_query.specs.Pieces.{AreDecodingsOf, AreLiftsOf};
 

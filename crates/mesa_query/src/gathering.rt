@@ -11,7 +11,7 @@ ghost use Rattle.mesa_filter.specs.Query.{are_places};
 ghost use Rattle.mesa_delta.specs.Ahead.{AreAhead, AreOfFile, Told as AnyTold};
 ghost use Rattle.mesa_delta.specs.Reading.{index_of};
 ghost use Rattle.mesa_delta.specs.declared.error.FileError.TheVariants as file_error;
-ghost use Rattle.mesa_scan.specs.mesa_cursor.Cursors.{IsSameInput, reader_in};
+ghost use Rattle.mesa_scan.specs.Cursors.{IsSameInput, reader_in};
 ghost use Rattle.mesa_scan.specs.Damaged.{IsDamaged};
 ghost use Rattle.mesa_scan.specs.Moving.{told_in};
 ghost use Rattle.mesa_merge.specs.Faults.{HaveFaultCause, faults_of};

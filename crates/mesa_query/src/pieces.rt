@@ -6,7 +6,7 @@ ghost use Rattle.mesa_schema.specs.Columns.{Columns, kinds_of};
 ghost use Rattle.mesa_schema.specs.Folded.{rows_of};
 ghost use Rattle.mesa_filter.specs.Filter.{filtered};
 ghost use Rattle.mesa_merge.specs.Inputs.{AreTold, known_of, knowns_of};
-ghost use Rattle.mesa_scan.specs.mesa_cursor.Cursors.{IsInput};
+ghost use Rattle.mesa_scan.specs.Cursors.{IsInput};
 ghost use Rattle.mesa_scan.specs.Scanning.{IsFilterOf};
 ghost use Rattle.mesa_tasks.specs.Pins.{IsPinnedInput};
 ghost use Rattle.mesa_tasks.specs.declared.querying.PinnedInput.{PinnedInput as AnyPinned};

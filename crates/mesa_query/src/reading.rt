@@ -4,7 +4,7 @@ ghost use Rattle.mesa_io.specs.Causes.{HasFaultCause};
 ghost use Rattle.mesa_delta.specs.declared.error.FileError.TheVariants as file_error;
 ghost use Rattle.mesa_delta.specs.Ahead.{IsOfFile, Untested as AnyUntested};
 ghost use Rattle.mesa_delta.specs.Reading.{index_of};
-ghost use Rattle.mesa_scan.specs.mesa_cursor.Cursors.{reader_in};
+ghost use Rattle.mesa_scan.specs.Cursors.{reader_in};
 ghost use Rattle.mesa_merge.specs.Faults.{HaveFaultCause, faults_of};
 ghost use Rattle.mesa_merge.specs.Inputs.{knowns_of};
 ghost use Rattle.mesa_answer.specs.Gathering.{Wanted};

@@ -3,7 +3,7 @@ use Rattle.std.proofs.Common.{◌≡◌, inl, inr, ℕ, ◌<◌, ◌≤◌, ◌^
 use Rattle.std.specs.Prelude.{is_some, vec_capacity}
 use Rattle.std.specs.List.{AllByRecursion}
 use Rattle.mesa_query_turns.specs.Closing.{IsPageOf, IsSomePageOf, IsToClose, cause_if, closing_entry, closing_text}
-use Rattle.mesa_tasks.specs.mesa_cursor.Cursors.{reader_in}
+use Rattle.mesa_tasks.specs.mesa_scan.Cursors.{reader_in}
 use Rattle.mesa_delta.specs.declared.error.FileError.{FileError}
 use Rattle.mesa_delta.specs.declared.error.FileError.TheVariants as file_error
 use Rattle.mesa_delta.specs.declared.input.Input.{Input}

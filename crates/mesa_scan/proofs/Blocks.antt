@@ -20,8 +20,8 @@ use Rattle.mesa_filter.specs.Filter.{KeyFilter, filtered, meets}
 use Rattle.mesa_delta.specs.Reading.{index_of}
 use Rattle.mesa_delta.specs.Spread.{blocks_of}
 use Rattle.mesa_delta.specs.declared.input.Input.{Input}
-use Rattle.mesa_cursor.specs.Cursors.{lift_by}
-use Rattle.mesa_cursor.proofs.Lifted.{rows_push}
+use Rattle.mesa_scan.specs.Cursors.{lift_by}
+use Rattle.mesa_scan.proofs.Lifted.{rows_push}
 use Rattle.mesa_scan.specs.Scanning.{matching}
 
 -- a key passes for a spelling

@@ -21,8 +21,8 @@ use Rattle.mesa_delta.specs.Spread.{blocks_of}
 use Rattle.mesa_delta.specs.declared.input.Input.{Input}
 use Rattle.mesa_delta.specs.declared.reader.DeltaReader.{DeltaReader}
 use Rattle.mesa_delta.proofs.Packing.{FitsAlone}
-use Rattle.mesa_cursor.specs.Cursors.{IsInput, IsSameInput, lift_by, reader_in}
-use Rattle.mesa_cursor.proofs.Lifted.{block_forms, lifts_all}
+use Rattle.mesa_scan.specs.Cursors.{IsInput, IsSameInput, lift_by, reader_in}
+use Rattle.mesa_scan.proofs.Lifted.{block_forms, lifts_all}
 use Rattle.mesa_scan.specs.declared.scanning.Scan.{Scan}
 use Rattle.mesa_scan.specs.Allowing.{allowed_among, allows_block, bounds_in}
 use Rattle.mesa_scan.specs.Matching.{matching_rows}

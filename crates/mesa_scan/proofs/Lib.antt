@@ -1,3 +1,13 @@
+pub mod Lifted
+pub mod Handing
+pub mod Cutting
+pub mod Cuts
+pub mod Starting
+pub mod Rising
+pub mod Following
+pub mod Giving
+pub mod Taken
+pub mod Ending
 pub mod Bounds
 pub mod Blocks
 pub mod Skipping

@@ -8,7 +8,7 @@ use Rattle.mesa_delta.specs.Ahead.{AreAhead, AreOfFile, IsOfFile, Told, Untested
 use Rattle.mesa_delta.specs.Indexed.{Indexed}
 use Rattle.mesa_delta.specs.Reading.{index_of}
 use Rattle.mesa_delta.specs.declared.input.Input.{Input}
-use Rattle.mesa_cursor.specs.Cursors.{IsInput, IsSameInput, reader_in}
+use Rattle.mesa_scan.specs.Cursors.{IsInput, IsSameInput, reader_in}
 use Rattle.mesa_scan.specs.declared.scanning.Scan.{Scan}
 use Rattle.mesa_scan.specs.Moving.{moved_to}
 use Rattle.mesa_scan.specs.Scanning.{HasScanned}

@@ -12,7 +12,7 @@ use Rattle.mesa_delta.specs.Reading.{IsBlockDamage, IsIndexed, index_of}
 use Rattle.mesa_delta.specs.Spread.{blocks_of}
 use Rattle.mesa_delta.specs.declared.input.Input.{Input}
 use Rattle.mesa_delta.proofs.Packing.{blocks_rows}
-use Rattle.mesa_cursor.specs.Cursors.{IsSameInput, lift_by, reader_in}
+use Rattle.mesa_scan.specs.Cursors.{IsSameInput, lift_by, reader_in}
 use Rattle.mesa_scan.specs.declared.scanning.Scan.{Scan}
 use Rattle.mesa_scan.specs.Damaged.{IsDamaged}
 use Rattle.mesa_scan.specs.Scanning.{HasScanned, filter_of, matching, next_of, read_of}

@@ -25,8 +25,8 @@ use Rattle.mesa_delta.specs.Reading.{IsIndexed, index_of}
 use Rattle.mesa_delta.specs.Spread.{blocks_of}
 use Rattle.mesa_delta.specs.declared.input.Input.{Input}
 use Rattle.mesa_delta.proofs.Packing.{FitsAlone, blocks_good}
-use Rattle.mesa_cursor.specs.Cursors.{lift_by}
-use Rattle.mesa_cursor.proofs.Lifted.{block_forms}
+use Rattle.mesa_scan.specs.Cursors.{lift_by}
+use Rattle.mesa_scan.proofs.Lifted.{block_forms}
 use Rattle.mesa_scan.specs.Allowing.{bounds_in}
 use Rattle.mesa_scan.specs.Scanning.{IsFilterOf, keys_in}
 use Rattle.mesa_scan.proofs.Bounds.{bounds_told}

@@ -4,7 +4,7 @@ use Rattle.mesa_file.specs.declared.damage.Damage.{Damage}
 use Rattle.mesa_schema.specs.declared.rows.Row.{Row}
 use Rattle.mesa_delta.specs.Reading.{IsBlockDamage, IsIndexed, index_of}
 use Rattle.mesa_delta.specs.declared.input.Input.{Input}
-use Rattle.mesa_cursor.specs.Cursors.{reader_in}
+use Rattle.mesa_scan.specs.Cursors.{reader_in}
 
 -- Damage of one of an input's blocks: it is as the file's reader tells it, and where the file is told its index isn't true of it.
 pub record IsDamaged {R : Type 0} (bytes : R → Option (List ℕ)) (size : R → ℕ) (i : Input R) (d : Damage) : Type 0 where

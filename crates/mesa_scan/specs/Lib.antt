@@ -1,4 +1,6 @@
-pub use Rattle.mesa_cursor.specs as mesa_cursor
+pub mod Cut
+pub mod Laws
+pub mod Cursors
 pub mod Allowing
 pub mod Damaged
 pub mod Matching

@@ -3,7 +3,7 @@ use Rattle.std.specs.Prelude.{ℕ, List, Option}
 use Rattle.mesa_delta.specs.Ahead.{Told}
 use Rattle.mesa_delta.specs.Reading.{index_of}
 use Rattle.mesa_delta.specs.declared.input.Input.{Input}
-use Rattle.mesa_cursor.specs.Cursors.{reader_in}
+use Rattle.mesa_scan.specs.Cursors.{reader_in}
 
 -- what is known of an input's file
 abbrev pub told_in : {R : Type 0} → (R → Option (List ℕ)) → Input R → Told

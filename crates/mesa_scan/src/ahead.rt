@@ -4,7 +4,7 @@ ghost use Rattle.mesa_io.specs.Causes.{HasCause, HasFaultCause};
 ghost use Rattle.mesa_delta.specs.declared.error.FileError.TheVariants as file_error;
 ghost use Rattle.mesa_delta.specs.Ahead.{AreAhead, AreOfFile, Told as AnyTold};
 ghost use Rattle.mesa_delta.specs.Reading.{index_of};
-ghost use Rattle.mesa_cursor.specs.Cursors.{reader_in};
+ghost use Rattle.mesa_scan.specs.Cursors.{reader_in};
 ghost use Rattle.mesa_scan.specs.Moving.{moved_to, told_in};
 
 use crate::allowing::may_have;

@@ -6,7 +6,7 @@ ghost use Rattle.mesa_key.specs.Order.{byte_cmp};
 ghost use Rattle.mesa_schema.specs.declared.rows.Row.{Row as AnyRow};
 ghost use Rattle.mesa_filter.specs.Pruning.{NoneMeets};
 ghost use Rattle.mesa_delta.specs.Reading.{IsIndexed, index_of};
-ghost use Rattle.mesa_cursor.specs.Cursors.{IsInput, reader_in};
+ghost use Rattle.mesa_scan.specs.Cursors.{IsInput, reader_in};
 ghost use Rattle.mesa_scan.specs.Allowing.{allows_block, bounds_in, is_allowed};
 ghost use Rattle.mesa_scan.specs.Scanning.{IsFilterOf, keys_in, matching_block};
 

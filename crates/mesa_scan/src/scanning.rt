@@ -6,7 +6,7 @@ ghost use Rattle.mesa_schema.specs.declared.rows.Row.{Row as AnyRow};
 ghost use Rattle.mesa_delta.specs.declared.error.FileError.TheVariants as file_error;
 ghost use Rattle.mesa_delta.specs.Ahead.{AreAhead, AreOfFile, Told as AnyTold};
 ghost use Rattle.mesa_delta.specs.Reading.{index_of};
-ghost use Rattle.mesa_cursor.specs.Cursors.{IsInput, IsSameInput, reader_in};
+ghost use Rattle.mesa_scan.specs.Cursors.{IsInput, IsSameInput, reader_in};
 ghost use Rattle.mesa_scan.specs.Damaged.{IsDamaged};
 ghost use Rattle.mesa_scan.specs.Moving.{moved_to, told_in};
 ghost use Rattle.mesa_scan.specs.Scanning.{HasScanned, IsFilterOf, filter_of, next_of, read_of};

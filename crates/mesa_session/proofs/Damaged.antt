@@ -12,7 +12,7 @@ use Rattle.mesa_delta.specs.Damages.{IsWrongLength, IsPieceDamage}
 use Rattle.mesa_delta.specs.Indexed.{Indexed}
 use Rattle.mesa_delta.specs.Reading.{IsBlockDamage}
 use Rattle.mesa_delta.specs.declared.input.Input.{Input}
-use Rattle.mesa_tasks.specs.mesa_cursor.Cursors.{reader_in}
+use Rattle.mesa_tasks.specs.mesa_scan.Cursors.{reader_in}
 use Rattle.mesa_query.specs.mesa_scan.Damaged.{IsDamaged}
 use Rattle.mesa_compact.specs.mesa_view.SumDamage.{IsSumDamage}
 use Rattle.mesa_compact.specs.mesa_merge.Faults.{SomeRose, faults_of}

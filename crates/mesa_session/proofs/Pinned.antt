@@ -15,7 +15,7 @@ use Rattle.mesa_delta.specs.declared.error.FileError.{FileError}
 use Rattle.mesa_delta.specs.declared.error.FileError.TheVariants as file
 use Rattle.mesa_compact.specs.mesa_merge.Faults.{SomeRose, faults_of}
 use Rattle.mesa_compact.specs.mesa_merge.Inputs.{Known, AreTold, known_of, knowns_of}
-use Rattle.mesa_tasks.specs.mesa_cursor.Cursors.{reader_in}
+use Rattle.mesa_tasks.specs.mesa_scan.Cursors.{reader_in}
 use Rattle.mesa_filter.specs.Query.{BuiltQuery}
 use Rattle.mesa_tasks.specs.GivingBack.{SomeFailed, pinned_inputs}
 use Rattle.mesa_tasks.specs.Pins.{relation_rows}

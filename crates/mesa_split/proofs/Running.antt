@@ -14,7 +14,7 @@ use Rattle.mesa_delta.specs.declared.input.Input.{Input}
 use Rattle.mesa_delta.specs.declared.writer.DeltaWriter.{DeltaWriter}
 use Rattle.mesa_answer.specs.Answering.{KeepsSums}
 use Rattle.mesa_answer.specs.declared.groups.Groups.{Groups}
-use Rattle.mesa_cursor.specs.Cut.{CutsRise}
+use Rattle.mesa_scan.specs.Cut.{CutsRise}
 use Rattle.mesa_merge.specs.Inputs.{knowns_of}
 use Rattle.mesa_merge.specs.Sums.{sum_damage}
 use Rattle.mesa_tasks.specs.declared.merging.CompactError.{CompactError}

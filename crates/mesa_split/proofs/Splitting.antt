@@ -16,8 +16,8 @@ use Rattle.mesa_delta.specs.mesa_block.Rows.{IsRow}
 use Rattle.mesa_delta.specs.Indexed.{IsIndexOf}
 use Rattle.mesa_delta.specs.Summary.{file_layout}
 use Rattle.mesa_delta.specs.declared.input.Input.{Input}
-use Rattle.mesa_cursor.specs.Cursors.{IsInput, lift_by}
-use Rattle.mesa_cursor.proofs.Cutting.{cut_none}
+use Rattle.mesa_scan.specs.Cursors.{IsInput, lift_by}
+use Rattle.mesa_scan.proofs.Cutting.{cut_none}
 use Rattle.mesa_file.specs.declared.damage.Damage.{Damage}
 use Rattle.mesa_merge.specs.Damaged.{IsDamageOf}
 use Rattle.mesa_merge.specs.Faults.{faults_of}

@@ -5,7 +5,7 @@ use Rattle.std.specs.List.{AllByRecursion}
 use Rattle.mesa_disk.specs.mesa_io.Causes.{Rose}
 use Rattle.mesa_disk.specs.Story.{Story}
 use Rattle.mesa_delta.specs.declared.input.Input.{Input}
-use Rattle.mesa_tasks.specs.mesa_cursor.Cursors.{reader_in}
+use Rattle.mesa_tasks.specs.mesa_scan.Cursors.{reader_in}
 use Rattle.mesa_digest.specs.Digests.{digests_of}
 use Rattle.mesa_digest.specs.Digests as digest
 use Rattle.mesa_digest.specs.declared.digesting.DigestPair.{DigestPair}

@@ -13,7 +13,7 @@ use Rattle.mesa_delta.specs.Reading.{index_of}
 use Rattle.mesa_delta.specs.Spread.{blocks_of}
 use Rattle.mesa_delta.specs.Summary.{file_layout}
 use Rattle.mesa_delta.specs.declared.input.Input.{Input}
-use Rattle.mesa_cursor.specs.Cursors.{reader_in}
+use Rattle.mesa_scan.specs.Cursors.{reader_in}
 use Rattle.mesa_tasks.specs.declared.opening.Wanted.{Wanted}
 use Rattle.mesa_tasks.specs.Inputs.{AreInputsOf, AreTold, IsTold, lineage_of}
 use Rattle.mesa_tasks.specs.Opening.{HaveOpened, IsOpened}

@@ -5,7 +5,7 @@ use Rattle.std.specs.declared.alloc.Global.{Global}
 use Rattle.mesa_io.specs.Causes.{Rose}
 use Rattle.mesa_disk.specs.Story.{Story}
 use Rattle.mesa_delta.specs.declared.input.Input.{Input}
-use Rattle.mesa_cursor.specs.Cursors.{reader_in}
+use Rattle.mesa_scan.specs.Cursors.{reader_in}
 use Rattle.mesa_tasks.specs.declared.merging.Spare.{Spare}
 use Rattle.mesa_tasks.specs.declared.merging.Task.{Task}
 use Rattle.mesa_tasks.specs.declared.merging.TaskView.{TaskView}

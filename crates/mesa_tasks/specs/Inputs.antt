@@ -7,7 +7,7 @@ use Rattle.mesa_schema.specs.Changes.{Lineage, columns_of}
 use Rattle.mesa_schema.specs.Folded.{folded}
 use Rattle.mesa_delta.specs.Reading.{IsIndexed, index_of}
 use Rattle.mesa_delta.specs.declared.input.Input.{Input}
-use Rattle.mesa_cursor.specs.Cursors.{IsInput, lift_by, reader_in}
+use Rattle.mesa_scan.specs.Cursors.{IsInput, lift_by, reader_in}
 
 -- the columns of an input's table or view through its life
 abbrev pub lineage_of : {R : Type 0} → Input R → Lineage

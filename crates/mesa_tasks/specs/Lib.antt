@@ -1,4 +1,4 @@
-pub use Rattle.mesa_cursor.specs as mesa_cursor
+pub use Rattle.mesa_scan.specs as mesa_scan
 pub use Rattle.mesa_delta.specs as mesa_delta
 pub use Rattle.mesa_history_spec.specs as mesa_history_spec
 pub mod Serials

@@ -18,7 +18,7 @@ use Rattle.mesa_delta.specs.Indexed.{IsIndexOf}
 use Rattle.mesa_delta.specs.Reading.{IsTailDamage, index_of}
 use Rattle.mesa_delta.specs.Summary.{IsReferenceOf, file_layout}
 use Rattle.mesa_delta.specs.declared.input.Input.{Input}
-use Rattle.mesa_cursor.specs.Cursors.{IsInput, reader_in}
+use Rattle.mesa_scan.specs.Cursors.{IsInput, reader_in}
 use Rattle.mesa_tasks.specs.Inputs.{lineage_of}
 use Rattle.mesa_tasks.specs.declared.opening.Met.{Met}
 use Rattle.mesa_tasks.specs.declared.opening.Met.TheVariants as met

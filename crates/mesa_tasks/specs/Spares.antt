@@ -10,7 +10,7 @@ use Rattle.mesa_delta.specs.Indexed.{IsIndexOf}
 use Rattle.mesa_delta.specs.Reading.{index_of}
 use Rattle.mesa_delta.specs.Summary.{file_layout}
 use Rattle.mesa_delta.specs.declared.input.Input.{Input}
-use Rattle.mesa_cursor.specs.Cursors.{IsInput, reader_in}
+use Rattle.mesa_scan.specs.Cursors.{IsInput, reader_in}
 use Rattle.mesa_tasks.specs.Inputs.{lineage_of}
 use Rattle.mesa_tasks.specs.declared.merging.Spare.{Spare}
 use Rattle.mesa_tasks.specs.declared.merging.Task.{Task}

@@ -16,7 +16,7 @@ use Rattle.mesa_delta.specs.Spread.{blocks_of}
 use Rattle.mesa_delta.specs.declared.input.Input.{Input}
 use Rattle.mesa_delta.specs.declared.error.FileError.{FileError}
 use Rattle.mesa_delta.specs.declared.error.FileError.TheVariants as file_error
-use Rattle.mesa_scan.specs.mesa_cursor.Cursors.{IsSameInput, lift_by, reader_in}
+use Rattle.mesa_scan.specs.Cursors.{IsSameInput, lift_by, reader_in}
 use Rattle.mesa_scan.specs.declared.scanning.Scan.{Scan}
 use Rattle.mesa_scan.specs.Scanning.{HasScanned, filter_of, matching, next_of}
 use Rattle.mesa_scan.proofs.Onwards.{all_matching}

@@ -16,7 +16,7 @@ use Rattle.mesa_delta.specs.Reading.{index_of}
 use Rattle.mesa_delta.specs.Spread.{blocks_of}
 use Rattle.mesa_delta.specs.declared.input.Input.{Input}
 use Rattle.mesa_delta.proofs.Packing.{blocks_rows}
-use Rattle.mesa_scan.specs.mesa_cursor.Cursors.{lift_by}
+use Rattle.mesa_scan.specs.Cursors.{lift_by}
 use Rattle.mesa_scan.specs.Scanning.{matching}
 use Rattle.mesa_answer.specs.Answering.{KeepsSums}
 use Rattle.mesa_answer.proofs.Passing.{one_more_row}

@@ -5,7 +5,7 @@ use Rattle.mesa_delta.specs.Ahead.{AreAhead, AreOfFile, Told, Untested}
 use Rattle.mesa_delta.specs.Indexed.{Indexed}
 use Rattle.mesa_delta.specs.Reading.{index_of}
 use Rattle.mesa_delta.specs.declared.input.Input.{Input}
-use Rattle.mesa_scan.specs.mesa_cursor.Cursors.{IsSameInput, reader_in}
+use Rattle.mesa_scan.specs.Cursors.{IsSameInput, reader_in}
 use Rattle.mesa_scan.specs.Moving.{told_in}
 
 -- What waits now is of this input, or waited before.

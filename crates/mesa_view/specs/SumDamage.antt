@@ -8,7 +8,7 @@ use Rattle.mesa_schema.specs.Columns.{Columns}
 use Rattle.mesa_schema.specs.Views.{view_key_places, view_value_places}
 use Rattle.mesa_delta.specs.Reading.{IsIndexed, index_of}
 use Rattle.mesa_delta.specs.declared.input.Input.{Input}
-use Rattle.mesa_scan.specs.mesa_cursor.Cursors.{lift_by, reader_in}
+use Rattle.mesa_scan.specs.Cursors.{lift_by, reader_in}
 use Rattle.mesa_answer.specs.Gathering.{Wanted}
 use Rattle.mesa_answer.specs.Sums.{SumLeavesAmong}
 

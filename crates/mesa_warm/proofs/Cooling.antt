@@ -20,7 +20,7 @@ use Rattle.mesa_query.specs.Sums.{IsSumIn, LacksGroup}
 use Rattle.mesa_query.specs.mesa_answer.Gathering.{Wanted}
 use Rattle.mesa_query.specs.mesa_merge.Inputs.{AreTold, Known, known_of, knowns_of}
 use Rattle.mesa_query.specs.mesa_scan.Damaged.{IsDamaged}
-use Rattle.mesa_tasks.specs.mesa_cursor.Cursors.{IsInput, reader_in}
+use Rattle.mesa_tasks.specs.mesa_scan.Cursors.{IsInput, reader_in}
 use Rattle.mesa_tasks.specs.Pins.{IsPinned, IsPinnedInput, rows_pinned}
 use Rattle.mesa_tasks.specs.declared.querying.Pinned.{Pinned}
 use Rattle.mesa_tasks.specs.declared.querying.PinnedInput.{PinnedInput}

@@ -2,7 +2,7 @@
 ghost use Rattle.std.specs.Prelude.{◌≡◌, ◌≤◌, [], ◌∷◌, ◌++◌, ℕ, Option, Some};
 ghost use Rattle.mesa_schema.specs.Changes.{columns_of};
 ghost use Rattle.mesa_schema.specs.Columns.{Columns};
-ghost use Rattle.mesa_cursor.specs.Cursors.{IsInput};
+ghost use Rattle.mesa_scan.specs.Cursors.{IsInput};
 ghost use Rattle.mesa_tasks.specs.Pins.{HasViewOf, IsPinnedInput, view_at};
 
 use crate::query::vectors::{Vector, bytes_of, spelled};

@@ -1,5 +1,5 @@
 // Files of which only some blocks are read.
-ghost use Rattle.mesa_cursor.specs.Cursors.{IsInput};
+ghost use Rattle.mesa_scan.specs.Cursors.{IsInput};
 
 use crate::query::inputs::{Source, cached, input_of, source_of};
 use crate::query::tables::table;

@@ -3,7 +3,7 @@ use Rattle.std.proofs.lemmas.List.{append-nil}
 use Rattle.std.proofs.lemmas.Bool.{false≢true}
 use Rattle.mesa_schema.specs.declared.rows.Row.{Row}
 use Rattle.mesa_delta.specs.Reading.{IsIndexed}
-use Rattle.mesa_cursor.specs.Cursors.{HasGiven, IsAllOf}
+use Rattle.mesa_scan.specs.Cursors.{HasGiven, IsAllOf}
 use Rattle.mesa_check_file.proofs.Streams.{same_input}
 use Rattle.mesa_check_derived.proofs.finishing.finish_input.Goals as goal
 

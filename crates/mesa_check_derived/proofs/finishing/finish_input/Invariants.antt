@@ -1,7 +1,7 @@
 use Rattle.std.proofs.Common.{◌≡◌, ◌++◌, List}
 use Rattle.mesa_schema.specs.declared.rows.Row.{Row}
 use Rattle.std.specs.Prelude.{None}
-use Rattle.mesa_cursor.specs.Cursors.{HasGiven, IsInput, IsSameInput, low_of, reader_in}
+use Rattle.mesa_scan.specs.Cursors.{HasGiven, IsInput, IsSameInput, low_of, reader_in}
 use Rattle.mesa_check_derived.proofs.finishing.finish_input.Given as goal
 
 -- the rows so far are given

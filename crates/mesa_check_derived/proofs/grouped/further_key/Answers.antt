@@ -7,7 +7,7 @@ use Rattle.mesa_schema.specs.Lent.{lent}
 use Rattle.mesa_schema.specs.Rows.{keys_rise}
 use Rattle.mesa_schema.specs.Changes.{columns_of}
 use Rattle.mesa_delta.specs.Reading.{IsIndexed}
-use Rattle.mesa_cursor.specs.Cursors.{IsSameInput, at_hand, lift_by}
+use Rattle.mesa_scan.specs.Cursors.{IsSameInput, at_hand, lift_by}
 use Rattle.mesa_check_derived.specs.Difference.{first_difference}
 use Rattle.mesa_check_file.proofs.Streams.{same_input}
 use Rattle.mesa_check_derived.specs.Compared.{Shows}

@@ -5,7 +5,7 @@ use Rattle.mesa_schema.specs.declared.rows.Row.{Row}
 use Rattle.mesa_schema.specs.Changes.{columns_of}
 use Rattle.mesa_schema.specs.Rows.{keys_rise}
 use Rattle.mesa_schema.specs.Views.{view_key_places, view_rows, view_value_places}
-use Rattle.mesa_cursor.specs.Cursors.{lift_by}
+use Rattle.mesa_scan.specs.Cursors.{lift_by}
 use Rattle.mesa_delta.specs.declared.error.FileError.TheVariants.{Memory, Read}
 use Rattle.mesa_check_derived.specs.Difference.{first_difference}
 use Rattle.mesa_answer.proofs.Results.{if_err, if_ok}

@@ -8,7 +8,7 @@ use Rattle.mesa_schema.specs.Lent.{lent}
 use Rattle.mesa_schema.specs.Rows.{keys_rise}
 use Rattle.mesa_schema.specs.Changes.{columns_of}
 use Rattle.mesa_delta.specs.Reading.{IsIndexed}
-use Rattle.mesa_cursor.specs.Cursors.{HasGiven, IsSameInput, at_hand, lift_by}
+use Rattle.mesa_scan.specs.Cursors.{HasGiven, IsSameInput, at_hand, lift_by}
 use Rattle.mesa_check_derived.specs.Difference.{first_difference}
 use Rattle.mesa_answer.proofs.Passing.{one_more_row}
 use Rattle.mesa_answer.proofs.Results.{if_err, if_ok}

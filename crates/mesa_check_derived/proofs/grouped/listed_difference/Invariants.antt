@@ -1,5 +1,5 @@
 use Rattle.std.proofs.Common.{◌≡◌, take}
-use Rattle.mesa_cursor.specs.Cursors.{HasGiven, IsInput, IsSameInput, reader_in}
+use Rattle.mesa_scan.specs.Cursors.{HasGiven, IsInput, IsSameInput, reader_in}
 use Rattle.mesa_check_derived.proofs.grouped.listed_difference.Given as goal
 
 -- the rows so far are the file's

@@ -3,7 +3,7 @@ use Rattle.mesa_schema.specs.declared.rows.Row.{Row}
 use Rattle.mesa_schema.specs.Changes.{columns_of}
 use Rattle.mesa_schema.specs.Columns.{aggs_of}
 use Rattle.mesa_schema.specs.Folded.{folded}
-use Rattle.mesa_cursor.specs.Cursors.{HasGiven, IsInput, IsSameInput, reader_in}
+use Rattle.mesa_scan.specs.Cursors.{HasGiven, IsInput, IsSameInput, reader_in}
 use Rattle.mesa_merge.specs.Faults.{faults_of}
 use Rattle.mesa_merge.specs.Inputs.{knowns_of}
 use Rattle.mesa_merge.specs.Merged.{HasMerged, inputs_of}

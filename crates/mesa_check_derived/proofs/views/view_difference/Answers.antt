@@ -4,7 +4,7 @@ use Rattle.mesa_schema.specs.declared.rows.Row.{Row}
 use Rattle.mesa_schema.specs.Changes.{Lineage, columns_of}
 use Rattle.mesa_schema.specs.Views.{view_rows}
 use Rattle.mesa_answer.specs.Answering.{KeepsSums}
-use Rattle.mesa_cursor.specs.Cursors.{lift_by}
+use Rattle.mesa_scan.specs.Cursors.{lift_by}
 use Rattle.mesa_check_derived.specs.Difference.{first_difference}
 use Rattle.mesa_answer.proofs.Results.{if_ok}
 use Rattle.mesa_view.proofs.Blocks.{if_some}

@@ -3,8 +3,8 @@ use Rattle.std.specs.Prelude.{None}
 use Rattle.mesa_schema.specs.declared.rows.Row.{Row}
 use Rattle.mesa_schema.specs.Changes.{columns_of}
 use Rattle.mesa_schema.specs.Rows.{AreRowsOf, IsRowOf}
-use Rattle.mesa_cursor.specs.Cursors.{at_hand}
-use Rattle.mesa_cursor.proofs.Taken.{taken}
+use Rattle.mesa_scan.specs.Cursors.{at_hand}
+use Rattle.mesa_scan.proofs.Taken.{taken}
 use Rattle.mesa_check_file.proofs.Streams.{form_in}
 use Rattle.mesa_check_file.proofs.rows.next_row.Goals as goal
 

@@ -13,7 +13,7 @@ use Rattle.mesa_merge.specs.Inputs.{AreInputs, knowns_of}
 use Rattle.mesa_tasks.specs.Inputs.{IsMergeOf}
 use Rattle.mesa_tasks.specs.Made.{Content, IsMadeFile}
 use Rattle.mesa_tasks.specs.Recasts.{recast_content}
-use Rattle.mesa_tasks.specs.mesa_cursor.Cursors.{IsInput}
+use Rattle.mesa_tasks.specs.mesa_scan.Cursors.{IsInput}
 use Rattle.mesa_compact.specs.Bounded.{AreBounded}
 use Rattle.mesa_compact.proofs.Causing.{caused_memory}
 use Rattle.mesa_compact.proofs.Viewing.{mergeable}

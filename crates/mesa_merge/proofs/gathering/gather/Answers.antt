@@ -3,7 +3,7 @@ use Rattle.mesa_schema.specs.declared.rows.Row.{Row}
 use Rattle.mesa_schema.specs.Columns.{aggs_of}
 use Rattle.mesa_schema.specs.Folded.{AllCombine, row_combined}
 use Rattle.mesa_schema.specs.Rows.{AreRowsOf}
-use Rattle.mesa_cursor.specs.Cursors.{at_hand}
+use Rattle.mesa_scan.specs.Cursors.{at_hand}
 use Rattle.mesa_delta.specs.declared.error.FileError.TheVariants.{Damaged, Read}
 use Rattle.mesa_merge.specs.Damaged.{IsBlockOf}
 use Rattle.mesa_merge.specs.Hands.{IsAhead, IsFrom, IsLeastOf, hands_of}

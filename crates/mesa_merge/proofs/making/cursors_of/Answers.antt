@@ -1,7 +1,7 @@
 use Rattle.std.proofs.Common.{◌≡◌, [], ℕ, List, get_or, take, suc, sym, subst, add-one}
 use Rattle.std.proofs.lemmas.List.{take_all}
-use Rattle.mesa_cursor.specs.declared.cursor.Cursor.{Cursor}
-use Rattle.mesa_cursor.specs.Cursors.{HasGivenFrom, IsInput}
+use Rattle.mesa_scan.specs.declared.cursor.Cursor.{Cursor}
+use Rattle.mesa_scan.specs.Cursors.{HasGivenFrom, IsInput}
 use Rattle.mesa_merge.specs.Hands.{hands_of}
 use Rattle.mesa_merge.specs.Merged.{nothing_given}
 use Rattle.mesa_merge.specs.Merging.{HasGivens}

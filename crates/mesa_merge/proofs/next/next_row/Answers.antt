@@ -5,7 +5,7 @@ use Rattle.mesa_schema.specs.Columns.{aggs_of}
 use Rattle.mesa_schema.specs.Folded.{folded, rows_of}
 use Rattle.mesa_batch.specs.Bound.{KeepsBound}
 use Rattle.mesa_delta.specs.declared.error.FileError.TheVariants.{Memory, Read}
-use Rattle.mesa_cursor.specs.Cut.{is_from, is_under, lies_in}
+use Rattle.mesa_scan.specs.Cut.{is_from, is_under, lies_in}
 use Rattle.mesa_merge.specs.Damaged.{IsBlockOf}
 use Rattle.mesa_merge.specs.Inputs.{AreTold, knowns_of, lifted_parts}
 use Rattle.mesa_merge.specs.Merging.{AreReady}

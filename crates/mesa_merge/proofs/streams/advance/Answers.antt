@@ -1,8 +1,8 @@
 use Rattle.std.proofs.Common.{inl, inr, ◌≡◌, ◌≢◌, ◌<◌, ℕ, [], ◌∷◌, ◌++◌, get_or, length, set, drop, refl, sym, ◌∙◌, subst, arith}
 use Rattle.std.proofs.lemmas.List.{length-set}
 use Rattle.mesa_schema.specs.Rows.{AreRowsOf}
-use Rattle.mesa_cursor.specs.Cursors.{at_hand}
-use Rattle.mesa_cursor.proofs.Taken.{stepped, taken}
+use Rattle.mesa_scan.specs.Cursors.{at_hand}
+use Rattle.mesa_scan.proofs.Taken.{stepped, taken}
 use Rattle.mesa_merge.specs.Fronts.{HasFront}
 use Rattle.mesa_merge.specs.Hands.{IsAhead, hands_of}
 use Rattle.mesa_merge.specs.Matches.{AreWinners}

@@ -1,7 +1,7 @@
 use Rattle.std.proofs.Common.{◌+◌, ◌-◌, ◌^◌, length, min, take, sym, ◌∙◌, ap, add-one}
 use Rattle.std.specs.Prelude.{sum_by}
 use Rattle.std.proofs.lemmas.List.{take_all}
-use Rattle.mesa_cursor.specs.Cursors.{at_hand}
+use Rattle.mesa_scan.specs.Cursors.{at_hand}
 use Rattle.mesa_merge.specs.Hands.{hands_of}
 use Rattle.mesa_merge.proofs.Held.{held_more}
 use Rattle.mesa_merge.proofs.streams.held_by.Goals as goal

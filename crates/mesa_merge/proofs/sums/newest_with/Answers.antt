@@ -1,5 +1,5 @@
 use Rattle.std.proofs.Common.{◌≡◌, ◌<◌, ◌+◌, [], get_or, length, sym, subst, arith}
-use Rattle.mesa_cursor.specs.Cursors.{at_hand}
+use Rattle.mesa_scan.specs.Cursors.{at_hand}
 use Rattle.mesa_merge.specs.Hands.{hands_of}
 use Rattle.mesa_merge.specs.Sums.{HasHead}
 use Rattle.mesa_merge.proofs.Hands.{hand_at, hands_length}

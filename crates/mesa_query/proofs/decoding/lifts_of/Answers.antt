@@ -5,7 +5,7 @@ use Rattle.mesa_schema.specs.Changes.{Lineage, epoch_of}
 use Rattle.mesa_schema.specs.Lifting.{Lifts}
 use Rattle.mesa_schema.specs.Lineages.{IsLineage}
 use Rattle.mesa_delta.specs.declared.input.Input.{Input}
-use Rattle.mesa_scan.specs.mesa_cursor.Cursors.{IsInput}
+use Rattle.mesa_scan.specs.Cursors.{IsInput}
 use Rattle.mesa_merge.specs.Inputs.{Known, known_of, knowns_of}
 use Rattle.mesa_query.specs.Files.{inputs_in}
 use Rattle.mesa_query.specs.Pieces.{AreLiftsOf, IsLiftOf}

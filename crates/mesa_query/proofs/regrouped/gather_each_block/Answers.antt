@@ -8,7 +8,7 @@ use Rattle.mesa_schema.specs.Columns.{Columns}
 use Rattle.mesa_schema.specs.Rows.{AreRowsOf}
 use Rattle.mesa_schema.specs.Views.{view_columns}
 use Rattle.mesa_delta.specs.declared.input.Input.{Input}
-use Rattle.mesa_scan.specs.mesa_cursor.Cursors.{IsSameInput, reader_in}
+use Rattle.mesa_scan.specs.Cursors.{IsSameInput, reader_in}
 use Rattle.mesa_scan.specs.declared.scanning.Scan.{Scan}
 use Rattle.mesa_scan.specs.Matching.{matching_rows}
 use Rattle.mesa_scan.specs.Scanning.{HasScanned}

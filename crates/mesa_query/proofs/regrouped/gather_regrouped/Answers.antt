@@ -4,7 +4,7 @@ use Rattle.mesa_schema.specs.declared.rows.Row.{Row}
 use Rattle.mesa_schema.specs.declared.views.View.{View}
 use Rattle.mesa_schema.specs.Changes.{Lineage, columns_of}
 use Rattle.mesa_schema.specs.Columns.{kinds_of}
-use Rattle.mesa_scan.specs.mesa_cursor.Cursors.{lift_by}
+use Rattle.mesa_scan.specs.Cursors.{lift_by}
 use Rattle.mesa_answer.specs.Answering.{KeepsSums}
 use Rattle.mesa_answer.specs.Gathered.{wanted_of}
 use Rattle.mesa_answer.specs.Regrouping.{places_seen}

@@ -2,7 +2,7 @@ use Rattle.std.proofs.Common.{◌≡◌, List}
 use Rattle.std.specs.Prelude.{Some, slice_get}
 use Rattle.mesa_delta.specs.Ahead.{AreAhead, AreOfFile, Told}
 use Rattle.mesa_delta.specs.Reading.{index_of}
-use Rattle.mesa_cursor.specs.Cursors.{reader_in}
+use Rattle.mesa_scan.specs.Cursors.{reader_in}
 use Rattle.mesa_scan.specs.Moving.{moved_to, told_in}
 use Rattle.mesa_scan.proofs.ahead.read_on.Given as goal
 

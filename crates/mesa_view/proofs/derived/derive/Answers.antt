@@ -4,7 +4,7 @@ use Rattle.mesa_schema.specs.Changes.{Lineage, columns_of}
 use Rattle.mesa_schema.specs.Columns.{Columns}
 use Rattle.mesa_schema.specs.Folded.{grouped}
 use Rattle.mesa_schema.specs.Rows.{AreRowsOf}
-use Rattle.mesa_scan.specs.mesa_cursor.Cursors.{lift_by}
+use Rattle.mesa_scan.specs.Cursors.{lift_by}
 use Rattle.mesa_answer.specs.Answering.{grouped_columns}
 use Rattle.mesa_answer.specs.Regrouping.{PlacesSeen}
 use Rattle.mesa_answer.specs.Gathering.{Wanted}

@@ -3,7 +3,7 @@ use Rattle.std.specs.Prelude.{map}
 use Rattle.mesa_schema.specs.Changes.{columns_of}
 use Rattle.mesa_filter.specs.declared.terms.Term.{Term}
 use Rattle.mesa_filter.specs.Filter.{filtered}
-use Rattle.mesa_scan.specs.mesa_cursor.Cursors.{lift_by}
+use Rattle.mesa_scan.specs.Cursors.{lift_by}
 use Rattle.mesa_view.proofs.Blocks.{every_passes}
 use Rattle.mesa_view.specs.declared.error.GatherError.TheVariants as gather
 use Rattle.mesa_view.proofs.derived.gather_alone.Goals as goal

@@ -4,7 +4,7 @@ use Rattle.mesa_schema.specs.declared.rows.Row.{Row}
 use Rattle.mesa_schema.specs.Changes.{columns_of}
 use Rattle.mesa_schema.specs.Columns.{Columns}
 use Rattle.mesa_schema.specs.Rows.{AreRowsOf}
-use Rattle.mesa_scan.specs.mesa_cursor.Cursors.{reader_in}
+use Rattle.mesa_scan.specs.Cursors.{reader_in}
 use Rattle.mesa_scan.proofs.Onwards.{damaged_before, same_input}
 use Rattle.mesa_answer.specs.Answering.{KeepsSums}
 use Rattle.mesa_answer.specs.Gathered.{HasPut, key_at_hand, wanted_of}

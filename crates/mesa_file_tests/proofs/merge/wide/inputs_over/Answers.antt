@@ -3,7 +3,7 @@ use Rattle.std.specs.Prelude.{Option}
 use Rattle.mesa_schema.specs.Changes.{Lineage, columns_of}
 use Rattle.mesa_schema.specs.Columns.{Columns}
 use Rattle.mesa_delta.specs.declared.input.Input.{Input}
-use Rattle.mesa_cursor.specs.Cursors.{IsInput}
+use Rattle.mesa_scan.specs.Cursors.{IsInput}
 use Rattle.mesa_merge.specs.Inputs.{AreInputs}
 use Rattle.mesa_file_tests.proofs.merge.wide.inputs_over.Goals as goal
 

@@ -8,8 +8,8 @@ use Rattle.mesa_schema.specs.Lineages.{IsLineage}
 use Rattle.mesa_schema.proofs.Lists.{all_map}
 use Rattle.mesa_delta.specs.Indexed.{IsIndex}
 use Rattle.mesa_delta.specs.Reading.{index_of}
-use Rattle.mesa_cursor.specs.Cursors.{IsSameInput}
-use Rattle.mesa_cursor.proofs.Giving.{input_more}
+use Rattle.mesa_scan.specs.Cursors.{IsSameInput}
+use Rattle.mesa_scan.proofs.Giving.{input_more}
 use Rattle.mesa_scan.specs.Scanning.{next_of}
 use Rattle.mesa_scan.proofs.Going.{block_spells, input_failed, onward_read, onward_skipped, read_few}
 use Rattle.mesa_scan.proofs.scanning.Scan.block.Goals as goal

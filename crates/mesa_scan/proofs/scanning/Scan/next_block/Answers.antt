@@ -9,14 +9,14 @@ use Rattle.mesa_schema.proofs.Lists.{all_map}
 use Rattle.mesa_delta.specs.Indexed.{Indexed, IsIndex}
 use Rattle.mesa_delta.specs.Reading.{index_of}
 use Rattle.mesa_delta.specs.declared.input.Input.{Input}
-use Rattle.mesa_cursor.specs.Cursors.{IsInput, IsSameInput, reader_in}
+use Rattle.mesa_scan.specs.Cursors.{IsInput, IsSameInput, reader_in}
 use Rattle.mesa_scan.specs.Allowing.{allows_block}
 use Rattle.mesa_scan.specs.Damaged.{IsDamaged}
 use Rattle.mesa_scan.specs.Scanning.{HasScanned, filter_of, next_of}
 use Rattle.mesa_scan.proofs.Going.{block_spells, input_failed, onward_read, onward_skipped, read_few}
 use Rattle.mesa_scan.proofs.Moving.{ahead_left, own_left, stays_input, stays_own, stays_same, stays_scanned}
 use Rattle.mesa_scan.proofs.Onwards.{damaged_before, same_input}
-use Rattle.mesa_cursor.proofs.Giving.{input_more}
+use Rattle.mesa_scan.proofs.Giving.{input_more}
 use Rattle.mesa_scan.proofs.scanning.Scan.next_block.Goals as goal
 
 pub returns-then-not-may_have-clause-more : goal.returns-then-not-may_have-clause-more

@@ -1,5 +1,0 @@
-use Rattle.mesa_cursor.proofs.Cutting.{cuts_fold, cuts_whole, cut_none, folds_join}
-use Rattle.mesa_cursor.proofs.laws.cuts_join.Goals as goal
-
-pub returns : goal.returns
-returns c = record { folds = cuts_fold; whole = cuts_whole; none = cut_none; join = folds_join }
