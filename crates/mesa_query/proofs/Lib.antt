@@ -13,3 +13,8 @@ pub mod Decoded
 pub mod JobSteps
 pub mod ReadBlocks
 pub mod Joined
+mod Files
+mod Taking
+mod Cooling
+mod Answering
+mod Pins

@@ -8,3 +8,6 @@ pub mod Sums
 pub mod Pieces
 pub mod Jobs
 pub mod Laws
+pub mod Cooled
+pub mod Same
+pub mod Kept

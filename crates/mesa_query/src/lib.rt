@@ -1,8 +1,11 @@
 //! Queries answered from files: the rows of each file go into the groups of a page as they are read, by one thread or by a few, so that a few blocks and the groups are all that is held.
+//!
+//! Queries answered from files whose pages are cached.
 #![tactic(auto)]
 
 mod answering;
 mod beside;
+mod caching;
 mod decoding;
 mod gathering;
 mod jobs;
@@ -13,7 +16,9 @@ mod reading;
 mod regrouped;
 mod relation;
 mod unpaged;
+mod warm;
 
 pub use answering::answer;
 pub use laws::views_fold_ungrouped;
 pub use unpaged::whole;
+pub use warm::Warm;

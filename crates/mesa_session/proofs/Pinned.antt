@@ -27,7 +27,7 @@ use Rattle.mesa_query.specs.Relation.{page_over, parts_pinned, parts_ungrouped, 
 use Rattle.mesa_query.specs.Sums.{IsSumIn}
 use Rattle.mesa_session_laws.specs.Damages.{IsUnread}
 use Rattle.mesa_session_laws.specs.Pins.{IsAnswer, IsAnswerDamage, IsPageOver, heading_in, known_pin}
-use Rattle.mesa_warm.specs.Same.{IsSamePin, readers_in}
+use Rattle.mesa_query.specs.Same.{IsSamePin, readers_in}
 use Rattle.mesa_session.proofs.Damaged.{query_differs, rose_failed}
 
 -- ---- files of which the same is known

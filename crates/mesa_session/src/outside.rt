@@ -30,11 +30,10 @@ use mesa_io::Sink;
 use mesa_key::reads_back;
 use mesa_model::Page;
 use mesa_print::render;
-use mesa_query::answer;
+use mesa_query::{Warm, answer};
 use mesa_script::Rendered;
 use mesa_split::{merge_split, sample};
 use mesa_tasks::{CompactError, NewDelta, Pinned, Recast, Recasted, Serials, Task};
-use mesa_warm::Warm;
 use std::alloc::{AllocError, Global};
 use std::thread::Threads;
 

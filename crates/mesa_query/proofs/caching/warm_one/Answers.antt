@@ -1,9 +1,9 @@
 use Rattle.std.proofs.Common.{[], ap, ◌∙◌}
 use Rattle.mesa_cache.specs.Reading.{Reading}
-use Rattle.mesa_warm.specs.Cooled.{cooled_reader}
-use Rattle.mesa_warm.proofs.Cooling.{read_cool}
-use Rattle.mesa_warm.proofs.Files.{readable_one, same_one}
-use Rattle.mesa_warm.proofs.caching.warm_one.Goals as goal
+use Rattle.mesa_query.specs.Cooled.{cooled_reader}
+use Rattle.mesa_query.proofs.Cooling.{read_cool}
+use Rattle.mesa_query.proofs.CachedFiles.{readable_one, same_one}
+use Rattle.mesa_query.proofs.caching.warm_one.Goals as goal
 
 pub new-requires-after_bounds : goal.new-requires-after_bounds
 new-requires-after_bounds g c κs within = c.requires.pages

@@ -5,8 +5,8 @@ use Rattle.std.specs.declared.alloc.Global.{Global}
 use Rattle.std.proofs.lemmas.List.{nil_from_length}
 use Rattle.mesa_tasks.specs.declared.querying.Pinned.{Pinned}
 use Rattle.mesa_tasks.specs.declared.querying.PinnedInput.{PinnedInput}
-use Rattle.mesa_warm.specs.Same.{AreReadable, AreSameFiles, IsSamePin}
-use Rattle.mesa_warm.proofs.Files.{pinned_still}
+use Rattle.mesa_query.specs.Same.{AreReadable, AreSameFiles, IsSamePin}
+use Rattle.mesa_query.proofs.CachedFiles.{pinned_still}
 
 pub no_items : {X : Type 0} (v : Vec X Global) → vec_len v ≡ 0 → v.items ≡ []
 no_items v none = nil_from_length v.items (sym v.ok.0 ∙ none)

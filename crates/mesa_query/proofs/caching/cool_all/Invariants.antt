@@ -1,8 +1,8 @@
 use Rattle.std.proofs.Common.{◌+◌, ◌≤◌, ◌++◌, map, vec_len}
 use Rattle.std.specs.Prelude.{reverse, vec_capacity}
-use Rattle.mesa_warm.specs.Cooled.{cooled_file}
-use Rattle.mesa_warm.proofs.Files.{AreStill}
-use Rattle.mesa_warm.proofs.caching.cool_all.Given as goal
+use Rattle.mesa_query.specs.Cooled.{cooled_file}
+use Rattle.mesa_query.proofs.CachedFiles.{AreStill}
+use Rattle.mesa_query.proofs.caching.cool_all.Given as goal
 
 abbrev pub invariant-each_file : goal.invariant-each_file
 invariant-each_file g l =

@@ -1,8 +1,8 @@
 use Rattle.std.proofs.Common.{ap, ◌∙◌}
 use Rattle.mesa_cache.specs.Reading.{Reading}
-use Rattle.mesa_warm.specs.Cooled.{cooled_file}
-use Rattle.mesa_warm.proofs.Files.{readable_one, same_one}
-use Rattle.mesa_warm.proofs.caching.cool_one.Goals as goal
+use Rattle.mesa_query.specs.Cooled.{cooled_file}
+use Rattle.mesa_query.proofs.CachedFiles.{readable_one, same_one}
+use Rattle.mesa_query.proofs.caching.cool_one.Goals as goal
 
 pub whole-reader-requires-after_bounds : goal.whole-reader-requires-after_bounds
 whole-reader-requires-after_bounds g c κs within = rw (c.into_inner.ensures, c.part-reader.ensures.reader, c.part-reader.ensures.index) c.requires.over

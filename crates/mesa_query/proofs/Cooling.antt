@@ -24,7 +24,7 @@ use Rattle.mesa_tasks.specs.mesa_scan.Cursors.{IsInput, reader_in}
 use Rattle.mesa_tasks.specs.Pins.{IsPinned, IsPinnedInput, rows_pinned}
 use Rattle.mesa_tasks.specs.declared.querying.Pinned.{Pinned}
 use Rattle.mesa_tasks.specs.declared.querying.PinnedInput.{PinnedInput}
-use Rattle.mesa_warm.specs.Cooled.{cooled, cooled_file, cooled_input, cooled_reader}
+use Rattle.mesa_query.specs.Cooled.{cooled, cooled_file, cooled_input, cooled_reader}
 
 -- what is told of an inner reader is told of it with a cache
 abbrev pub through : {R X : Type 0} → (R → X) → Reading R → X

@@ -14,14 +14,14 @@ ghost use Rattle.mesa_query.specs.Files.{IsDamageIn, inputs_in, owns_in};
 ghost use Rattle.mesa_query.specs.Relation.{page_over, parts_pinned, parts_ungrouped};
 ghost use Rattle.mesa_query.specs.Sums.{IsSumIn};
 ghost use Rattle.mesa_tasks.specs.Pins.{IsPinned};
-ghost use Rattle.mesa_warm.specs.Same.{IsSamePin};
+ghost use Rattle.mesa_query.specs.Same.{IsSamePin};
 
 use crate::caching::{cool_all, warm_all};
 use mesa_cache::Cached;
 use mesa_delta::FileError;
 use mesa_disk::FileReader;
 use mesa_model::Page;
-use mesa_query::answer;
+use crate::answer;
 use mesa_tasks::{Pinned, PinnedInput};
 use std::alloc::{AllocError, Global};
 use std::marker::Model;
@@ -38,8 +38,8 @@ pub struct Warm<R: FileReader> {
 
 impl<R: FileReader> Model for Warm<R> {
     ghost use Rattle.mesa_tasks.specs.declared.querying.Pinned.{Pinned as AnyPinned};
-    ghost use Rattle.mesa_warm.specs.Cooled.{cooled};
-    ghost use Rattle.mesa_warm.specs.Kept.{IsKept};
+    ghost use Rattle.mesa_query.specs.Cooled.{cooled};
+    ghost use Rattle.mesa_query.specs.Kept.{IsKept};
 
     ghost Value = { AnyPinned R };
 

@@ -1,8 +1,8 @@
 use Rattle.std.specs.Vec.Covariant.{in_vec}
-use Rattle.mesa_warm.specs.Cooled.{cooled_file}
-use Rattle.mesa_warm.proofs.Files.{readable_of}
-use Rattle.mesa_warm.proofs.Pins.{same_pin}
-use Rattle.mesa_warm.proofs.warm.Warm.new.Goals as goal
+use Rattle.mesa_query.specs.Cooled.{cooled_file}
+use Rattle.mesa_query.proofs.CachedFiles.{readable_of}
+use Rattle.mesa_query.proofs.CachedPins.{same_pin}
+use Rattle.mesa_query.proofs.warm.Warm.new.Goals as goal
 
 pub warm_all-requires-clause-pages : goal.warm_all-requires-clause-pages
 warm_all-requires-clause-pages g c κs within = c.requires.pages

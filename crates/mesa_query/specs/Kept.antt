@@ -6,7 +6,7 @@ use Rattle.mesa_model.specs.mesa_schema.Columns.{Columns}
 use Rattle.mesa_tasks.specs.Pins.{IsPinned}
 use Rattle.mesa_tasks.specs.declared.querying.Pinned.{Pinned}
 use Rattle.mesa_tasks.specs.declared.querying.PinnedInput.{PinnedInput}
-use Rattle.mesa_warm.specs.Cooled.{cooled}
+use Rattle.mesa_query.specs.Cooled.{cooled}
 
 -- Without the caches it can be answered, and there is room for each of its files without one.
 pub record IsKept {R : Type 0} (bytes : R → Option (List ℕ)) (p : Pinned (Reading R)) (room : Vec (PinnedInput R) Global) : Type 0 where

@@ -11,7 +11,7 @@ use Rattle.mesa_query.specs.mesa_merge.Inputs.{Known, known_of, knowns_of}
 use Rattle.mesa_tasks.specs.mesa_scan.Cursors.{IsInput, reader_in}
 use Rattle.mesa_tasks.specs.Pins.{IsOfRelation, IsPinnedInput}
 use Rattle.mesa_tasks.specs.declared.querying.PinnedInput.{PinnedInput}
-use Rattle.mesa_warm.specs.Same.{AreReadable, AreSameFiles, readers_in}
+use Rattle.mesa_query.specs.Same.{AreReadable, AreSameFiles, readers_in}
 
 module _ {R : Type 0} (bytes : R → Option (List ℕ)) where
   pub same_again : (files : List (PinnedInput R)) → AreSameFiles bytes files files

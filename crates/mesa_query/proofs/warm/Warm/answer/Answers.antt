@@ -1,10 +1,10 @@
 use Rattle.std.proofs.Common.{◌≡◌, ap, arith, length, subst, sym, ◌∙◌}
 use Rattle.std.proofs.lemmas.List.{length-map}
 use Rattle.mesa_tasks.specs.declared.querying.PinnedInput.{PinnedInput}
-use Rattle.mesa_warm.specs.Cooled.{cooled}
-use Rattle.mesa_warm.proofs.Answering.{HasCause, HasForm, IsDamaged, IsNever, IsPageOf, cause_cooled, damaged_cooled, form_cooled, never_cooled, page_cooled}
-use Rattle.mesa_warm.proofs.Cooling.{known_cooled, own_cooled, pinned_cool, pinned_warm}
-use Rattle.mesa_warm.proofs.warm.Warm.answer.Goals as goal
+use Rattle.mesa_query.specs.Cooled.{cooled}
+use Rattle.mesa_query.proofs.AnsweredCached.{HasCause, HasForm, IsDamaged, IsNever, IsPageOf, cause_cooled, damaged_cooled, form_cooled, never_cooled, page_cooled}
+use Rattle.mesa_query.proofs.Cooling.{known_cooled, own_cooled, pinned_cool, pinned_warm}
+use Rattle.mesa_query.proofs.warm.Warm.answer.Goals as goal
 
 pub answer-requires-after_bounds : goal.answer-requires-after_bounds
 answer-requires-after_bounds g c = λ κs below. (c.self.invariant.pinned.0, pinned_warm g.R.FileReader.bytes c.self.invariant.pinned.0 c.self.inside.pinned c.self.invariant.pinned.1)

@@ -1,11 +1,11 @@
 use Rattle.std.proofs.Common.{List, arith, map, subst, sym}
 use Rattle.mesa_tasks.specs.declared.querying.Pinned.{Pinned}
 use Rattle.mesa_tasks.specs.declared.querying.PinnedInput.{PinnedInput}
-use Rattle.mesa_warm.specs.Cooled.{cooled, cooled_file}
-use Rattle.mesa_warm.specs.Same.{AreReadable, AreSameFiles, IsSamePin}
-use Rattle.mesa_warm.proofs.Files.{readable_of}
-use Rattle.mesa_warm.proofs.Pins.{none_behind, same_pin, with_files}
-use Rattle.mesa_warm.proofs.warm.Warm.cool.Goals as goal
+use Rattle.mesa_query.specs.Cooled.{cooled, cooled_file}
+use Rattle.mesa_query.specs.Same.{AreReadable, AreSameFiles, IsSamePin}
+use Rattle.mesa_query.proofs.CachedFiles.{readable_of}
+use Rattle.mesa_query.proofs.CachedPins.{none_behind, same_pin, with_files}
+use Rattle.mesa_query.proofs.warm.Warm.cool.Goals as goal
 
 pub cool_all-requires-clause-room : goal.cool_all-requires-clause-room
 cool_all-requires-clause-room g c κs within = omega (arith, c.self.invariant.empty, c.self.invariant.fits)

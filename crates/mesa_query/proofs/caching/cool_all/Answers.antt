@@ -1,10 +1,10 @@
 use Rattle.std.proofs.Common.{◌++◌, map, arith}
 use Rattle.std.specs.Prelude.{reverse}
-use Rattle.mesa_warm.specs.Cooled.{cooled_file}
-use Rattle.mesa_warm.proofs.Files.{same_again}
-use Rattle.mesa_warm.proofs.Pins.{no_items}
-use Rattle.mesa_warm.proofs.Taking.{all_cooled, one_cooled, readable_last}
-use Rattle.mesa_warm.proofs.caching.cool_all.Goals as goal
+use Rattle.mesa_query.specs.Cooled.{cooled_file}
+use Rattle.mesa_query.proofs.CachedFiles.{same_again}
+use Rattle.mesa_query.proofs.CachedPins.{no_items}
+use Rattle.mesa_query.proofs.Taking.{all_cooled, one_cooled, readable_last}
+use Rattle.mesa_query.proofs.caching.cool_all.Goals as goal
 
 pub each_file-init : goal.each_file-init
 each_file-init g c = (c.requires.room, (c.requires.readable, same_again g.R.FileReader.bytes (map cooled_file c.args.warm.items ++ reverse c.args.files.items)))

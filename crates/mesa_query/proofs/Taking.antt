@@ -5,9 +5,9 @@ use Rattle.std.proofs.lemmas.List.{map-append, reverse-append, reverse-reverse}
 use Rattle.mesa_cache.specs.Reading.{Reading}
 use Rattle.mesa_tasks.specs.mesa_scan.Cursors.{IsInput}
 use Rattle.mesa_tasks.specs.declared.querying.PinnedInput.{PinnedInput}
-use Rattle.mesa_warm.specs.Cooled.{cooled_file}
-use Rattle.mesa_warm.specs.Same.{AreReadable, AreSameFiles}
-use Rattle.mesa_warm.proofs.Files.{AreStill, readable_here, same_again, still_along, still_at}
+use Rattle.mesa_query.specs.Cooled.{cooled_file}
+use Rattle.mesa_query.specs.Same.{AreReadable, AreSameFiles}
+use Rattle.mesa_query.proofs.CachedFiles.{AreStill, readable_here, same_again, still_along, still_at}
 
 module _ {X Y : Type 0} (f : X → Y) where
   -- the one that was taken, between those that are left and those that were taken before

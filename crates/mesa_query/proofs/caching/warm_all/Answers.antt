@@ -1,10 +1,10 @@
 use Rattle.std.proofs.Common.{◌++◌, arith, map}
 use Rattle.std.specs.Prelude.{reverse}
-use Rattle.mesa_warm.specs.Cooled.{cooled_file}
-use Rattle.mesa_warm.proofs.Files.{same_again, same_on}
-use Rattle.mesa_warm.proofs.Pins.{no_items}
-use Rattle.mesa_warm.proofs.Taking.{all_warmed, none_warmed, one_back, one_warmed, readable_first}
-use Rattle.mesa_warm.proofs.caching.warm_all.Goals as goal
+use Rattle.mesa_query.specs.Cooled.{cooled_file}
+use Rattle.mesa_query.proofs.CachedFiles.{same_again, same_on}
+use Rattle.mesa_query.proofs.CachedPins.{no_items}
+use Rattle.mesa_query.proofs.Taking.{all_warmed, none_warmed, one_back, one_warmed, readable_first}
+use Rattle.mesa_query.proofs.caching.warm_all.Goals as goal
 
 pub returns-in-Err-clause-given_back : goal.returns-in-Err-clause-given_back
 returns-in-Err-clause-given_back g c = same_again g.R.FileReader.bytes c.args.files.items

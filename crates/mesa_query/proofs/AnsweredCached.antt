@@ -21,8 +21,8 @@ use Rattle.mesa_query.specs.mesa_merge.Faults.{HaveFaultCause, faults_of}
 use Rattle.mesa_query.specs.mesa_merge.Inputs.{Known, AreTold, knowns_of}
 use Rattle.mesa_tasks.specs.Pins.{IsPinned}
 use Rattle.mesa_tasks.specs.declared.querying.Pinned.{Pinned}
-use Rattle.mesa_warm.specs.Cooled.{cooled}
-use Rattle.mesa_warm.proofs.Cooling.{damage_cooled, faults_cooled, known_cooled, parts_cooled, pinned_warm, sum_cooled, through, ungrouped_cooled}
+use Rattle.mesa_query.specs.Cooled.{cooled}
+use Rattle.mesa_query.proofs.Cooling.{damage_cooled, faults_cooled, known_cooled, parts_cooled, pinned_warm, sum_cooled, through, ungrouped_cooled}
 
 -- ---- what a query's answer is, by the pin
 

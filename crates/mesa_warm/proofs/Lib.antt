@@ -1,5 +1,0 @@
-mod Files
-mod Taking
-mod Cooling
-mod Answering
-mod Pins

@@ -1,3 +1,0 @@
-pub mod Cooled
-pub mod Same
-pub mod Kept
