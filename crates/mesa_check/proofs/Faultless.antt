@@ -14,9 +14,9 @@ use Rattle.mesa_schema.proofs.Lists.{all_append, all_both, all_map, all_so}
 use Rattle.mesa_batch.specs.Totals.{abs_totals}
 use Rattle.mesa_record.specs.declared.record.Files.{Files}
 use Rattle.mesa_record.specs.declared.record.ViewRef.{ViewRef}
-use Rattle.mesa_check_derived.specs.Difference.{first_difference}
-use Rattle.mesa_check_derived.proofs.Differences.{nowhere}
-use Rattle.mesa_check_derived.proofs.Same.{equal_itself}
+use Rattle.mesa_check_file.specs.Difference.{first_difference}
+use Rattle.mesa_check_file.proofs.Differences.{nowhere}
+use Rattle.mesa_check_file.proofs.Same.{equal_itself}
 use Rattle.mesa_image_spec.specs.Catalog.{Delta, Ending, Stock, start_in}
 use Rattle.mesa_image_spec.specs.Fitting.{base_deltas, delta_in}
 use Rattle.mesa_image_spec.specs.Contents.{Rows, present, rows_in}

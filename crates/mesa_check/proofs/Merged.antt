@@ -13,8 +13,8 @@ use Rattle.mesa_image_spec.specs.Contents.{present}
 use Rattle.mesa_tasks.specs.declared.opening.Wanted.{Wanted}
 use Rattle.mesa_plans.specs.Files.{table_wanted, want_of}
 use Rattle.mesa_plans.specs.Lent.{with_rows}
-use Rattle.mesa_check_derived.specs.Difference.{first_difference}
-use Rattle.mesa_check_derived.specs.Compared.{HaveFiles, IsLiftedTo, present_parts}
+use Rattle.mesa_check_file.specs.Difference.{first_difference}
+use Rattle.mesa_check_file.specs.Compared.{HaveFiles, IsLiftedTo, present_parts}
 use Rattle.mesa_check.specs.Found.{Found, rows_found}
 use Rattle.mesa_check.specs.Faults.{is_asked, merged_key, merged_singles}
 use Rattle.mesa_check.specs.Shown.{key_list}

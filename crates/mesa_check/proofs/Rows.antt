@@ -23,8 +23,8 @@ use Rattle.mesa_image_spec.proofs.Lists.{all_unmap, both_true}
 use Rattle.mesa_tasks.specs.declared.opening.Wanted.{Wanted}
 use Rattle.mesa_plans.specs.Files.{Want, files_wanted, table_wanted, want_of}
 use Rattle.mesa_plans.specs.Lent.{with_rows}
-use Rattle.mesa_check_derived.specs.Difference.{first_difference}
-use Rattle.mesa_check_derived.specs.Compared.{HaveFiles, IsLiftedTo, present_parts, present_rows}
+use Rattle.mesa_check_file.specs.Difference.{first_difference}
+use Rattle.mesa_check_file.specs.Compared.{HaveFiles, IsLiftedTo, present_parts, present_rows}
 use Rattle.mesa_check.specs.Found.{AreFound, Found, IsFoundAs, rows_found}
 use Rattle.mesa_check.specs.Faults.{are_files_found, is_found, is_view_found, keep_bound, key_if, view_key, view_keys, view_keys_in}
 use Rattle.mesa_check.specs.Shown.{key_list}

@@ -21,8 +21,8 @@ use Rattle.mesa_delta.specs.mesa_block.Rows.{IsRow}
 use Rattle.mesa_delta.specs.Summary.{file_layout}
 use Rattle.mesa_record.specs.declared.record.Files.{Files}
 use Rattle.mesa_record.specs.declared.record.ViewRef.{ViewRef}
-use Rattle.mesa_check_derived.specs.Difference.{first_difference}
-use Rattle.mesa_check_derived.proofs.Differences.{same_where_none}
+use Rattle.mesa_check_file.specs.Difference.{first_difference}
+use Rattle.mesa_check_file.proofs.Differences.{same_where_none}
 use Rattle.mesa_image_spec.specs.Catalog.{Delta, Ending, Stock, start_in}
 use Rattle.mesa_image_spec.specs.Fitting.{Shelved, base_deltas, delta_in, delta_shelved, deltas_of, files_shelved, stock_shelved, view_shelved}
 use Rattle.mesa_image_spec.specs.Contents.{Rows, present, rows_in, rows_if_any}

@@ -23,8 +23,8 @@ use Rattle.mesa_plans.proofs.mesa_batch.Merged.{folds_totals}
 use Rattle.mesa_disk.specs.Image.{Image}
 use Rattle.mesa_delta.specs.Summary.{file_layout}
 use Rattle.mesa_record.specs.declared.record.Files.{Files}
-use Rattle.mesa_check_derived.specs.Difference.{first_difference}
-use Rattle.mesa_check_derived.proofs.Differences.{same_where_none}
+use Rattle.mesa_check_file.specs.Difference.{first_difference}
+use Rattle.mesa_check_file.proofs.Differences.{same_where_none}
 use Rattle.mesa_image_spec.specs.mesa_history_spec.mesa_batch.Totals.{abs_total, sum_bound, sum_places}
 use Rattle.mesa_image_spec.specs.Catalog.{Delta, Stock, start_in}
 use Rattle.mesa_image_spec.specs.Contents.{Rows, present, rows_if_any}

@@ -11,7 +11,7 @@ use Rattle.mesa_schema.specs.Folded.{folded, rows_of}
 use Rattle.mesa_batch.specs.Totals.{abs_totals, sum_bound}
 use Rattle.mesa_record.specs.declared.record.Files.{Files}
 use Rattle.mesa_record.specs.declared.record.ViewRef.{ViewRef}
-use Rattle.mesa_check_derived.specs.Difference.{first_difference}
+use Rattle.mesa_check_file.specs.Difference.{first_difference}
 use Rattle.mesa_image_spec.specs.Catalog.{Catalog, Delta, Stock, start_in}
 use Rattle.mesa_image_spec.specs.Fitting.{base_deltas}
 use Rattle.mesa_image_spec.specs.Contents.{present, rows_in}

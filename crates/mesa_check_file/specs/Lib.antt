@@ -2,3 +2,5 @@ pub mod Aggregates
 pub mod Sums
 pub mod Tallies
 pub mod Examined
+pub mod Difference
+pub mod Compared

@@ -1,15 +1,30 @@
 //! Files examined: whether a file is the recorded one, and what the absolute values of its rows add up to.
+//!
+//! The files of a store compared with what they are to have: where a cumulative first differs from the fold of its range's singletons, and a view's file from its table's rows, grouped. They are read as streams, each once, and compared as rows that come in the order of their keys: where two lists of them first differ.
 #![tactic(auto)]
 
 mod aggregate;
+mod answers;
+mod comparing;
+mod cumulatives;
 mod error;
 mod examining;
+mod finishing;
+mod grouped;
+mod keys;
+mod laws;
 mod matching;
+mod merged;
 mod rows;
 mod tally;
 mod totals;
+mod views;
 
 pub use error::CheckError;
 pub use examining::examine;
 pub use rows::next_row;
 pub use totals::Sums;
+pub use comparing::differing_key;
+pub use cumulatives::cumulative_difference;
+pub use laws::same_rows_differ_nowhere;
+pub use views::view_difference;

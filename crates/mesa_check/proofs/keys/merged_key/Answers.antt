@@ -9,7 +9,7 @@ use Rattle.mesa_record.specs.declared.record.Files.{Files}
 use Rattle.mesa_schema.specs.Changes.{columns_at, columns_of, epoch_of, lifted}
 use Rattle.mesa_table.specs.Meaning.{stock_of}
 use Rattle.mesa_tasks.specs.Opening.{HasEpoch}
-use Rattle.mesa_check_derived.specs.Compared.{IsLiftedTo}
+use Rattle.mesa_check_file.specs.Compared.{IsLiftedTo}
 use Rattle.mesa_check.specs.Found.{rows_found}
 use Rattle.mesa_check.specs.Held.{delta_of}
 use Rattle.mesa_check.specs.Parts.{parts_of}

@@ -1,9 +1,0 @@
-pub mod Same
-pub mod Least
-pub mod Beside
-pub mod Differences
-pub mod Stepping
-pub mod Counting
-pub mod Differing
-pub mod Openings
-pub mod GivenBack
