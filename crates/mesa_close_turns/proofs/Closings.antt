@@ -35,7 +35,7 @@ use Rattle.mesa_engine.proofs.mesa_engine_spec.Staying.{closed_vault, leased_vau
 use Rattle.mesa_engine.proofs.mesa_engine_spec.Swapping.{ended_granted}
 use Rattle.mesa_engine.specs.declared.log.Log.{Log}
 use Rattle.mesa_engine.specs.Printing.{PrintsBlock}
-use Rattle.mesa_engine.specs.mesa_metadata.Memory.{Memory, with_state}
+use Rattle.mesa_engine.specs.Memory.{Memory, with_state}
 use Rattle.mesa_tasks.specs.GivingBack.{GivesBack, SomeFailed}
 use Rattle.mesa_tasks.specs.declared.merging.CompactError.{CompactError}
 use Rattle.mesa_tasks.specs.declared.merging.CompactError.TheVariants as compact

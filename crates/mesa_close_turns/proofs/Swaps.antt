@@ -40,7 +40,7 @@ use Rattle.mesa_engine.specs.mesa_engine_spec.mesa_image_spec.Brought.{AreTold, 
 use Rattle.mesa_engine.specs.mesa_engine_spec.mesa_image_spec.Ids.{brought_ids, dropped_ids, named}
 use Rattle.mesa_engine.specs.mesa_engine_spec.mesa_image_spec.Moves.{Moves, first_of, is_base, kept_swapped, last_of, work_of}
 use Rattle.mesa_engine.specs.mesa_engine_spec.mesa_image_spec.Sourced.{HasSources, IsMadeOf}
-use Rattle.mesa_engine.specs.mesa_metadata.mesa_catalog.Lookups.{generation_of, turns_generation}
+use Rattle.mesa_engine.specs.mesa_catalog.Lookups.{generation_of, turns_generation}
 use Rattle.mesa_store.specs.Store.{Writes as IsWritten}
 use Rattle.mesa_engine.specs.mesa_history_spec.Output.{block}
 use Rattle.mesa_engine.specs.mesa_history_spec.Rows.{Rows, no_rows}

@@ -7,7 +7,7 @@ ghost use Rattle.mesa_publishing.specs.mesa_history_spec.Turns.{IsDue};
 ghost use Rattle.mesa_engine.specs.mesa_image_spec.Catalog.{stock_at};
 ghost use Rattle.mesa_engine.specs.mesa_engine_spec.EngineState.{books_of};
 ghost use Rattle.mesa_engine.specs.Failure.{cause_in};
-ghost use Rattle.mesa_engine.specs.mesa_metadata.Memory.{with_state};
+ghost use Rattle.mesa_engine.specs.Memory.{with_state};
 ghost use Rattle.mesa_model.specs.declared.commands.Command.TheVariants as command;
 ghost use Rattle.mesa_model.specs.declared.commands.WorkWords.{WorkWords};
 ghost use Rattle.mesa_model.specs.declared.entries.Kind.TheVariants as kind;

@@ -4,7 +4,7 @@ ghost use Rattle.mesa_disk.specs.mesa_io.Causes.{last};
 ghost use Rattle.mesa_publishing.specs.mesa_history_spec.Run.{Finished, Granted};
 ghost use Rattle.mesa_publishing.specs.mesa_history_spec.Turns.{IsDue};
 ghost use Rattle.mesa_engine.specs.Failure.{cause_in};
-ghost use Rattle.mesa_engine.specs.mesa_metadata.Memory.{with_state};
+ghost use Rattle.mesa_engine.specs.Memory.{with_state};
 ghost use Rattle.mesa_model.specs.declared.commands.Command.TheVariants as command;
 ghost use Rattle.mesa_model.specs.declared.entries.Kind.TheVariants as kind;
 ghost use Rattle.mesa_engine.specs.mesa_history_spec.Output.{block};

@@ -1,6 +1,5 @@
 pub use Rattle.mesa_engine.specs as mesa_engine
 pub use Rattle.mesa_session_laws.specs.mesa_history_spec as mesa_history_spec
-pub use Rattle.mesa_engine.specs.mesa_metadata as mesa_metadata
 pub use Rattle.mesa_recast_turns.specs as mesa_recast_turns
 pub use Rattle.mesa_session_laws.specs as mesa_session_laws
 pub mod Vault

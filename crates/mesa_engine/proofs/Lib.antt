@@ -1,7 +1,17 @@
-pub use Rattle.mesa_metadata.proofs.mesa_catalog as mesa_catalog
-pub use Rattle.mesa_metadata.proofs.mesa_engine_spec as mesa_engine_spec
-pub use Rattle.mesa_metadata.proofs.mesa_invariant_spec as mesa_invariant_spec
-pub use Rattle.mesa_metadata.proofs.mesa_invariant_spec.mesa_history_spec as mesa_history_spec
+pub use Rattle.mesa_catalog.proofs as mesa_catalog
+pub use Rattle.mesa_engine_spec.proofs as mesa_engine_spec
+pub use Rattle.mesa_engine_spec.proofs.mesa_image_spec as mesa_image_spec
+pub use Rattle.mesa_engine_spec.proofs.mesa_invariant_spec as mesa_invariant_spec
+pub use Rattle.mesa_commit.proofs as mesa_commit
+pub use Rattle.mesa_engine.proofs.mesa_catalog as mesa_catalog
+pub use Rattle.mesa_engine.proofs.mesa_engine_spec as mesa_engine_spec
+pub use Rattle.mesa_engine.proofs.mesa_invariant_spec as mesa_invariant_spec
+pub use Rattle.mesa_engine.proofs.mesa_invariant_spec.mesa_history_spec as mesa_history_spec
+pub mod Indexed
+pub mod Still
+pub mod Mapped
+pub mod Padded
+pub mod Runs
 pub mod Printing
 pub mod Turning
 pub mod Undone

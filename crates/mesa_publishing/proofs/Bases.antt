@@ -5,7 +5,7 @@ use Rattle.std.specs.declared.alloc.Global.{Global}
 use Rattle.std.specs.declared.sync.Arc.{Arc}
 use Rattle.mesa_record.specs.declared.record.Files.{Files}
 use Rattle.mesa_record.specs.declared.recasting.RecastBase.{RecastBase}
-use Rattle.mesa_metadata.specs.mesa_image_spec.Catalog.{Delta}
+use Rattle.mesa_engine.specs.mesa_image_spec.Catalog.{Delta}
 use Rattle.mesa_table.specs.Meaning.{delta_or_empty, ending_of}
 use Rattle.mesa_table.specs.declared.table.Base.{Base}
 use Rattle.mesa_tasks.specs.declared.recasting.RecastedRange.{RecastedRange}

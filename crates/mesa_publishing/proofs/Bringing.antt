@@ -5,7 +5,7 @@ use Rattle.std.proofs.lemmas.List.Concat.{flat_map-append}
 use Rattle.std.proofs.lemmas.List.{append-nil, drop_more, length-map, length_push, map_push, take_all, take_more}
 use Rattle.mesa_record.specs.declared.record.Files.{Files}
 use Rattle.mesa_record.specs.declared.checkpoint.StatedSingle.{StatedSingle}
-use Rattle.mesa_metadata.specs.mesa_image_spec.Rewritten.{Rewritten}
+use Rattle.mesa_engine.specs.mesa_image_spec.Rewritten.{Rewritten}
 use Rattle.mesa_table.specs.Meaning.{AreLoaded}
 use Rattle.mesa_table.specs.declared.table.Loaded.{Loaded}
 use Rattle.mesa_tasks.specs.declared.recasting.RecastedRange.{RecastedRange}

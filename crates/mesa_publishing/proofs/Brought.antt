@@ -15,11 +15,11 @@ use Rattle.mesa_record.specs.declared.recasting.RecastBase.{RecastBase}
 use Rattle.mesa_plans.specs.mesa_commit.Turn.{told_files}
 use Rattle.mesa_tasks.specs.mesa_delta.File.{file_bytes}
 use Rattle.mesa_tasks.specs.mesa_delta.Summary.{file_layout}
-use Rattle.mesa_metadata.specs.mesa_image_spec.Catalog.{Delta, Ending, base_recast, empty_delta, single_stated, singles_stated}
-use Rattle.mesa_metadata.specs.mesa_image_spec.Contents.{Rows}
-use Rattle.mesa_metadata.specs.mesa_image_spec.Fitting.{Shelved, base_deltas, delta_own, own_shelved, shelved_id}
-use Rattle.mesa_metadata.specs.mesa_image_spec.Sound.{IsTold, wants}
-use Rattle.mesa_metadata.specs.mesa_image_spec.Rewritten.{Rewritten}
+use Rattle.mesa_engine.specs.mesa_image_spec.Catalog.{Delta, Ending, base_recast, empty_delta, single_stated, singles_stated}
+use Rattle.mesa_engine.specs.mesa_image_spec.Contents.{Rows}
+use Rattle.mesa_engine.specs.mesa_image_spec.Fitting.{Shelved, base_deltas, delta_own, own_shelved, shelved_id}
+use Rattle.mesa_engine.specs.mesa_image_spec.Sound.{IsTold, wants}
+use Rattle.mesa_engine.specs.mesa_image_spec.Rewritten.{Rewritten}
 use Rattle.mesa_publishing.specs.Adopted.{ref_under, told_under}
 use Rattle.mesa_publishing.proofs.Lists.{ids_from}
 use Rattle.mesa_publishing.specs.Recasts.{AreSinglesRewritten, IsBaseRewritten, IsEndingRewritten, Took, files_taken, rewritten_under, with_file}

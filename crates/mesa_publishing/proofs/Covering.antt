@@ -6,8 +6,8 @@ use Rattle.std.proofs.lemmas.Bool.{eq-eqb, ne_eqb}
 use Rattle.mesa_record.specs.declared.record.Files.{Files}
 use Rattle.mesa_record.specs.declared.checkpoint.StatedSingle.{StatedSingle}
 use Rattle.mesa_record.specs.declared.recasting.RecastBase.{RecastBase}
-use Rattle.mesa_metadata.specs.mesa_image_spec.Catalog.{Delta, Ending, empty_delta}
-use Rattle.mesa_metadata.specs.mesa_image_spec.Rewritten.{AreCovered, IsCoveredAt, Rewritten, base_rewritten, files_at, files_rewritten, files_with, rewritten_at, single_at, single_rewritten, single_with, singles_rewritten}
+use Rattle.mesa_engine.specs.mesa_image_spec.Catalog.{Delta, Ending, empty_delta}
+use Rattle.mesa_engine.specs.mesa_image_spec.Rewritten.{AreCovered, IsCoveredAt, Rewritten, base_rewritten, files_at, files_rewritten, files_with, rewritten_at, single_at, single_rewritten, single_with, singles_rewritten}
 use Rattle.mesa_table.specs.Meaning.{AreLoaded, singles_from}
 use Rattle.mesa_table.specs.declared.table.Loaded.{Loaded}
 use Rattle.mesa_publishing.specs.Recasts.{AreSinglesRewritten, IsBaseRewritten, IsEndingRewritten, IsSingleRewritten, single_in, singles_in}

@@ -5,7 +5,7 @@ use Rattle.mesa_schema.specs.Recasts.{Recast as Asked}
 use Rattle.mesa_schema.proofs.Lists.{all_so}
 use Rattle.mesa_tasks.specs.mesa_delta.declared.input.Input.{Input}
 use Rattle.mesa_record.specs.declared.record.Files.{Files}
-use Rattle.mesa_metadata.specs.mesa_image_spec.Catalog.{Stock}
+use Rattle.mesa_engine.specs.mesa_image_spec.Catalog.{Stock}
 use Rattle.mesa_plans.specs.Ranges.{HasInput, HoldsAll, HoldsAt, Ranged, ranged}
 use Rattle.mesa_tasks.specs.Made.{Content}
 use Rattle.mesa_tasks.specs.Recasts.{AreRewritten, HasRangeFile, recast_content}

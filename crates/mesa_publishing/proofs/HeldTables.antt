@@ -2,7 +2,7 @@
 use Rattle.std.proofs.Common.{◌≡◌, ℕ, zero, suc, ◌+◌, ◌-◌, List, [], ◌∷◌, ◌++◌, replicate, sym, subst, arith, Option, None, Some}
 use Rattle.std.specs.Prelude.{IfSome, option_map}
 use Rattle.std.specs.List.{AllByRecursion}
-use Rattle.mesa_metadata.specs.mesa_image_spec.Catalog.{Delta, Stock, empty_delta, start_in}
+use Rattle.mesa_engine.specs.mesa_image_spec.Catalog.{Delta, Stock, empty_delta, start_in}
 use Rattle.mesa_plans.specs.Ranges.{Ranged, base_ranged, singles_ranged}
 use Rattle.mesa_table.specs.Meaning.{AreLoaded, ending_of, singles_from, start_of_base, stock_of}
 use Rattle.mesa_table.specs.declared.table.Base.{Base}

@@ -26,7 +26,7 @@ use Rattle.mesa_tasks.specs.mesa_delta.File.{IsFile}
 use Rattle.mesa_tasks.specs.mesa_delta.Spread.{spread}
 use Rattle.mesa_tasks.specs.mesa_delta.Summary.{IsReferenceOf, last_key}
 use Rattle.mesa_tasks.specs.mesa_delta.Tail.{first_key}
-use Rattle.mesa_metadata.proofs.mesa_image_spec.Lists.{is_equal}
+use Rattle.mesa_engine.proofs.mesa_image_spec.Lists.{is_equal}
 use Rattle.mesa_publishing.proofs.Parts.{true_counts}
 
 pub all_true : {a b : Bool} → a ≡ true → b ≡ true → (a && b) ≡ true

@@ -2,7 +2,7 @@
 use Rattle.std.proofs.Common.{◌≡◌, ◌⊎◌, inl, inr, ℕ, ◌+◌, List, [], ◌∷◌, refl, sym, subst, Some}
 use Rattle.std.specs.List.{AllByRecursion}
 use Rattle.mesa_schema.proofs.Lists.{all_so}
-use Rattle.mesa_metadata.specs.mesa_image_spec.Rewritten.{Rewritten}
+use Rattle.mesa_engine.specs.mesa_image_spec.Rewritten.{Rewritten}
 use Rattle.mesa_publishing.specs.Adopted.{ref_under}
 use Rattle.mesa_publishing.specs.Recasts.{Took, rewritten_under}
 use Rattle.mesa_publishing.proofs.TakenFiles.{AllFrom}

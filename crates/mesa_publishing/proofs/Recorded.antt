@@ -13,14 +13,14 @@ use Rattle.mesa_span.specs.Ranges.{start_behind}
 use Rattle.mesa_record.specs.declared.checkpoint.StatedSingle.{StatedSingle}
 use Rattle.mesa_record.specs.declared.recasting.RecastBase.{RecastBase}
 use Rattle.mesa_record.specs.declared.recasting.Recasting.{Recasting}
-use Rattle.mesa_metadata.specs.mesa_image_spec.Catalog.{Catalog, Ending, Stock, end_in, start_in}
-use Rattle.mesa_metadata.specs.mesa_image_spec.Fitting.{brought, Shelved, are_new_ids, brings_new_files, counts_columns, fits, kind_fits, shelved_id, totals_fit}
-use Rattle.mesa_metadata.specs.mesa_image_spec.Shape.{IsCatalog, IsShaped}
-use Rattle.mesa_metadata.specs.mesa_image_spec.Countable.{AreCounted, IsCounted}
-use Rattle.mesa_metadata.specs.mesa_image_spec.Recordable.{AreRecordable, IsRecordable}
-use Rattle.mesa_metadata.specs.mesa_image_spec.Rewritten.{AreCovered, Covers, IsCoveredAt, Rewritten, base_rewritten, recasting_of, singles_rewritten, CountsRange, IsRewritten, IsRuled}
-use Rattle.mesa_metadata.proofs.mesa_image_spec.Lists.{stock_found}
-use Rattle.mesa_metadata.specs.mesa_engine_spec.EngineState.{EngineState, next_id, first_id, most_files}
+use Rattle.mesa_engine.specs.mesa_image_spec.Catalog.{Catalog, Ending, Stock, end_in, start_in}
+use Rattle.mesa_engine.specs.mesa_image_spec.Fitting.{brought, Shelved, are_new_ids, brings_new_files, counts_columns, fits, kind_fits, shelved_id, totals_fit}
+use Rattle.mesa_engine.specs.mesa_image_spec.Shape.{IsCatalog, IsShaped}
+use Rattle.mesa_engine.specs.mesa_image_spec.Countable.{AreCounted, IsCounted}
+use Rattle.mesa_engine.specs.mesa_image_spec.Recordable.{AreRecordable, IsRecordable}
+use Rattle.mesa_engine.specs.mesa_image_spec.Rewritten.{AreCovered, Covers, IsCoveredAt, Rewritten, base_rewritten, recasting_of, singles_rewritten, CountsRange, IsRewritten, IsRuled}
+use Rattle.mesa_engine.proofs.mesa_image_spec.Lists.{stock_found}
+use Rattle.mesa_engine.specs.mesa_engine_spec.EngineState.{EngineState, next_id, first_id, most_files}
 use Rattle.mesa_record.specs.declared.record.Record.TheVariants as record_of
 use Rattle.mesa_table.specs.Meaning.{AreLoaded, singles_from}
 use Rattle.mesa_table.specs.declared.table.Loaded.{Loaded}
@@ -40,14 +40,14 @@ use Rattle.mesa_tasks.specs.mesa_delta.Summary.{file_layout}
 use Rattle.mesa_disk.specs.Files.{HasDistinctIds, files_of}
 use Rattle.mesa_record.specs.Rules.{is_file_ref, keeps_rules}
 use Rattle.mesa_record.specs.declared.record.Record.{Record}
-use Rattle.mesa_metadata.specs.mesa_commit.Filed.{AreGiven}
-use Rattle.mesa_metadata.specs.mesa_commit.Holding.{Among}
-use Rattle.mesa_metadata.specs.mesa_image_spec.Contents.{Rows}
-use Rattle.mesa_metadata.specs.mesa_image_spec.Sound.{IsTold, wants}
-use Rattle.mesa_metadata.specs.mesa_image_spec.Brought.{AreTold}
-use Rattle.mesa_metadata.specs.mesa_image_spec.Ids.{brought_ids, named}
-use Rattle.mesa_metadata.proofs.mesa_image_spec.RecastRules.{recasting_ruled}
-use Rattle.mesa_metadata.proofs.mesa_image_spec.RewrittenRanges.{rewritten_fits}
+use Rattle.mesa_engine.specs.mesa_commit.Filed.{AreGiven}
+use Rattle.mesa_engine.specs.mesa_commit.Holding.{Among}
+use Rattle.mesa_engine.specs.mesa_image_spec.Contents.{Rows}
+use Rattle.mesa_engine.specs.mesa_image_spec.Sound.{IsTold, wants}
+use Rattle.mesa_engine.specs.mesa_image_spec.Brought.{AreTold}
+use Rattle.mesa_engine.specs.mesa_image_spec.Ids.{brought_ids, named}
+use Rattle.mesa_engine.proofs.mesa_image_spec.RecastRules.{recasting_ruled}
+use Rattle.mesa_engine.proofs.mesa_image_spec.RewrittenRanges.{rewritten_fits}
 use Rattle.mesa_publishing.specs.Adopted.{ref_under, told_under}
 use Rattle.mesa_publishing.specs.Published.{rows_with}
 use Rattle.mesa_publishing.proofs.Ids.{new_ids, rows_stand, rows_stay, under_distinct, under_given, under_ids}

@@ -7,24 +7,24 @@ use Rattle.mesa_schema.specs.declared.rows.Row.{Row}
 use Rattle.mesa_schema.specs.Changes.{Lineage, columns_of, epoch_of}
 use Rattle.mesa_disk.specs.Files.{HasDistinctIds, files_of}
 use Rattle.mesa_plans.specs.mesa_commit.Turn.{made_ids, told_files}
-use Rattle.mesa_metadata.specs.mesa_commit.Filed.{AreGiven}
-use Rattle.mesa_metadata.specs.mesa_commit.Holding.{Among}
+use Rattle.mesa_engine.specs.mesa_commit.Filed.{AreGiven}
+use Rattle.mesa_engine.specs.mesa_commit.Holding.{Among}
 use Rattle.mesa_record.specs.Rules.{keeps_rules}
 use Rattle.mesa_record.specs.declared.record.Files.{Files}
 use Rattle.mesa_record.specs.declared.record.Record.{Record}
-use Rattle.mesa_metadata.specs.mesa_image_spec.Catalog.{Catalog}
-use Rattle.mesa_metadata.specs.mesa_image_spec.Contents.{Rows}
-use Rattle.mesa_metadata.specs.mesa_image_spec.Fitting.{are_new_ids, brings_new_files, brought, files_fit_if_any, fits, has_epoch, may_be_work}
-use Rattle.mesa_metadata.specs.mesa_image_spec.Shape.{IsCatalog, IsShaped}
-use Rattle.mesa_metadata.specs.mesa_image_spec.Sound.{wants}
-use Rattle.mesa_metadata.specs.mesa_image_spec.Brought.{AreTold}
-use Rattle.mesa_metadata.specs.mesa_image_spec.Ids.{brought_ids, named}
-use Rattle.mesa_metadata.specs.mesa_image_spec.Moves.{first_of, is_base, last_of}
+use Rattle.mesa_engine.specs.mesa_image_spec.Catalog.{Catalog}
+use Rattle.mesa_engine.specs.mesa_image_spec.Contents.{Rows}
+use Rattle.mesa_engine.specs.mesa_image_spec.Fitting.{are_new_ids, brings_new_files, brought, files_fit_if_any, fits, has_epoch, may_be_work}
+use Rattle.mesa_engine.specs.mesa_image_spec.Shape.{IsCatalog, IsShaped}
+use Rattle.mesa_engine.specs.mesa_image_spec.Sound.{wants}
+use Rattle.mesa_engine.specs.mesa_image_spec.Brought.{AreTold}
+use Rattle.mesa_engine.specs.mesa_image_spec.Ids.{brought_ids, named}
+use Rattle.mesa_engine.specs.mesa_image_spec.Moves.{first_of, is_base, last_of}
 use Rattle.mesa_tasks.specs.mesa_history_spec.Sources.{Source, Written, range_rows}
-use Rattle.mesa_metadata.proofs.mesa_image_spec.Lists.{stock_found}
+use Rattle.mesa_engine.proofs.mesa_image_spec.Lists.{stock_found}
 use Rattle.mesa_tasks.specs.declared.merging.NewDelta.{NewDelta}
 use Rattle.mesa_tasks.specs.declared.merging.Task.{Task}
-use Rattle.mesa_metadata.specs.mesa_engine_spec.EngineState.{EngineState, first_id, most_files, next_id}
+use Rattle.mesa_engine.specs.mesa_engine_spec.EngineState.{EngineState, first_id, most_files, next_id}
 use Rattle.mesa_publishing.specs.Adopted.{files_if_any, told_under}
 use Rattle.mesa_publishing.specs.Published.{rows_with}
 use Rattle.mesa_publishing.proofs.Ids.{new_ids, rows_stand, rows_stay, under_distinct, under_given, under_ids}

@@ -5,9 +5,9 @@ use Rattle.mesa_schema.specs.Columns.{Columns}
 use Rattle.mesa_schema.specs.Recasts.{recast_columns, recast_rows}
 use Rattle.mesa_schema.specs.Recasts.{Recast as Asked}
 use Rattle.mesa_file.specs.declared.file_ref.FileRef.{FileRef}
-use Rattle.mesa_metadata.specs.mesa_image_spec.Contents.{Rows}
-use Rattle.mesa_metadata.specs.mesa_image_spec.Sound.{IsTold}
-use Rattle.mesa_metadata.specs.mesa_image_spec.Rewritten.{IsRewritten}
+use Rattle.mesa_engine.specs.mesa_image_spec.Contents.{Rows}
+use Rattle.mesa_engine.specs.mesa_image_spec.Sound.{IsTold}
+use Rattle.mesa_engine.specs.mesa_image_spec.Rewritten.{IsRewritten}
 use Rattle.mesa_tasks.specs.mesa_history_spec.Sources.{Source, Written, range_rows, sources_from}
 use Rattle.mesa_tasks.specs.mesa_history_spec.mesa_batch.Totals.{abs_totals}
 use Rattle.mesa_tasks.specs.Recasts.{IsRangeRewritten}

@@ -8,16 +8,16 @@ use Rattle.mesa_schema.specs.Recasts.{recast_checked}
 use Rattle.mesa_schema.proofs.LineageRecasts.{recast_allowed}
 use Rattle.mesa_disk.specs.Files.{files_of}
 use Rattle.mesa_disk.specs.declared.moving.Adoption.{Adoption}
-use Rattle.mesa_metadata.specs.mesa_commit.Holding.{Among}
+use Rattle.mesa_engine.specs.mesa_commit.Holding.{Among}
 use Rattle.mesa_record.specs.declared.checkpoint.StatedSingle.{StatedSingle}
 use Rattle.mesa_record.specs.declared.record.Record.TheVariants as record_of
 use Rattle.mesa_record.specs.declared.recasting.RecastBase.{RecastBase}
-use Rattle.mesa_metadata.specs.mesa_image_spec.Catalog.{Stock, start_in}
-use Rattle.mesa_metadata.specs.mesa_image_spec.Shape.{IsCatalog}
-use Rattle.mesa_metadata.specs.mesa_image_spec.Countable.{AreCounted}
-use Rattle.mesa_metadata.specs.mesa_image_spec.Ids.{named}
-use Rattle.mesa_metadata.specs.mesa_image_spec.Recordable.{AreRecordable}
-use Rattle.mesa_metadata.specs.mesa_engine_spec.EngineState.{EngineState, most_files, next_id}
+use Rattle.mesa_engine.specs.mesa_image_spec.Catalog.{Stock, start_in}
+use Rattle.mesa_engine.specs.mesa_image_spec.Shape.{IsCatalog}
+use Rattle.mesa_engine.specs.mesa_image_spec.Countable.{AreCounted}
+use Rattle.mesa_engine.specs.mesa_image_spec.Ids.{named}
+use Rattle.mesa_engine.specs.mesa_image_spec.Recordable.{AreRecordable}
+use Rattle.mesa_engine.specs.mesa_engine_spec.EngineState.{EngineState, most_files, next_id}
 use Rattle.mesa_plans.specs.Ranges.{HoldsAll}
 use Rattle.mesa_table.specs.Meaning.{AreLoaded, IsTable, ending_of, singles_from, start_of_base, stock_of}
 use Rattle.mesa_table.specs.declared.table.Base.{Base}

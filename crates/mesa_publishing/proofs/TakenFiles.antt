@@ -10,9 +10,9 @@ use Rattle.mesa_schema.specs.Schema.{is_schema}
 use Rattle.mesa_tasks.specs.mesa_delta.Summary.{file_layout}
 use Rattle.mesa_tasks.specs.mesa_delta.declared.input.Input.{Input}
 use Rattle.mesa_record.specs.Rules.{is_file_ref}
-use Rattle.mesa_metadata.specs.mesa_image_spec.Contents.{Rows}
-use Rattle.mesa_metadata.specs.mesa_image_spec.Fitting.{counts_columns}
-use Rattle.mesa_metadata.specs.mesa_image_spec.Sound.{IsTold}
+use Rattle.mesa_engine.specs.mesa_image_spec.Contents.{Rows}
+use Rattle.mesa_engine.specs.mesa_image_spec.Fitting.{counts_columns}
+use Rattle.mesa_engine.specs.mesa_image_spec.Sound.{IsTold}
 use Rattle.mesa_tasks.specs.Made.{Content, IsMadeFile}
 use Rattle.mesa_tasks.specs.Recasts.{AreRewritten, HasRangeFile, IsRangeRewritten, recast_content}
 use Rattle.mesa_tasks.specs.declared.made.MadeFile.{MadeFile}

@@ -13,8 +13,8 @@ use Rattle.mesa_batch.specs.Batch.{Named, Placed, batch_of}
 use Rattle.mesa_disk.specs.Files.{HasDistinctIds, files_of}
 use Rattle.mesa_disk.specs.declared.moving.Adoption.{Adoption}
 use Rattle.mesa_plans.specs.mesa_commit.Turn.{made_ids, told_files}
-use Rattle.mesa_metadata.specs.mesa_commit.Filed.{AreGiven}
-use Rattle.mesa_metadata.specs.mesa_commit.Holding.{Among}
+use Rattle.mesa_engine.specs.mesa_commit.Filed.{AreGiven}
+use Rattle.mesa_engine.specs.mesa_commit.Holding.{Among}
 use Rattle.mesa_model.specs.Load.{bounds_checked, load_batch, tables_named, with_batch}
 use Rattle.mesa_model.specs.Refusals.{batch_refusal, refuse_closed}
 use Rattle.mesa_model.specs.Warehouse.{Warehouse, max_tables, max_versions}
@@ -34,8 +34,8 @@ use Rattle.mesa_catalog.specs.mesa_image_spec.Brought.{AreTold}
 use Rattle.mesa_catalog.specs.mesa_image_spec.Ids.{brought_ids, named}
 use Rattle.mesa_catalog.specs.mesa_image_spec.Sourced.{tables_read}
 use Rattle.mesa_catalog.specs.Lookups.{known_as, sight_of}
-use Rattle.mesa_metadata.specs.mesa_engine_spec.EngineState.{EngineState, first_id, most_files, next_id, projection_of}
-use Rattle.mesa_metadata.proofs.mesa_engine_spec.Changing.{tables_are}
+use Rattle.mesa_engine.specs.mesa_engine_spec.EngineState.{EngineState, first_id, most_files, next_id, projection_of}
+use Rattle.mesa_engine.proofs.mesa_engine_spec.Changing.{tables_are}
 use Rattle.mesa_tasks.specs.Batches.{AreParts, IsPrepared, is_over, shares, shares_from}
 use Rattle.mesa_tasks.specs.declared.made.MadeFile.{MadeFile}
 use Rattle.mesa_tasks.specs.declared.prepared.Prepared.{Prepared}

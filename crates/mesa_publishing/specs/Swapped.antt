@@ -8,19 +8,19 @@ use Rattle.mesa_record.specs.Rules.{keeps_rules}
 use Rattle.mesa_record.specs.declared.record.Files.{Files}
 use Rattle.mesa_record.specs.declared.record.Record.{Record}
 use Rattle.mesa_record.specs.declared.record.Record.TheVariants as record_of
-use Rattle.mesa_metadata.specs.mesa_image_spec.Catalog.{Delta, Stock, merged_delta, stock_at}
-use Rattle.mesa_metadata.specs.mesa_image_spec.Contents.{Rows}
-use Rattle.mesa_metadata.specs.mesa_image_spec.Fitting.{brought, fits}
-use Rattle.mesa_metadata.specs.mesa_image_spec.Sound.{AreGrouped, wants}
-use Rattle.mesa_metadata.specs.mesa_image_spec.Brought.{AreTold}
-use Rattle.mesa_metadata.specs.mesa_image_spec.Ids.{brought_ids}
-use Rattle.mesa_metadata.specs.mesa_image_spec.Moves.{first_of, is_base, last_of}
-use Rattle.mesa_metadata.specs.mesa_image_spec.Sourced.{IsMergedOf}
+use Rattle.mesa_engine.specs.mesa_image_spec.Catalog.{Delta, Stock, merged_delta, stock_at}
+use Rattle.mesa_engine.specs.mesa_image_spec.Contents.{Rows}
+use Rattle.mesa_engine.specs.mesa_image_spec.Fitting.{brought, fits}
+use Rattle.mesa_engine.specs.mesa_image_spec.Sound.{AreGrouped, wants}
+use Rattle.mesa_engine.specs.mesa_image_spec.Brought.{AreTold}
+use Rattle.mesa_engine.specs.mesa_image_spec.Ids.{brought_ids}
+use Rattle.mesa_engine.specs.mesa_image_spec.Moves.{first_of, is_base, last_of}
+use Rattle.mesa_engine.specs.mesa_image_spec.Sourced.{IsMergedOf}
 use Rattle.mesa_tasks.specs.mesa_history_spec.Sources.{Written}
 use Rattle.mesa_tasks.specs.declared.made.MadeFiles.{MadeFiles}
 use Rattle.mesa_tasks.specs.declared.merging.Task.{Task}
-use Rattle.mesa_metadata.specs.mesa_engine_spec.EngineState.{EngineState, next_id}
-use Rattle.mesa_metadata.specs.mesa_engine_spec.Recorded.{Adopts}
+use Rattle.mesa_engine.specs.mesa_engine_spec.EngineState.{EngineState, next_id}
+use Rattle.mesa_engine.specs.mesa_engine_spec.Recorded.{Adopts}
 use Rattle.mesa_publishing.specs.Adopted.{files_under}
 use Rattle.mesa_publishing.specs.Published.{AllTell, rows_with}
 use Rattle.mesa_publishing.specs.declared.swapping.Swapped.{Swapped}

@@ -22,7 +22,7 @@ use Rattle.mesa_engine.specs.mesa_engine_spec.Vault.{Origin, Starts, IsVault, ou
 use Rattle.mesa_engine.proofs.Printing.{page_block}
 use Rattle.mesa_engine.specs.Printing.{GoesOn}
 use Rattle.mesa_engine.specs.declared.log.Log.{Log}
-use Rattle.mesa_engine.specs.mesa_metadata.Memory.{Memory, is_of_another, with_state}
+use Rattle.mesa_engine.specs.Memory.{Memory, is_of_another, with_state}
 use Rattle.mesa_model.specs.Query.{Answer}
 use Rattle.mesa_model.specs.declared.commands.Command.TheVariants as command
 use Rattle.mesa_model.specs.declared.commands.Script.{Script}

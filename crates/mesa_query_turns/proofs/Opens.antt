@@ -26,7 +26,7 @@ use Rattle.mesa_engine.specs.mesa_engine_spec.EngineState.{EngineState, books_of
 use Rattle.mesa_engine.specs.mesa_engine_spec.Vault.{Origin, Starts, IsVault, outset_of}
 use Rattle.mesa_engine.specs.Printing.{PrintsBlock}
 use Rattle.mesa_engine.specs.declared.log.Log.{Log}
-use Rattle.mesa_engine.specs.mesa_metadata.Memory.{Memory, hold_now, with_state}
+use Rattle.mesa_engine.specs.Memory.{Memory, hold_now, with_state}
 use Rattle.mesa_model.specs.Query.{Answer, query_answer}
 use Rattle.mesa_model.specs.declared.commands.Command.TheVariants as command
 use Rattle.mesa_model.specs.declared.entries.Entry.{Entry}

@@ -15,7 +15,7 @@ use Rattle.mesa_engine.specs.mesa_engine_spec.EngineState.{EngineState, books_of
 use Rattle.mesa_engine.specs.mesa_engine_spec.Turned.{queried_state}
 use Rattle.mesa_engine.specs.Failure.{cause_in}
 use Rattle.mesa_engine.specs.declared.failure.Failure.{Failure}
-use Rattle.mesa_engine.specs.mesa_metadata.Memory.{hold_now}
+use Rattle.mesa_engine.specs.Memory.{hold_now}
 use Rattle.mesa_model.specs.Query.{Answer}
 use Rattle.mesa_model.specs.declared.replies.Reply.TheVariants as reply
 use Rattle.mesa_engine.specs.mesa_engine_spec.mesa_image_spec.Planned.{planned}

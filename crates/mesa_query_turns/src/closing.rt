@@ -6,7 +6,7 @@ ghost use Rattle.mesa_engine.specs.mesa_history_spec.Run.{Finished};
 ghost use Rattle.mesa_engine.specs.mesa_engine_spec.Turned.{answered_state};
 ghost use Rattle.mesa_engine.specs.Failure.{cause_in};
 ghost use Rattle.mesa_engine.specs.Printing.{GoesOn};
-ghost use Rattle.mesa_engine.specs.mesa_metadata.Memory.{is_of_another};
+ghost use Rattle.mesa_engine.specs.Memory.{is_of_another};
 ghost use Rattle.mesa_model.specs.Entry.{IsShort};
 ghost use Rattle.mesa_model.specs.declared.entries.Kind.TheVariants as kind;
 ghost use Rattle.mesa_engine.specs.mesa_history_spec.Rows.{Rows, no_rows};

@@ -7,7 +7,7 @@ ghost use Rattle.mesa_engine.specs.mesa_catalog.mesa_image_spec.Catalog.{Catalog
 ghost use Rattle.mesa_engine.specs.mesa_catalog.mesa_image_spec.Shape.{IsCatalog};
 ghost use Rattle.mesa_engine.specs.mesa_engine_spec.EngineState.{books_of};
 ghost use Rattle.mesa_engine.specs.Failure.{cause_in};
-ghost use Rattle.mesa_engine.specs.mesa_metadata.Memory.{with_state};
+ghost use Rattle.mesa_engine.specs.Memory.{with_state};
 ghost use Rattle.mesa_model.specs.mesa_schema.Columns.{Columns};
 ghost use Rattle.mesa_engine.specs.mesa_history_spec.Rows.{no_rows};
 ghost use Rattle.mesa_tasks.specs.Pins.{IsPinned};

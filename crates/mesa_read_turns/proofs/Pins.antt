@@ -40,7 +40,7 @@ use Rattle.mesa_engine.specs.mesa_engine_spec.EngineState.{EngineState, bare_hel
 use Rattle.mesa_engine.specs.mesa_engine_spec.Turned.{pinned_state}
 use Rattle.mesa_engine.specs.mesa_engine_spec.Vault.{Origin, IsVault}
 use Rattle.mesa_engine.proofs.mesa_engine_spec.Staying.{pinned_vault}
-use Rattle.mesa_engine.specs.mesa_metadata.Memory.{hold_now}
+use Rattle.mesa_engine.specs.Memory.{hold_now}
 
 -- ---- results
 

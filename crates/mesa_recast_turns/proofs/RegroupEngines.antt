@@ -18,7 +18,7 @@ use Rattle.mesa_close_turns.specs.mesa_record.Reading.{record_at}
 use Rattle.mesa_close_turns.specs.mesa_record.Rules.{IsTyped}
 use Rattle.mesa_engine.specs.mesa_image_spec.Catalog.{applied}
 use Rattle.mesa_engine.specs.mesa_engine_spec.mesa_image_spec.Ids.{dropped_ids}
-use Rattle.mesa_engine.specs.mesa_metadata.mesa_catalog.Lookups.{generation_of, turns_generation}
+use Rattle.mesa_engine.specs.mesa_catalog.Lookups.{generation_of, turns_generation}
 use Rattle.mesa_engine.specs.mesa_history_spec.Rows.{Rows, no_rows}
 use Rattle.mesa_tasks.specs.Recasts.{claim_of_recast, recast_in}
 use Rattle.mesa_tasks.specs.declared.recasting.Recast.{Recast}
@@ -31,7 +31,7 @@ use Rattle.mesa_engine.specs.mesa_engine_spec.Recorded.{failed_state, left_by, r
 use Rattle.mesa_engine.specs.mesa_engine_spec.Vault.{IsReady, IsVault, Starts, outset_of, written_by}
 use Rattle.mesa_engine.specs.declared.log.Log.{Log}
 use Rattle.mesa_engine.specs.Printing.{PrintsBlock}
-use Rattle.mesa_engine.specs.mesa_metadata.Memory.{Memory}
+use Rattle.mesa_engine.specs.Memory.{Memory}
 use Rattle.mesa_engine.specs.Engine.{IsEngine}
 use Rattle.mesa_engine.proofs.Turning.{told_engine}
 use Rattle.mesa_close_turns.specs.mesa_publishing.Published.{AllTell}

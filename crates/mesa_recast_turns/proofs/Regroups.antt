@@ -49,7 +49,7 @@ use Rattle.mesa_engine.specs.mesa_engine_spec.mesa_image_spec.Ids.{brought_ids, 
 use Rattle.mesa_engine.specs.mesa_engine_spec.mesa_image_spec.Moves.{Moves, kept_recast}
 use Rattle.mesa_engine.specs.mesa_engine_spec.mesa_image_spec.Rewritten.{recasting_of}
 use Rattle.mesa_engine.specs.mesa_engine_spec.mesa_image_spec.Sourced.{HasSources, written_behind}
-use Rattle.mesa_engine.specs.mesa_metadata.mesa_catalog.Lookups.{generation_of, turns_generation}
+use Rattle.mesa_engine.specs.mesa_catalog.Lookups.{generation_of, turns_generation}
 use Rattle.mesa_store.specs.Store.{Writes as IsWritten}
 use Rattle.mesa_engine.specs.mesa_history_spec.Output.{block}
 use Rattle.mesa_engine.specs.mesa_history_spec.Rows.{Rows, no_rows}

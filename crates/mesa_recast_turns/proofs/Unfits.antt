@@ -15,7 +15,7 @@ use Rattle.mesa_engine.proofs.mesa_engine_spec.Staying.{leased_vault, still_vaul
 use Rattle.mesa_engine.proofs.mesa_engine_spec.Swapping.{ended_granted}
 use Rattle.mesa_engine.specs.declared.log.Log.{Log}
 use Rattle.mesa_engine.specs.Printing.{PrintsBlock}
-use Rattle.mesa_engine.specs.mesa_metadata.Memory.{Memory, with_state}
+use Rattle.mesa_engine.specs.Memory.{Memory, with_state}
 use Rattle.mesa_model.specs.declared.commands.Command.TheVariants as command
 use Rattle.mesa_model.specs.declared.commands.RecastWords.{RecastWords}
 use Rattle.mesa_model.specs.declared.entries.Entry.{Entry}

@@ -14,7 +14,7 @@ ghost use Rattle.mesa_engine.specs.mesa_engine_spec.mesa_invariant_spec.Undamage
 ghost use Rattle.mesa_engine.specs.mesa_engine_spec.mesa_invariant_spec.Invariant.{run_at};
 ghost use Rattle.mesa_engine.specs.mesa_engine_spec.mesa_invariant_spec.Works.{closing_stage};
 ghost use Rattle.mesa_engine.specs.Failure.{cause_in};
-ghost use Rattle.mesa_engine.specs.mesa_metadata.Memory.{with_state};
+ghost use Rattle.mesa_engine.specs.Memory.{with_state};
 ghost use Rattle.mesa_model.specs.declared.commands.Command.TheVariants as command;
 ghost use Rattle.mesa_model.specs.declared.commands.RecastWords.{RecastWords as AnyWords};
 ghost use Rattle.mesa_model.specs.declared.entries.Kind.TheVariants as kind;

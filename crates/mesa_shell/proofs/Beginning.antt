@@ -23,7 +23,7 @@ use Rattle.mesa_check.specs.mesa_catalog.mesa_image_spec.Ids.{named}
 use Rattle.mesa_check.proofs.mesa_catalog.mesa_image_spec.AllSourced.{all_found}
 use Rattle.mesa_engine_spec.specs.EngineState.{books_of, first_id, projection_of}
 use Rattle.mesa_engine_spec.specs.Vault.{IsReady, Starts}
-use Rattle.mesa_session.specs.mesa_metadata.Memory.{opened_state}
+use Rattle.mesa_session.specs.mesa_engine.Memory.{opened_state}
 use Rattle.mesa_session.specs.mesa_engine.Beginning.{IsBegun}
 use Rattle.mesa_session.specs.mesa_engine.Engine.{most_turns, starts_of}
 use Rattle.mesa_check.specs.mesa_catalog.declared.begun.Begun.{Begun}

@@ -14,12 +14,12 @@ use Rattle.mesa_plans.specs.mesa_schema.Views.{view_columns}
 use Rattle.mesa_plans.specs.mesa_schema.declared.rows.Row.{Row}
 use Rattle.mesa_plans.specs.mesa_schema.declared.views.View.{View}
 use Rattle.mesa_tasks.specs.mesa_delta.declared.input.Input.{Input}
-use Rattle.mesa_engine.specs.mesa_metadata.mesa_image_spec.Catalog.{Catalog, Delta, Stock, stock_at}
-use Rattle.mesa_engine.specs.mesa_metadata.mesa_image_spec.Contents.{Rows, present}
-use Rattle.mesa_engine.specs.mesa_metadata.mesa_image_spec.Fitting.{delta_shelved, deltas_of, shelved}
-use Rattle.mesa_engine.specs.mesa_metadata.mesa_image_spec.Sound.{wants}
+use Rattle.mesa_engine.specs.mesa_image_spec.Catalog.{Catalog, Delta, Stock, stock_at}
+use Rattle.mesa_engine.specs.mesa_image_spec.Contents.{Rows, present}
+use Rattle.mesa_engine.specs.mesa_image_spec.Fitting.{delta_shelved, deltas_of, shelved}
+use Rattle.mesa_engine.specs.mesa_image_spec.Sound.{wants}
 use Rattle.mesa_engine.proofs.mesa_engine_spec.mesa_image_spec.Lists.{all_unflat, stock_found}
-use Rattle.mesa_engine.specs.mesa_metadata.mesa_image_spec.Sound.{IsStocked}
+use Rattle.mesa_engine.specs.mesa_image_spec.Sound.{IsStocked}
 use Rattle.mesa_engine.specs.mesa_engine_spec.mesa_image_spec.Moves.{is_base, last_of}
 use Rattle.mesa_engine.specs.mesa_engine_spec.EngineState.{EngineState}
 use Rattle.mesa_engine.specs.mesa_engine_spec.Vault.{Origin, IsVault}

@@ -11,9 +11,9 @@ use Rattle.mesa_span.specs.Ranges.{base_before}
 use Rattle.mesa_span.specs.Work.{missing_end, next_work}
 use Rattle.mesa_span.specs.declared.works.Work.TheVariants as range
 use Rattle.mesa_engine.specs.mesa_history_spec.Machine.{Claim, Machine, Merges, claim_of, ranges_at, refuse_busy}
-use Rattle.mesa_engine.specs.mesa_metadata.mesa_image_spec.Catalog.{Catalog, Stock, no_stock, ranges_of, start_in, stock_at}
-use Rattle.mesa_engine.specs.mesa_metadata.mesa_image_spec.Fitting.{is_number, may_be_work}
-use Rattle.mesa_engine.specs.mesa_metadata.mesa_image_spec.Shape.{IsShaped}
+use Rattle.mesa_engine.specs.mesa_image_spec.Catalog.{Catalog, Stock, no_stock, ranges_of, start_in, stock_at}
+use Rattle.mesa_engine.specs.mesa_image_spec.Fitting.{is_number, may_be_work}
+use Rattle.mesa_engine.specs.mesa_image_spec.Shape.{IsShaped}
 use Rattle.mesa_engine.proofs.mesa_engine_spec.mesa_image_spec.Lists.{both_true, is_at_most, is_equal}
 use Rattle.mesa_engine.proofs.mesa_engine_spec.mesa_image_spec.ShapedBatches.{missing_there}
 use Rattle.mesa_engine.specs.mesa_engine_spec.mesa_image_spec.Moves.{first_of, is_base, last_of}

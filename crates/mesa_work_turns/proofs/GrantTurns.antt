@@ -27,7 +27,7 @@ use Rattle.mesa_engine.specs.mesa_engine_spec.Vault.{IsVault, Starts, outset_of}
 use Rattle.mesa_engine.proofs.mesa_engine_spec.Beginning.{vault_at_seen}
 use Rattle.mesa_engine.specs.declared.log.Log.{Log}
 use Rattle.mesa_engine.specs.Printing.{PrintsBlock}
-use Rattle.mesa_engine.specs.mesa_metadata.Memory.{Memory, with_leases}
+use Rattle.mesa_engine.specs.Memory.{Memory, with_leases}
 use Rattle.mesa_engine.specs.Engine.{IsEngine}
 use Rattle.mesa_work_turns.specs.Claims.{cause_met}
 use Rattle.mesa_work_turns.proofs.Grants.{answers, fault_counts, granted_engine, granted_takes, has_no_claim, never_unwritten, ungranted_engine, ungranted_takes}

@@ -12,8 +12,8 @@ use Rattle.mesa_engine.specs.mesa_history_spec.Refused.{is_refusal}
 use Rattle.mesa_engine.specs.mesa_history_spec.Replay.{claim_asked, grants, is_skip}
 use Rattle.mesa_engine.specs.mesa_history_spec.Run.{First, Granted, Finished}
 use Rattle.mesa_engine.specs.mesa_history_spec.Turns.{IsDue}
-use Rattle.mesa_engine.specs.mesa_metadata.mesa_image_spec.Catalog.{Catalog, no_stock, stock_at}
-use Rattle.mesa_engine.specs.mesa_metadata.mesa_image_spec.Shape.{IsCatalog, IsShaped}
+use Rattle.mesa_engine.specs.mesa_image_spec.Catalog.{Catalog, no_stock, stock_at}
+use Rattle.mesa_engine.specs.mesa_image_spec.Shape.{IsCatalog, IsShaped}
 use Rattle.mesa_rules.proofs.mesa_catalog.Stocks.{all_at}
 use Rattle.mesa_lease.specs.Book.{granted}
 use Rattle.mesa_model.specs.Warehouse.{Warehouse}
@@ -43,7 +43,7 @@ use Rattle.mesa_engine.specs.mesa_engine_spec.Vault.{Origin, Starts, IsVault, ou
 use Rattle.mesa_engine.proofs.mesa_engine_spec.Staying.{leased_vault, still_vault}
 use Rattle.mesa_engine.specs.declared.log.Log.{Log}
 use Rattle.mesa_engine.specs.Printing.{PrintsBlock}
-use Rattle.mesa_engine.specs.mesa_metadata.Memory.{Memory, with_leases}
+use Rattle.mesa_engine.specs.Memory.{Memory, with_leases}
 use Rattle.mesa_engine.specs.Engine.{IsEngine}
 use Rattle.mesa_engine.proofs.Turning.{passed_engine, told_engine}
 use Rattle.mesa_plans.specs.Gathered.{is_fault_among}

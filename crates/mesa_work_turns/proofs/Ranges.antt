@@ -8,10 +8,10 @@ use Rattle.mesa_plans.specs.mesa_schema.Changes.{Lineage, columns_of}
 use Rattle.mesa_plans.specs.mesa_schema.Columns.{aggs_of}
 use Rattle.mesa_plans.specs.mesa_schema.Folded.{rows_of}
 use Rattle.mesa_engine.specs.mesa_history_spec.Sources.{Source, Written, range_rows}
-use Rattle.mesa_engine.specs.mesa_metadata.mesa_image_spec.Catalog.{Catalog, Stock, stock_at}
-use Rattle.mesa_engine.specs.mesa_metadata.mesa_image_spec.Contents.{present}
-use Rattle.mesa_engine.specs.mesa_metadata.mesa_image_spec.Fitting.{may_be_work, shelved}
-use Rattle.mesa_engine.specs.mesa_metadata.mesa_image_spec.Sound.{IsStocked, wants}
+use Rattle.mesa_engine.specs.mesa_image_spec.Catalog.{Catalog, Stock, stock_at}
+use Rattle.mesa_engine.specs.mesa_image_spec.Contents.{present}
+use Rattle.mesa_engine.specs.mesa_image_spec.Fitting.{may_be_work, shelved}
+use Rattle.mesa_engine.specs.mesa_image_spec.Sound.{IsStocked, wants}
 use Rattle.mesa_engine.proofs.mesa_engine_spec.mesa_image_spec.AllSourced.{epochs_written, work_written}
 use Rattle.mesa_engine.proofs.mesa_engine_spec.mesa_image_spec.Lists.{stock_found}
 use Rattle.mesa_engine.specs.mesa_engine_spec.mesa_image_spec.Moves.{first_of, is_base, last_of}

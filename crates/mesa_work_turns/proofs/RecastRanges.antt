@@ -20,11 +20,11 @@ use Rattle.mesa_engine.specs.mesa_history_spec.Sources.{Written, range_rows, sou
 use Rattle.mesa_model.specs.declared.entries.Entry.{Entry}
 use Rattle.mesa_plans.specs.Ranges.{IsDamagedRange, IsEmptyRange, IsOfRange, IsOneOf, IsOpenedRange, Ranged, base_ranged, range_wanted, ranged, singles_ranged}
 use Rattle.mesa_plans.specs.Files.{Want}
-use Rattle.mesa_engine.specs.mesa_metadata.mesa_image_spec.Catalog.{Delta, Ending, Stock, end_in, start_in, stock_at}
-use Rattle.mesa_engine.specs.mesa_metadata.mesa_image_spec.Contents.{Rows, present, rows_if_any}
-use Rattle.mesa_engine.specs.mesa_metadata.mesa_image_spec.Fitting.{base_deltas, delta_in, delta_shelved, deltas_of, files_shelved, shelved}
-use Rattle.mesa_engine.specs.mesa_metadata.mesa_image_spec.Shape.{IsShaped}
-use Rattle.mesa_engine.specs.mesa_metadata.mesa_image_spec.Sound.{IsStocked, bytes_of, wants}
+use Rattle.mesa_engine.specs.mesa_image_spec.Catalog.{Delta, Ending, Stock, end_in, start_in, stock_at}
+use Rattle.mesa_engine.specs.mesa_image_spec.Contents.{Rows, present, rows_if_any}
+use Rattle.mesa_engine.specs.mesa_image_spec.Fitting.{base_deltas, delta_in, delta_shelved, deltas_of, files_shelved, shelved}
+use Rattle.mesa_engine.specs.mesa_image_spec.Shape.{IsShaped}
+use Rattle.mesa_engine.specs.mesa_image_spec.Sound.{IsStocked, bytes_of, wants}
 use Rattle.mesa_engine.specs.mesa_engine_spec.EngineState.{EngineState}
 use Rattle.mesa_engine.specs.mesa_engine_spec.Vault.{Origin, IsVault, written_by}
 use Rattle.mesa_engine.specs.mesa_engine_spec.mesa_image_spec.Sourced.{AreMadeOf, IsMadeOf, IsSourced}

@@ -34,7 +34,7 @@ use Rattle.mesa_engine.specs.mesa_engine_spec.Vault.{Origin, Starts, IsVault, ou
 use Rattle.mesa_engine.proofs.mesa_engine_spec.Staying.{leased_vault, still_vault}
 use Rattle.mesa_engine.specs.declared.log.Log.{Log}
 use Rattle.mesa_engine.specs.Printing.{PrintsBlock}
-use Rattle.mesa_engine.specs.mesa_metadata.Memory.{Memory, with_leases}
+use Rattle.mesa_engine.specs.Memory.{Memory, with_leases}
 use Rattle.mesa_engine.specs.Engine.{IsEngine}
 use Rattle.mesa_engine.proofs.Turning.{passed_engine, told_engine}
 use Rattle.mesa_work_turns.specs.Claims.{lease_checked}

@@ -14,10 +14,10 @@ use Rattle.mesa_disk.specs.Image.{Image, file_of}
 use Rattle.mesa_plans.specs.mesa_commit.Images.{Has}
 use Rattle.mesa_tasks.specs.mesa_delta.declared.input.Input.{Input}
 use Rattle.mesa_plans.specs.mesa_record.declared.record.Files.{Files}
-use Rattle.mesa_engine.specs.mesa_metadata.mesa_image_spec.Catalog.{Catalog, Delta, Stock, stock_at}
-use Rattle.mesa_engine.specs.mesa_metadata.mesa_image_spec.Contents.{Rows}
-use Rattle.mesa_engine.specs.mesa_metadata.mesa_image_spec.Fitting.{Shelved, delta_shelved, deltas_of, files_shelved, shelved, stock_shelved}
-use Rattle.mesa_engine.specs.mesa_metadata.mesa_image_spec.Sound.{AreStocked, IsStocked, IsTold, bytes_of, wanted, wants}
+use Rattle.mesa_engine.specs.mesa_image_spec.Catalog.{Catalog, Delta, Stock, stock_at}
+use Rattle.mesa_engine.specs.mesa_image_spec.Contents.{Rows}
+use Rattle.mesa_engine.specs.mesa_image_spec.Fitting.{Shelved, delta_shelved, deltas_of, files_shelved, shelved, stock_shelved}
+use Rattle.mesa_engine.specs.mesa_image_spec.Sound.{AreStocked, IsStocked, IsTold, bytes_of, wanted, wants}
 use Rattle.mesa_engine.proofs.mesa_engine_spec.mesa_image_spec.Lists.{all_unflat, all_unmap, stock_found}
 use Rattle.mesa_engine.proofs.mesa_engine_spec.Lists.{all_also}
 use Rattle.mesa_plans.specs.Files.{Want, files_wanted, table_wanted, want_of}

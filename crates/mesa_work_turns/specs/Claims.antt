@@ -4,7 +4,7 @@ use Rattle.mesa_plans.specs.mesa_list.Checks.{◌>>◌, refuse_unless}
 use Rattle.mesa_plans.specs.mesa_schema.Changes.{epoch_of}
 use Rattle.mesa_engine.specs.mesa_history_spec.Machine.{Claim, Errand, Merges, Recasts}
 use Rattle.mesa_lease.specs.Book.{is_held, other_holder}
-use Rattle.mesa_engine.specs.mesa_metadata.mesa_image_spec.Catalog.{stock_at}
+use Rattle.mesa_engine.specs.mesa_image_spec.Catalog.{stock_at}
 use Rattle.mesa_engine.specs.mesa_engine_spec.EngineState.{EngineState}
 use Rattle.mesa_tasks.specs.declared.opening.Unopened.{Unopened}
 use Rattle.mesa_tasks.specs.declared.opening.Unopened.TheVariants as un

@@ -2,7 +2,7 @@
 ghost use Rattle.std.specs.Prelude.{◌≡◌, ◌-◌, ◌<◌, ◌≤◌, length, None, Ok, IfErr, IfOk, OnOk, false};
 ghost use Rattle.mesa_engine.specs.Failing.{is_of_device};
 ghost use Rattle.mesa_engine.specs.mesa_history_spec.Machine.{recast_claim_of};
-ghost use Rattle.mesa_engine.specs.mesa_metadata.mesa_image_spec.Catalog.{start_in, stock_at};
+ghost use Rattle.mesa_engine.specs.mesa_image_spec.Catalog.{start_in, stock_at};
 ghost use Rattle.mesa_lease.specs.Book.{holder};
 ghost use Rattle.mesa_engine.specs.mesa_engine_spec.EngineState.{books_of};
 ghost use Rattle.mesa_engine.specs.Failure.{cause_in};

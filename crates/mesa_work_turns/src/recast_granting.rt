@@ -5,7 +5,7 @@ ghost use Rattle.mesa_plans.specs.Ranges.{HoldsAll};
 ghost use Rattle.mesa_engine.specs.mesa_history_spec.Machine.{recast_claim_of};
 ghost use Rattle.mesa_engine.specs.mesa_history_spec.Run.{First, Granted};
 ghost use Rattle.mesa_engine.specs.mesa_history_spec.Turns.{IsDue};
-ghost use Rattle.mesa_engine.specs.mesa_metadata.mesa_image_spec.Catalog.{stock_at};
+ghost use Rattle.mesa_engine.specs.mesa_image_spec.Catalog.{stock_at};
 ghost use Rattle.mesa_lease.specs.Book.{holder};
 ghost use Rattle.mesa_engine.specs.mesa_engine_spec.EngineState.{books_of};
 ghost use Rattle.mesa_model.specs.Tables.{recast_asked};

@@ -6,7 +6,7 @@ ghost use Rattle.mesa_engine.specs.mesa_history_spec.Run.{Granted, Renewed};
 ghost use Rattle.mesa_engine.specs.mesa_history_spec.Turns.{IsDue};
 ghost use Rattle.mesa_lease.specs.Book.{renewed};
 ghost use Rattle.mesa_engine.specs.mesa_engine_spec.EngineState.{books_of};
-ghost use Rattle.mesa_engine.specs.mesa_metadata.Memory.{with_leases};
+ghost use Rattle.mesa_engine.specs.Memory.{with_leases};
 ghost use Rattle.mesa_model.specs.declared.commands.Command.{Command};
 ghost use Rattle.mesa_model.specs.declared.commands.Command.TheVariants as command;
 ghost use Rattle.mesa_model.specs.declared.entries.Kind.TheVariants as kind;

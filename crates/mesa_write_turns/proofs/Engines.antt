@@ -27,7 +27,7 @@ use Rattle.mesa_engine.specs.mesa_engine_spec.Recorded.{failed_state, recorded_s
 use Rattle.mesa_engine.specs.mesa_engine_spec.Vault.{IsReady, IsVault, Starts, outset_of}
 use Rattle.mesa_engine.specs.declared.log.Log.{Log}
 use Rattle.mesa_engine.specs.Printing.{PrintsBlock}
-use Rattle.mesa_engine.specs.mesa_metadata.Memory.{Memory}
+use Rattle.mesa_engine.specs.Memory.{Memory}
 use Rattle.mesa_engine.specs.Engine.{IsEngine}
 use Rattle.mesa_engine.specs.Failing.{deciding_stage}
 use Rattle.mesa_engine.proofs.Turning.{told_engine}

@@ -48,7 +48,7 @@ use Rattle.mesa_engine.proofs.mesa_engine_spec.Staying.{closed_vault, still_vaul
 use Rattle.mesa_publishing.specs.declared.publishing.Published.{Published}
 use Rattle.mesa_engine.specs.declared.log.Log.{Log}
 use Rattle.mesa_engine.specs.Printing.{PrintsBlock}
-use Rattle.mesa_engine.specs.mesa_metadata.Memory.{Memory}
+use Rattle.mesa_engine.specs.Memory.{Memory}
 use Rattle.mesa_engine.specs.Engine.{IsEngine}
 use Rattle.mesa_engine.proofs.Turning.{told_engine}
 use Rattle.mesa_publishing.specs.Published.{AllTell, IsLoaded, IsPublished, bare_of, rows_later}

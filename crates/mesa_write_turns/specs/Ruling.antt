@@ -14,7 +14,7 @@ use Rattle.mesa_engine.specs.mesa_engine_spec.EngineState.{EngineState, books_of
 use Rattle.mesa_engine.specs.Failure.{cause_in}
 use Rattle.mesa_engine.specs.declared.failure.Failure.{Failure}
 use Rattle.mesa_engine.specs.declared.failure.Failure.TheVariants as failure
-use Rattle.mesa_engine.specs.mesa_metadata.Memory.{Memory}
+use Rattle.mesa_engine.specs.Memory.{Memory}
 use Rattle.mesa_rules.specs.declared.ruled.Ruled.{Ruled}
 use Rattle.mesa_engine.specs.Failing.{HasNotDone, deciding_kind, deciding_stage, is_of_device}
 use Rattle.mesa_write_turns.specs.Writing.{HasRecord}

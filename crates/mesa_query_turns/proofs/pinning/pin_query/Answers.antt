@@ -10,7 +10,7 @@ use Rattle.mesa_engine.proofs.mesa_engine_spec.Beginning.{vault_at_seen}
 use Rattle.mesa_engine.specs.mesa_engine_spec.EngineState.{books_of}
 use Rattle.mesa_engine.specs.mesa_engine_spec.Vault.{Starts, outset_of}
 use Rattle.mesa_engine.specs.Failure.{cause_in}
-use Rattle.mesa_engine.specs.mesa_metadata.Memory.{Memory}
+use Rattle.mesa_engine.specs.Memory.{Memory}
 use Rattle.mesa_model.specs.Entry.{IsShort}
 use Rattle.mesa_model.specs.declared.commands.Command.TheVariants as command
 use Rattle.mesa_model.specs.declared.entries.Entry.{Entry}

@@ -1,6 +1,6 @@
 use Rattle.std.proofs.Common.{sym, ◌∙◌, ap}
 use Rattle.std.specs.Prelude.{option_map}
-use Rattle.mesa_engine.specs.mesa_metadata.Meaning.{pin_as}
+use Rattle.mesa_engine.specs.Meaning.{pin_as}
 use Rattle.mesa_query_turns.proofs.Sees.{asked_pinned, asked_present, sees_none, sees_pinned, sees_present, version_pinned, version_present}
 use Rattle.mesa_query_turns.proofs.seeing.seen_by.Goals as goal
 

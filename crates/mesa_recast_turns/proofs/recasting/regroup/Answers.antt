@@ -7,7 +7,7 @@ use Rattle.mesa_engine.specs.mesa_history_spec.Run.{Finished, Renewed}
 use Rattle.mesa_engine.specs.mesa_history_spec.Turns.{IsDue}
 use Rattle.mesa_engine.specs.mesa_image_spec.Catalog.{applied}
 use Rattle.mesa_engine.specs.mesa_engine_spec.mesa_image_spec.Ids.{dropped_ids}
-use Rattle.mesa_engine.specs.mesa_metadata.mesa_catalog.Lookups.{generation_of, turns_generation}
+use Rattle.mesa_engine.specs.mesa_catalog.Lookups.{generation_of, turns_generation}
 use Rattle.mesa_lease.specs.Book.{ended}
 use Rattle.mesa_model.specs.Entry.{IsShort}
 use Rattle.mesa_model.specs.declared.commands.Command.TheVariants as command
@@ -33,7 +33,7 @@ use Rattle.mesa_engine.specs.mesa_engine_spec.Turned.{leased_state}
 use Rattle.mesa_engine.specs.mesa_engine_spec.Vault.{Starts, outset_of, written_by}
 use Rattle.mesa_engine.proofs.mesa_engine_spec.Beginning.{vault_at_seen}
 use Rattle.mesa_engine.specs.Printing.{PrintsBlock}
-use Rattle.mesa_engine.specs.mesa_metadata.Memory.{Memory}
+use Rattle.mesa_engine.specs.Memory.{Memory}
 use Rattle.mesa_engine.specs.Engine.{IsEngine, Standing, starts_of}
 use Rattle.mesa_engine.proofs.Drafting.{answers_none}
 use Rattle.mesa_tasks.specs.Recasts.{claim_of_recast, recast_in, recast_table}

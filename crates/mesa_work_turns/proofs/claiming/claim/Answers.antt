@@ -1,7 +1,7 @@
 use Rattle.std.proofs.Common.{◌∙◌, sym, ap}
 use Rattle.mesa_span.specs.Ranges.{base_before}
 use Rattle.mesa_span.specs.Work.{next_work}
-use Rattle.mesa_engine.specs.mesa_metadata.mesa_image_spec.Catalog.{Catalog, ranges_of, stock_at}
+use Rattle.mesa_engine.specs.mesa_image_spec.Catalog.{Catalog, ranges_of, stock_at}
 use Rattle.mesa_rules.specs.Seen.{number_of}
 use Rattle.mesa_work_turns.proofs.Claims.{busy, claimed, idle, missing}
 use Rattle.mesa_work_turns.proofs.claiming.claim.Goals as goal

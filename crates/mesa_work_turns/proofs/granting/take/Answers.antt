@@ -6,8 +6,8 @@ use Rattle.mesa_span.specs.Work.{next_work}
 use Rattle.mesa_engine.specs.mesa_history_spec.Machine.{Claim, Merges, claim_of}
 use Rattle.mesa_engine.specs.mesa_history_spec.Run.{First, Granted, Finished}
 use Rattle.mesa_engine.specs.mesa_history_spec.Turns.{IsDue}
-use Rattle.mesa_engine.specs.mesa_metadata.mesa_image_spec.Catalog.{Catalog, Delta, Stock, ranges_of, stock_at}
-use Rattle.mesa_engine.specs.mesa_metadata.mesa_image_spec.Fitting.{deltas_of, may_be_work}
+use Rattle.mesa_engine.specs.mesa_image_spec.Catalog.{Catalog, Delta, Stock, ranges_of, stock_at}
+use Rattle.mesa_engine.specs.mesa_image_spec.Fitting.{deltas_of, may_be_work}
 use Rattle.mesa_model.specs.Entry.{IsShort}
 use Rattle.mesa_model.specs.declared.commands.Command.TheVariants as command
 use Rattle.mesa_model.specs.declared.entries.Kind.TheVariants as kind
@@ -20,7 +20,7 @@ use Rattle.mesa_publishing.specs.mesa_compact.Bounded.{IsBounded}
 use Rattle.mesa_engine.specs.Failure.{cause_in}
 use Rattle.mesa_plans.specs.Gathered.{IsGathered, unread_views}
 use Rattle.mesa_lease.specs.Book.{granted}
-use Rattle.mesa_engine.specs.mesa_metadata.Memory.{with_leases}
+use Rattle.mesa_engine.specs.Memory.{with_leases}
 use Rattle.mesa_plans.specs.mesa_table.Meaning.{stock_of}
 use Rattle.mesa_engine.specs.mesa_history_spec.Rows.{Rows, no_rows}
 use Rattle.mesa_publishing.specs.Finished.{HasRange}

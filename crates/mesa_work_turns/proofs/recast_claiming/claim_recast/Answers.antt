@@ -1,7 +1,7 @@
 use Rattle.std.proofs.Common.{◌≡◌, ◌∙◌, ◌+◌, ◌-◌, sym, ap, subst, Ok}
 use Rattle.mesa_binding.specs.Told.{IsDue}
 use Rattle.mesa_binding.specs.declared.recasting.RecastNames.{RecastNames}
-use Rattle.mesa_engine.specs.mesa_metadata.mesa_image_spec.Catalog.{Catalog, start_in, stock_at}
+use Rattle.mesa_engine.specs.mesa_image_spec.Catalog.{Catalog, start_in, stock_at}
 use Rattle.mesa_model.specs.Tables.{recast_asked}
 use Rattle.mesa_rules.specs.Recastings.{recast_due}
 use Rattle.mesa_rules.specs.Seen.{number_of}

@@ -1,5 +1,5 @@
 use Rattle.std.proofs.Common.{◌∙◌, ◌-◌, ap, sym}
-use Rattle.mesa_engine.specs.mesa_metadata.mesa_image_spec.Catalog.{start_in}
+use Rattle.mesa_engine.specs.mesa_image_spec.Catalog.{start_in}
 use Rattle.mesa_plans.proofs.Ranging.{start_held}
 use Rattle.mesa_work_turns.proofs.recast_claiming.singletons.Goals as goal
 

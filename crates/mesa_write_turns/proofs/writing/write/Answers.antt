@@ -21,7 +21,7 @@ use Rattle.mesa_engine.specs.mesa_engine_spec.Recorded.{failed_state, recorded_s
 use Rattle.mesa_engine.specs.mesa_engine_spec.Vault.{Starts}
 use Rattle.mesa_engine.proofs.mesa_engine_spec.Beginning.{vault_at_seen}
 use Rattle.mesa_engine.specs.Printing.{PrintsBlock}
-use Rattle.mesa_engine.specs.mesa_metadata.Memory.{Memory}
+use Rattle.mesa_engine.specs.Memory.{Memory}
 use Rattle.mesa_engine.specs.Engine.{Standing, starts_of}
 use Rattle.mesa_engine.proofs.Drafting.{answers_none}
 use Rattle.mesa_write_turns.specs.Writing.{IsToWrite, KeepsFiles}

@@ -1,6 +1,0 @@
-use Rattle.std.proofs.Common.{refl}
-use Rattle.mesa_metadata.proofs.Still.{still_indexed}
-use Rattle.mesa_metadata.proofs.holders.Holders.reserve_place.Goals as goal
-
-pub returns-clause-indexed : goal.returns-clause-indexed
-returns-clause-indexed c = still_indexed refl refl c.reserve.ensures.items c.reserve.ensures.capacity c.requires

@@ -1,7 +1,0 @@
-use Rattle.std.proofs.Common.{◌≡◌, ◌++◌, drop, take}
-use Rattle.mesa_metadata.proofs.Indexed.{reached}
-use Rattle.mesa_metadata.proofs.index.reach.Given as goal
-
--- the holds so far reach as far as those before them, and the others are as they were
-abbrev pub invariant-loop-hold : goal.invariant-loop-hold
-invariant-loop-hold l = take l.hold-index l.hold-items ++ reached l.next (drop l.hold-index l.hold-items) ≡ reached 0 l.fn.holds
