@@ -24,11 +24,11 @@ use Rattle.mesa_publishing.proofs.mesa_history_spec.Claiming.{held_is_live}
 use Rattle.mesa_engine.specs.mesa_image_spec.Catalog.{no_stock, ranges_of, stock_at}
 use Rattle.mesa_engine.specs.mesa_history_spec.Bare.{bare_table}
 use Rattle.mesa_engine.specs.mesa_history_spec.Rows.{no_rows}
-use Rattle.mesa_engine.specs.mesa_engine_spec.mesa_invariant_spec.Invariant.{Outset, run_of}
-use Rattle.mesa_engine.proofs.mesa_engine_spec.mesa_invariant_spec.Working.{checked_open}
-use Rattle.mesa_engine.specs.mesa_engine_spec.EngineState.{EngineState, books_of, projection_of}
-use Rattle.mesa_engine.specs.mesa_engine_spec.Vault.{Origin, IsVault}
-use Rattle.mesa_engine.proofs.mesa_engine_spec.Beginning.{vault_claims}
+use Rattle.mesa_engine.specs.mesa_invariant_spec.Invariant.{Outset, run_of}
+use Rattle.mesa_engine.proofs.mesa_invariant_spec.Working.{checked_open}
+use Rattle.mesa_engine.specs.EngineState.{EngineState, books_of, projection_of}
+use Rattle.mesa_engine.specs.Vault.{Origin, IsVault}
+use Rattle.mesa_engine.proofs.BeforeTurns.{vault_claims}
 use Rattle.mesa_work_turns.specs.Claims.{claim_with, lease_checked}
 
 unless_true : (b : Bool) (e : Refusal) → refuse_unless b e ≡ Ok tt → b ≡ true

@@ -20,19 +20,19 @@ use Rattle.mesa_model.specs.declared.entries.Kind.TheVariants as kind
 use Rattle.mesa_model.specs.declared.entries.Outcome.TheVariants as outcome
 use Rattle.mesa_engine.specs.mesa_history_spec.Output.{block}
 use Rattle.mesa_engine.specs.mesa_history_spec.Rows.{Rows}
-use Rattle.mesa_engine.specs.mesa_engine_spec.mesa_invariant_spec.Causes.{Cause, Unwritten, is_read_fault, outcome_of, reply_of, told_at}
-use Rattle.mesa_engine.specs.mesa_engine_spec.mesa_invariant_spec.Printing.{IsPut}
-use Rattle.mesa_engine.specs.mesa_engine_spec.mesa_invariant_spec.Turns.{Shown, IsSeen, Takes, entry}
-use Rattle.mesa_engine.specs.mesa_engine_spec.mesa_invariant_spec.Undamaged.{is_damaged}
-use Rattle.mesa_engine.specs.mesa_engine_spec.mesa_invariant_spec.Invariant.{Outset, Counts, IsAtClock, HoldsInvariant, run_at, run_of}
-use Rattle.mesa_engine.specs.mesa_engine_spec.mesa_invariant_spec.Works.{closing_stage}
-use Rattle.mesa_engine.proofs.mesa_engine_spec.mesa_invariant_spec.Clock.{begun_moment}
-use Rattle.mesa_engine.proofs.mesa_engine_spec.mesa_invariant_spec.Going.{unmerged_takes}
-use Rattle.mesa_engine.proofs.mesa_engine_spec.mesa_invariant_spec.Working.{close_later, shut_turn, unmerged_turn}
-use Rattle.mesa_engine.specs.mesa_engine_spec.EngineState.{EngineState, books_of}
-use Rattle.mesa_engine.specs.mesa_engine_spec.Vault.{Origin, Starts, IsVault, outset_of}
-use Rattle.mesa_engine.proofs.mesa_engine_spec.Staying.{closed_vault, leased_vault, still_vault}
-use Rattle.mesa_engine.proofs.mesa_engine_spec.Swapping.{ended_granted}
+use Rattle.mesa_engine.specs.mesa_invariant_spec.Causes.{Cause, Unwritten, is_read_fault, outcome_of, reply_of, told_at}
+use Rattle.mesa_engine.specs.mesa_invariant_spec.Printing.{IsPut}
+use Rattle.mesa_engine.specs.mesa_invariant_spec.Turns.{Shown, IsSeen, Takes, entry}
+use Rattle.mesa_engine.specs.mesa_invariant_spec.Undamaged.{is_damaged}
+use Rattle.mesa_engine.specs.mesa_invariant_spec.Invariant.{Outset, Counts, IsAtClock, HoldsInvariant, run_at, run_of}
+use Rattle.mesa_engine.specs.mesa_invariant_spec.Works.{closing_stage}
+use Rattle.mesa_engine.proofs.mesa_invariant_spec.Clock.{begun_moment}
+use Rattle.mesa_engine.proofs.mesa_invariant_spec.Going.{unmerged_takes}
+use Rattle.mesa_engine.proofs.mesa_invariant_spec.Working.{close_later, shut_turn, unmerged_turn}
+use Rattle.mesa_engine.specs.EngineState.{EngineState, books_of}
+use Rattle.mesa_engine.specs.Vault.{Origin, Starts, IsVault, outset_of}
+use Rattle.mesa_engine.proofs.Staying.{closed_vault, leased_vault, still_vault}
+use Rattle.mesa_engine.proofs.Swapping.{ended_granted}
 use Rattle.mesa_engine.specs.declared.log.Log.{Log}
 use Rattle.mesa_engine.specs.Printing.{PrintsBlock}
 use Rattle.mesa_engine.specs.Memory.{Memory, with_state}

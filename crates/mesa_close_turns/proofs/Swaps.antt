@@ -28,18 +28,18 @@ use Rattle.mesa_engine.specs.mesa_image_spec.Contents.{kept_of}
 use Rattle.mesa_engine.specs.mesa_image_spec.Fitting.{Shelved, brought, fits, shelved, shelved_id}
 use Rattle.mesa_engine.specs.mesa_image_spec.Held.{IsHeld, IsUnnamed}
 use Rattle.mesa_engine.specs.mesa_image_spec.Sound.{AreStocked, StandsFor, wants}
-use Rattle.mesa_engine.proofs.mesa_engine_spec.mesa_image_spec.Agreeing.{agree_stocked, agree_wants}
-use Rattle.mesa_engine.proofs.mesa_engine_spec.mesa_image_spec.AllSourced.{agree_sourced, merge_written, swap_replaces, swap_sourced}
-use Rattle.mesa_engine.proofs.mesa_engine_spec.mesa_image_spec.CountedRecords.{fits_counted}
-use Rattle.mesa_engine.proofs.mesa_engine_spec.mesa_image_spec.Ids.{own_ids}
-use Rattle.mesa_engine.proofs.mesa_engine_spec.mesa_image_spec.Recordable.{applied_recordable}
-use Rattle.mesa_engine.proofs.mesa_engine_spec.mesa_image_spec.Moving.{kind_of, swap_step}
-use Rattle.mesa_engine.proofs.mesa_engine_spec.mesa_image_spec.Swapping.{swap_there, swap_within}
-use Rattle.mesa_engine.proofs.mesa_engine_spec.mesa_image_spec.Wholes.{fits_shaped}
-use Rattle.mesa_engine.specs.mesa_engine_spec.mesa_image_spec.Brought.{AreTold, Replaces, merged_of}
-use Rattle.mesa_engine.specs.mesa_engine_spec.mesa_image_spec.Ids.{brought_ids, dropped_ids, named}
-use Rattle.mesa_engine.specs.mesa_engine_spec.mesa_image_spec.Moves.{Moves, first_of, is_base, kept_swapped, last_of, work_of}
-use Rattle.mesa_engine.specs.mesa_engine_spec.mesa_image_spec.Sourced.{HasSources, IsMadeOf}
+use Rattle.mesa_engine.proofs.mesa_image_spec.Agreeing.{agree_stocked, agree_wants}
+use Rattle.mesa_engine.proofs.mesa_image_spec.AllSourced.{agree_sourced, merge_written, swap_replaces, swap_sourced}
+use Rattle.mesa_engine.proofs.mesa_image_spec.CountedRecords.{fits_counted}
+use Rattle.mesa_engine.proofs.mesa_image_spec.Ids.{own_ids}
+use Rattle.mesa_engine.proofs.mesa_image_spec.Recordable.{applied_recordable}
+use Rattle.mesa_engine.proofs.mesa_image_spec.Moving.{kind_of, swap_step}
+use Rattle.mesa_engine.proofs.mesa_image_spec.Swapping.{swap_there, swap_within}
+use Rattle.mesa_engine.proofs.mesa_image_spec.Wholes.{fits_shaped}
+use Rattle.mesa_engine.specs.mesa_image_spec.Brought.{AreTold, Replaces, merged_of}
+use Rattle.mesa_engine.specs.mesa_image_spec.Ids.{brought_ids, dropped_ids, named}
+use Rattle.mesa_engine.specs.mesa_image_spec.Moves.{Moves, first_of, is_base, kept_swapped, last_of, work_of}
+use Rattle.mesa_engine.specs.mesa_image_spec.Sourced.{HasSources, IsMadeOf}
 use Rattle.mesa_engine.specs.mesa_catalog.Lookups.{generation_of, turns_generation}
 use Rattle.mesa_store.specs.Store.{Writes as IsWritten}
 use Rattle.mesa_engine.specs.mesa_history_spec.Output.{block}
@@ -48,22 +48,22 @@ use Rattle.mesa_publishing.proofs.mesa_commit.Filing.{freed_unnamed}
 use Rattle.mesa_publishing.specs.mesa_commit.Filed.{Renames}
 use Rattle.mesa_publishing.specs.mesa_commit.Holding.{Among, freed, ids_of}
 use Rattle.mesa_tasks.specs.declared.merging.Task.{Task}
-use Rattle.mesa_engine.specs.mesa_engine_spec.mesa_invariant_spec.Causes.{Unwritten, reply_of, told_at}
-use Rattle.mesa_engine.specs.mesa_engine_spec.mesa_invariant_spec.Printing.{IsPut}
-use Rattle.mesa_engine.specs.mesa_engine_spec.mesa_invariant_spec.Turns.{entry}
-use Rattle.mesa_engine.specs.mesa_engine_spec.mesa_invariant_spec.Invariant.{Counts, Passes, StandsForEither, Writes, run_of}
-use Rattle.mesa_engine.specs.mesa_engine_spec.mesa_invariant_spec.Works.{Swaps}
-use Rattle.mesa_engine.proofs.mesa_engine_spec.mesa_invariant_spec.Working.{checked_open}
-use Rattle.mesa_engine.specs.mesa_engine_spec.EngineState.{EngineState, books_of, first_id, holders, ids_held, next_id}
-use Rattle.mesa_engine.specs.mesa_engine_spec.Recorded.{IsRecorded, failed_state, left_by, recorded_state, removed_by, waiting}
-use Rattle.mesa_engine.specs.mesa_engine_spec.Vault.{IsVault, Starts, outset_of, written_by}
-use Rattle.mesa_engine.proofs.mesa_engine_spec.Agreeing.{named_agree, same_kept}
-use Rattle.mesa_engine.proofs.mesa_engine_spec.Filing.{filed_moved, holds_are}
-use Rattle.mesa_engine.proofs.mesa_engine_spec.Recording.{Clears, clears_freed}
-use Rattle.mesa_engine.proofs.mesa_engine_spec.Renaming.{record_brings, record_renames}
-use Rattle.mesa_engine.proofs.mesa_engine_spec.Sources.{sources_stay}
-use Rattle.mesa_engine.proofs.mesa_engine_spec.Swapping.{swap_is, swap_leaves, swapped_as}
-use Rattle.mesa_engine.proofs.mesa_engine_spec.Writing.{swapped_vault, unswapped_vault}
+use Rattle.mesa_engine.specs.mesa_invariant_spec.Causes.{Unwritten, reply_of, told_at}
+use Rattle.mesa_engine.specs.mesa_invariant_spec.Printing.{IsPut}
+use Rattle.mesa_engine.specs.mesa_invariant_spec.Turns.{entry}
+use Rattle.mesa_engine.specs.mesa_invariant_spec.Invariant.{Counts, Passes, StandsForEither, Writes, run_of}
+use Rattle.mesa_engine.specs.mesa_invariant_spec.Works.{Swaps}
+use Rattle.mesa_engine.proofs.mesa_invariant_spec.Working.{checked_open}
+use Rattle.mesa_engine.specs.EngineState.{EngineState, books_of, first_id, holders, ids_held, next_id}
+use Rattle.mesa_engine.specs.Recorded.{IsRecorded, failed_state, left_by, recorded_state, removed_by, waiting}
+use Rattle.mesa_engine.specs.Vault.{IsVault, Starts, outset_of, written_by}
+use Rattle.mesa_engine.proofs.Agreeing.{named_agree, same_kept}
+use Rattle.mesa_engine.proofs.Filing.{filed_moved, holds_are}
+use Rattle.mesa_engine.proofs.RecordedStates.{Clears, clears_freed}
+use Rattle.mesa_engine.proofs.Renaming.{record_brings, record_renames}
+use Rattle.mesa_engine.proofs.Sources.{sources_stay}
+use Rattle.mesa_engine.proofs.Swapping.{swap_is, swap_leaves, swapped_as}
+use Rattle.mesa_engine.proofs.Writing.{swapped_vault, unswapped_vault}
 use Rattle.mesa_publishing.specs.Published.{AllTell, rows_with}
 use Rattle.mesa_publishing.specs.Finished.{HasRange}
 use Rattle.mesa_publishing.specs.Swapped.{IsSwapped, delta_of, swap_of}

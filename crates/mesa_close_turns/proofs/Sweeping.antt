@@ -4,13 +4,13 @@ use Rattle.std.specs.Prelude.{filter}
 use Rattle.std.proofs.lemmas.List.{append_cancel_left}
 use Rattle.std.specs.List.{AllByRecursion}
 use Rattle.mesa_disk.specs.Story.{Story}
-use Rattle.mesa_engine.specs.mesa_engine_spec.mesa_image_spec.Ids.{named}
-use Rattle.mesa_engine.specs.mesa_engine_spec.EngineState.{EngineState, holders, ids_held, next_id}
-use Rattle.mesa_engine.specs.mesa_engine_spec.Recorded.{holds_in}
-use Rattle.mesa_engine.specs.mesa_engine_spec.Vault.{Origin, IsVault}
-use Rattle.mesa_engine.specs.mesa_engine_spec.mesa_invariant_spec.Turns.{IsTurn, Shown, entry}
-use Rattle.mesa_engine.specs.mesa_engine_spec.mesa_invariant_spec.Invariant.{Outset}
-use Rattle.mesa_engine.proofs.mesa_engine_spec.Filing.{holds_are}
+use Rattle.mesa_engine.specs.mesa_image_spec.Ids.{named}
+use Rattle.mesa_engine.specs.EngineState.{EngineState, holders, ids_held, next_id}
+use Rattle.mesa_engine.specs.Recorded.{holds_in}
+use Rattle.mesa_engine.specs.Vault.{Origin, IsVault}
+use Rattle.mesa_engine.specs.mesa_invariant_spec.Turns.{IsTurn, Shown, entry}
+use Rattle.mesa_engine.specs.mesa_invariant_spec.Invariant.{Outset}
+use Rattle.mesa_engine.proofs.Filing.{holds_are}
 use Rattle.mesa_publishing.specs.mesa_history_spec.Replay.{is_skip}
 use Rattle.mesa_model.specs.declared.entries.Entry.{Entry}
 use Rattle.mesa_model.specs.declared.entries.Kind.TheVariants as kind

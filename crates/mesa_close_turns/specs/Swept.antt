@@ -3,10 +3,10 @@ use Rattle.std.specs.Prelude.{◌≡◌, ◌⊎◌, ◌++◌, ◌∷◌, [], ℕ
 use Rattle.mesa_disk.specs.Image.{Image, file_of}
 use Rattle.mesa_publishing.specs.mesa_history_spec.Machine.{Claim, claim_checked}
 use Rattle.mesa_engine.specs.mesa_image_spec.Catalog.{Catalog}
-use Rattle.mesa_engine.specs.mesa_engine_spec.mesa_image_spec.Ids.{named}
-use Rattle.mesa_engine.specs.mesa_engine_spec.EngineState.{EngineState, books_of, holders, ids_held}
-use Rattle.mesa_engine.specs.mesa_engine_spec.Vault.{IsFiled}
-use Rattle.mesa_engine.specs.mesa_engine_spec.mesa_invariant_spec.Turns.{Shown, entry}
+use Rattle.mesa_engine.specs.mesa_image_spec.Ids.{named}
+use Rattle.mesa_engine.specs.EngineState.{EngineState, books_of, holders, ids_held}
+use Rattle.mesa_engine.specs.Vault.{IsFiled}
+use Rattle.mesa_engine.specs.mesa_invariant_spec.Turns.{Shown, entry}
 use Rattle.mesa_model.specs.declared.entries.Entry.{Entry}
 use Rattle.mesa_model.specs.declared.entries.Kind.TheVariants as kind
 use Rattle.mesa_model.specs.declared.entries.Outcome.TheVariants as outcome

@@ -1,6 +1,6 @@
 // Whether a lease holds still.
 ghost use Rattle.std.specs.Prelude.{◌≡◌, ◌<◌, Ok, Err, IfErr, OnOk};
-ghost use Rattle.mesa_engine.specs.mesa_engine_spec.EngineState.{books_of};
+ghost use Rattle.mesa_engine.specs.EngineState.{books_of};
 ghost use Rattle.mesa_engine.specs.mesa_history_spec.Rows.{no_rows};
 ghost use Rattle.mesa_work_turns.specs.Claims.{lease_checked};
 

@@ -5,7 +5,7 @@ ghost use Rattle.mesa_publishing.specs.mesa_history_spec.Machine.{swapped_reply}
 ghost use Rattle.mesa_publishing.specs.mesa_history_spec.Run.{Finished, Renewed};
 ghost use Rattle.mesa_publishing.specs.mesa_history_spec.Turns.{IsDue};
 ghost use Rattle.mesa_engine.specs.mesa_image_spec.Catalog.{stock_at};
-ghost use Rattle.mesa_engine.specs.mesa_engine_spec.EngineState.{books_of};
+ghost use Rattle.mesa_engine.specs.EngineState.{books_of};
 ghost use Rattle.mesa_engine.specs.Failure.{cause_in};
 ghost use Rattle.mesa_engine.specs.Memory.{with_state};
 ghost use Rattle.mesa_model.specs.declared.commands.Command.TheVariants as command;
@@ -14,11 +14,11 @@ ghost use Rattle.mesa_model.specs.declared.entries.Kind.TheVariants as kind;
 ghost use Rattle.mesa_model.specs.mesa_schema.Changes.{Lineage};
 ghost use Rattle.mesa_engine.specs.mesa_history_spec.Rows.{Rows, no_rows};
 ghost use Rattle.mesa_publishing.specs.Finished.{HasRange, IsFinished};
-ghost use Rattle.mesa_engine.specs.mesa_engine_spec.mesa_invariant_spec.Causes.{outcome_of};
-ghost use Rattle.mesa_engine.specs.mesa_engine_spec.mesa_invariant_spec.Turns.{AnswersDisk, AnswersDraft, SomeRose, Takes, entry};
-ghost use Rattle.mesa_engine.specs.mesa_engine_spec.mesa_invariant_spec.Invariant.{run_at};
+ghost use Rattle.mesa_engine.specs.mesa_invariant_spec.Causes.{outcome_of};
+ghost use Rattle.mesa_engine.specs.mesa_invariant_spec.Turns.{AnswersDisk, AnswersDraft, SomeRose, Takes, entry};
+ghost use Rattle.mesa_engine.specs.mesa_invariant_spec.Invariant.{run_at};
 ghost use Rattle.mesa_tasks.specs.Tasks.{claim_in};
-ghost use Rattle.mesa_engine.specs.mesa_engine_spec.Written.{written_at};
+ghost use Rattle.mesa_engine.specs.Written.{written_at};
 ghost use Rattle.mesa_close_turns.specs.Merged.{HasNotSwapped, cause_met, unswapped_state};
 ghost use Rattle.mesa_close_turns.specs.Swept.{ClaimHolds, HasStood, IsSwept};
 

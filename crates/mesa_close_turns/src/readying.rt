@@ -3,10 +3,10 @@ ghost use Rattle.std.specs.Prelude.{◌≡◌, ◌+◌, ◌<◌, ◌≤◌, ◌^
 ghost use Rattle.mesa_engine.specs.mesa_image_spec.Catalog.{ranges_of};
 ghost use Rattle.mesa_engine.specs.mesa_image_spec.Fitting.{fits};
 ghost use Rattle.mesa_engine.specs.mesa_image_spec.Shape.{IsCatalog};
-ghost use Rattle.mesa_engine.specs.mesa_engine_spec.mesa_image_spec.Ids.{dropped_ids, named};
+ghost use Rattle.mesa_engine.specs.mesa_image_spec.Ids.{dropped_ids, named};
 ghost use Rattle.mesa_disk.specs.mesa_key.Spelling.{AreBytes};
-ghost use Rattle.mesa_engine.specs.mesa_engine_spec.EngineState.{most_files, next_id};
-ghost use Rattle.mesa_engine.specs.mesa_engine_spec.Recorded.{removed_by};
+ghost use Rattle.mesa_engine.specs.EngineState.{most_files, next_id};
+ghost use Rattle.mesa_engine.specs.Recorded.{removed_by};
 ghost use Rattle.mesa_record.specs.Reading.{record_at};
 ghost use Rattle.mesa_record.specs.Rules.{keeps_rules};
 ghost use Rattle.mesa_model.specs.mesa_schema.Changes.{Lineage};

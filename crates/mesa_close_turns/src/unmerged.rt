@@ -11,11 +11,11 @@ ghost use Rattle.mesa_engine.specs.mesa_history_spec.Output.{block};
 ghost use Rattle.mesa_engine.specs.mesa_history_spec.Rows.{Rows, no_rows};
 ghost use Rattle.mesa_tasks.specs.GivingBack.{SomeFailed, task_inputs};
 ghost use Rattle.mesa_tasks.specs.declared.merging.CompactError.TheVariants as compact;
-ghost use Rattle.mesa_engine.specs.mesa_engine_spec.mesa_invariant_spec.Causes.{is_read_fault, outcome_of, reply_of, told_at};
-ghost use Rattle.mesa_engine.specs.mesa_engine_spec.mesa_invariant_spec.Printing.{IsPut};
-ghost use Rattle.mesa_engine.specs.mesa_engine_spec.mesa_invariant_spec.Turns.{AnswersDisk, AnswersDraft, SomeRose, Takes, entry};
-ghost use Rattle.mesa_engine.specs.mesa_engine_spec.mesa_invariant_spec.Undamaged.{is_damaged};
-ghost use Rattle.mesa_engine.specs.mesa_engine_spec.mesa_invariant_spec.Invariant.{run_at};
+ghost use Rattle.mesa_engine.specs.mesa_invariant_spec.Causes.{is_read_fault, outcome_of, reply_of, told_at};
+ghost use Rattle.mesa_engine.specs.mesa_invariant_spec.Printing.{IsPut};
+ghost use Rattle.mesa_engine.specs.mesa_invariant_spec.Turns.{AnswersDisk, AnswersDraft, SomeRose, Takes, entry};
+ghost use Rattle.mesa_engine.specs.mesa_invariant_spec.Undamaged.{is_damaged};
+ghost use Rattle.mesa_engine.specs.mesa_invariant_spec.Invariant.{run_at};
 ghost use Rattle.mesa_tasks.specs.Tasks.{claim_in};
 ghost use Rattle.mesa_close_turns.specs.Unmerged.{MergeDiffered, TellsDamage, cause_of, closing_cause, closing_state, unmerged_state};
 

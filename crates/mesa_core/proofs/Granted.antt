@@ -10,7 +10,7 @@ use Rattle.mesa_session_laws.specs.mesa_history_spec.Run.{Granted, Place, State}
 use Rattle.mesa_session_laws.specs.mesa_history_spec.Turns.{place_then}
 use Rattle.mesa_engine.specs.mesa_image_spec.Catalog.{Catalog, stock_at}
 use Rattle.mesa_engine.specs.mesa_image_spec.Moves.{last_of}
-use Rattle.mesa_engine.specs.mesa_engine_spec.Vault.{Origin}
+use Rattle.mesa_engine.specs.Vault.{Origin}
 use Rattle.mesa_session_laws.specs.mesa_merge.Inputs.{knowns_of}
 use Rattle.mesa_model.specs.declared.commands.Script.{Script}
 use Rattle.mesa_model.specs.declared.entries.Entry.{Entry}
@@ -26,7 +26,7 @@ use Rattle.mesa_tasks.specs.Tasks.{IsTask, claim_in}
 use Rattle.mesa_tasks.specs.declared.merging.Task.{Task}
 use Rattle.mesa_engine.specs.mesa_invariant_spec.Invariant.{run_at}
 use Rattle.mesa_engine.specs.mesa_invariant_spec.Works.{stage_if}
-use Rattle.mesa_engine.specs.mesa_engine_spec.Written.{written_at}
+use Rattle.mesa_engine.specs.Written.{written_at}
 use Rattle.mesa_core.specs.Handing.{IsGranted, store_after}
 use Rattle.mesa_core.specs.Standing.{IsCatalogAfter}
 use Rattle.mesa_core.proofs.Sights.{counted_is, lineage_is}

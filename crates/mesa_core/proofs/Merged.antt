@@ -12,7 +12,7 @@ use Rattle.mesa_session_laws.specs.mesa_history_spec.Replay.{runs}
 use Rattle.mesa_session_laws.specs.mesa_history_spec.Run.{Run, State, begins}
 use Rattle.mesa_engine.specs.mesa_image_spec.Catalog.{Catalog, stock_at}
 use Rattle.mesa_engine.specs.mesa_image_spec.Moves.{last_of}
-use Rattle.mesa_engine.specs.mesa_engine_spec.Vault.{Origin}
+use Rattle.mesa_engine.specs.Vault.{Origin}
 use Rattle.mesa_model.specs.declared.commands.Script.{Script}
 use Rattle.mesa_model.specs.declared.entries.Entry.{Entry}
 use Rattle.mesa_model.specs.mesa_schema.Changes.{Lineage}
@@ -32,7 +32,7 @@ use Rattle.mesa_engine.specs.mesa_invariant_spec.Causes.{is_read_fault, outcome_
 use Rattle.mesa_engine.specs.mesa_invariant_spec.Turns.{AnswersDraft, Shown}
 use Rattle.mesa_engine.specs.mesa_invariant_spec.Undamaged.{is_damaged}
 use Rattle.mesa_engine.specs.mesa_invariant_spec.Invariant.{run_at}
-use Rattle.mesa_engine.specs.mesa_engine_spec.Written.{written_at}
+use Rattle.mesa_engine.specs.Written.{written_at}
 use Rattle.mesa_core.specs.Handing.{IsGranted, store_after}
 use Rattle.mesa_core.specs.Standing.{IsCatalogAfter}
 use Rattle.mesa_core.proofs.Sights.{lineage_is}

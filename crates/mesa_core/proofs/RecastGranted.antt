@@ -7,8 +7,8 @@ use Rattle.mesa_session_laws.specs.mesa_copy.Copying.{IsRecastBounded, KnownRang
 use Rattle.mesa_session_laws.specs.mesa_publishing.Recasts.{HasItsRanges}
 use Rattle.mesa_session_laws.specs.mesa_history_spec.Run.{State}
 use Rattle.mesa_engine.specs.mesa_image_spec.Catalog.{Catalog, stock_at}
-use Rattle.mesa_engine.specs.mesa_engine_spec.Vault.{Origin}
-use Rattle.mesa_engine.specs.mesa_engine_spec.Written.{written_at}
+use Rattle.mesa_engine.specs.Vault.{Origin}
+use Rattle.mesa_engine.specs.Written.{written_at}
 use Rattle.mesa_model.specs.declared.commands.Script.{Script}
 use Rattle.mesa_model.specs.declared.entries.Entry.{Entry}
 use Rattle.mesa_model.specs.Warehouse.{max_tables}

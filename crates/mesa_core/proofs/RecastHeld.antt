@@ -14,9 +14,9 @@ use Rattle.mesa_session_laws.specs.mesa_history_spec.Replay.{runs}
 use Rattle.mesa_session_laws.specs.mesa_history_spec.Run.{Run, State, begins}
 use Rattle.mesa_session_laws.specs.mesa_history_spec.Sources.{Written}
 use Rattle.mesa_engine.specs.mesa_image_spec.Catalog.{Stock, stock_at}
-use Rattle.mesa_engine.specs.mesa_engine_spec.EngineState.{EngineState}
-use Rattle.mesa_engine.specs.mesa_engine_spec.Vault.{Origin}
-use Rattle.mesa_engine.specs.mesa_engine_spec.Written.{written_at}
+use Rattle.mesa_engine.specs.EngineState.{EngineState}
+use Rattle.mesa_engine.specs.Vault.{Origin}
+use Rattle.mesa_engine.specs.Written.{written_at}
 use Rattle.mesa_model.specs.Warehouse.{max_tables}
 use Rattle.mesa_model.specs.declared.commands.Script.{Script}
 use Rattle.mesa_model.specs.declared.entries.Entry.{Entry}

@@ -13,8 +13,8 @@ use Rattle.mesa_session_laws.specs.mesa_history_spec.Run.{State}
 use Rattle.mesa_engine.specs.mesa_image_spec.Catalog.{Catalog, no_stock, stock_at}
 use Rattle.mesa_engine.proofs.mesa_catalog.Stocks.{all_at}
 use Rattle.mesa_engine.specs.mesa_image_spec.Shape.{IsShaped}
-use Rattle.mesa_engine.specs.mesa_engine_spec.EngineState.{EngineState, projections}
-use Rattle.mesa_engine.specs.mesa_engine_spec.Vault.{Starts, IsVault, IsVaultAt, outset_of}
+use Rattle.mesa_engine.specs.EngineState.{EngineState, projections}
+use Rattle.mesa_engine.specs.Vault.{Starts, IsVault, IsVaultAt, outset_of}
 use Rattle.mesa_model.specs.declared.commands.Script.{Script}
 use Rattle.mesa_model.specs.declared.entries.Entry.{Entry}
 use Rattle.mesa_model.specs.Warehouse.{Store, Table, Warehouse, no_table}

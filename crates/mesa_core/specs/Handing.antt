@@ -6,14 +6,14 @@ use Rattle.mesa_session_laws.specs.mesa_history_spec.Claims.{HasClaim}
 use Rattle.mesa_session_laws.specs.mesa_history_spec.Machine.{Claim, Merges}
 use Rattle.mesa_session_laws.specs.mesa_history_spec.Run.{State}
 use Rattle.mesa_engine.specs.mesa_image_spec.Moves.{last_of}
-use Rattle.mesa_engine.specs.mesa_engine_spec.EngineState.{EngineState}
-use Rattle.mesa_engine.specs.mesa_engine_spec.Vault.{Origin}
+use Rattle.mesa_engine.specs.EngineState.{EngineState}
+use Rattle.mesa_engine.specs.Vault.{Origin}
 use Rattle.mesa_model.specs.declared.commands.Script.{Script}
 use Rattle.mesa_model.specs.declared.entries.Entry.{Entry}
 use Rattle.mesa_model.specs.Query.{Answer}
 use Rattle.mesa_model.specs.Warehouse.{Store, max_tables}
 use Rattle.mesa_engine.specs.mesa_invariant_spec.Invariant.{run_at}
-use Rattle.mesa_engine.specs.mesa_engine_spec.Written.{written_at}
+use Rattle.mesa_engine.specs.Written.{written_at}
 use Rattle.mesa_session_laws.specs.Known.{AllAreBounded, AllHaveRange, AllHaveRanges, IsKnownOf, lineage_in}
 use Rattle.mesa_session_laws.specs.mesa_publishing.Grown.{HasBecome}
 use Rattle.mesa_recast_turns.specs.Rested.{HasRested}

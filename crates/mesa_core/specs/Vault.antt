@@ -1,7 +1,7 @@
 -- What is seen of a vault, and what it keeps.
 use Rattle.std.specs.Prelude.{◌≡◌, ℕ, List, Option, Some}
 use Rattle.mesa_disk.specs.Image.{Image}
-use Rattle.mesa_engine.specs.mesa_engine_spec.EngineState.{EngineState}
+use Rattle.mesa_engine.specs.EngineState.{EngineState}
 use Rattle.mesa_model.specs.declared.commands.Script.{Script}
 use Rattle.mesa_engine.specs.mesa_history_spec.Rows.{Rows}
 use Rattle.mesa_engine.specs.mesa_invariant_spec.Turns.{Faults, Shown}

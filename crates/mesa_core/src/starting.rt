@@ -8,7 +8,7 @@ ghost use Rattle.mesa_engine.specs.Engine.{most_turns, starts_of};
 ghost use Rattle.mesa_disk.specs.mesa_io.Causes.{last, Rose};
 ghost use Rattle.mesa_session_laws.specs.mesa_history_spec.Legal.{AllFit, fits_sink};
 ghost use Rattle.mesa_session_laws.specs.mesa_history_spec.Run.{begins};
-ghost use Rattle.mesa_engine.specs.mesa_engine_spec.Vault.{outset_of};
+ghost use Rattle.mesa_engine.specs.Vault.{outset_of};
 ghost use Rattle.mesa_engine.specs.Memory.{opened_state};
 ghost use Rattle.mesa_session_laws.specs.Passes.{turns_of as turns_in};
 ghost use Rattle.mesa_engine.specs.mesa_history_spec.Rows.{Rows};

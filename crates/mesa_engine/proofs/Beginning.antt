@@ -4,12 +4,12 @@ use Rattle.mesa_disk.specs.Story.{Story}
 use Rattle.mesa_disk.specs.declared.area.Area.{Area}
 use Rattle.mesa_engine.specs.mesa_catalog.mesa_image_spec.Catalog.{Catalog}
 use Rattle.mesa_engine.specs.mesa_lease.Book.{Book}
-use Rattle.mesa_engine.specs.mesa_engine_spec.mesa_history_spec.Rows.{Rows}
-use Rattle.mesa_engine.specs.mesa_engine_spec.mesa_invariant_spec.Books.{AreBooksOf}
-use Rattle.mesa_engine.proofs.mesa_engine_spec.mesa_invariant_spec.Beginning.{started}
-use Rattle.mesa_engine.specs.mesa_engine_spec.EngineState.{books_of}
-use Rattle.mesa_engine.specs.mesa_engine_spec.Vault.{Starts, IsVault, outset_of}
-use Rattle.mesa_engine.proofs.mesa_engine_spec.Beginning.{first_state, started_vault}
+use Rattle.mesa_engine.specs.mesa_history_spec.Rows.{Rows}
+use Rattle.mesa_engine.specs.mesa_invariant_spec.Books.{AreBooksOf}
+use Rattle.mesa_engine.proofs.mesa_invariant_spec.Beginning.{started}
+use Rattle.mesa_engine.specs.EngineState.{books_of}
+use Rattle.mesa_engine.specs.Vault.{Starts, IsVault, outset_of}
+use Rattle.mesa_engine.proofs.BeforeTurns.{first_state, started_vault}
 use Rattle.mesa_engine.specs.Memory.{opened_state}
 use Rattle.mesa_engine.specs.Beginning.{IsBegun}
 

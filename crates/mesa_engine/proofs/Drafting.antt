@@ -7,9 +7,9 @@ use Rattle.mesa_model.specs.declared.entries.Entry.{Entry}
 use Rattle.mesa_engine.specs.mesa_catalog.mesa_history_spec.Counting.{answers_bench, answers_disk, is_bench_fault}
 use Rattle.mesa_engine.specs.mesa_catalog.mesa_history_spec.Replay.{closes}
 use Rattle.mesa_engine.specs.mesa_catalog.mesa_history_spec.Run.{State}
-use Rattle.mesa_engine.specs.mesa_engine_spec.mesa_invariant_spec.Causes.{Cause, Replies, Unread, Damaged, Unwritten, NoMemory, outcome_of}
-use Rattle.mesa_engine.specs.mesa_engine_spec.mesa_invariant_spec.Turns.{AnswersDraft, Shown}
-use Rattle.mesa_engine.specs.mesa_engine_spec.mesa_invariant_spec.Invariant.{run_at}
+use Rattle.mesa_engine.specs.mesa_invariant_spec.Causes.{Cause, Replies, Unread, Damaged, Unwritten, NoMemory, outcome_of}
+use Rattle.mesa_engine.specs.mesa_invariant_spec.Turns.{AnswersDraft, Shown}
+use Rattle.mesa_engine.specs.mesa_invariant_spec.Invariant.{run_at}
 use Rattle.mesa_engine.specs.Failing.{is_of_device}
 
 right_true : (a b : Bool) → IsTrue (a && b) → IsTrue b

@@ -1,12 +1,28 @@
+pub use Rattle.mesa_image_spec.proofs as mesa_image_spec
+pub use Rattle.mesa_invariant_spec.proofs as mesa_invariant_spec
 pub use Rattle.mesa_catalog.proofs as mesa_catalog
-pub use Rattle.mesa_engine_spec.proofs as mesa_engine_spec
-pub use Rattle.mesa_engine_spec.proofs.mesa_image_spec as mesa_image_spec
-pub use Rattle.mesa_engine_spec.proofs.mesa_invariant_spec as mesa_invariant_spec
+pub use Rattle.mesa_engine.proofs.mesa_image_spec as mesa_image_spec
+pub use Rattle.mesa_engine.proofs.mesa_invariant_spec as mesa_invariant_spec
 pub use Rattle.mesa_commit.proofs as mesa_commit
 pub use Rattle.mesa_engine.proofs.mesa_catalog as mesa_catalog
-pub use Rattle.mesa_engine.proofs.mesa_engine_spec as mesa_engine_spec
-pub use Rattle.mesa_engine.proofs.mesa_invariant_spec as mesa_invariant_spec
 pub use Rattle.mesa_engine.proofs.mesa_invariant_spec.mesa_history_spec as mesa_history_spec
+pub mod Lists
+pub mod Standing
+pub mod Holding
+pub mod Accepting
+pub mod Quiet
+pub mod Filing
+pub mod Renaming
+pub mod RecordedStates
+pub mod BeforeTurns
+pub mod Pins
+pub mod Staying
+pub mod Agreeing
+pub mod Changing
+pub mod Sources
+pub mod Swapping
+pub mod Recasting
+pub mod Writing
 pub mod Indexed
 pub mod Still
 pub mod Mapped

@@ -1,7 +1,7 @@
 -- Who holds files, where only room was made.
 use Rattle.std.proofs.Common.{◌≡◌, ◌≤◌, ◌++◌, length, map, sym, ap, subst, arith}
 use Rattle.std.specs.Prelude.{vec_capacity}
-use Rattle.mesa_engine_spec.specs.Recorded.{hold_of_pin, hold_of_query}
+use Rattle.mesa_engine.specs.Recorded.{hold_of_pin, hold_of_query}
 use Rattle.mesa_engine.specs.declared.holders.Holders.{Holders}
 use Rattle.mesa_engine.specs.Index.{IsIndexOf}
 use Rattle.mesa_engine.specs.Meaning.{AreIndexed, holds_by, pin_as, query_as}

@@ -14,18 +14,18 @@ use Rattle.mesa_engine.proofs.mesa_catalog.mesa_history_spec.Finding.{all_more}
 use Rattle.mesa_engine.proofs.mesa_catalog.mesa_history_spec.Turns.{turn_goes}
 use Rattle.mesa_engine.specs.mesa_catalog.mesa_history_spec.Run.{State, Stage, Told, begins, place_of}
 use Rattle.mesa_engine.specs.mesa_catalog.mesa_history_spec.Turns.{IsDue, place_then}
-use Rattle.mesa_engine.specs.mesa_engine_spec.mesa_history_spec.Output.{block}
+use Rattle.mesa_engine.specs.mesa_history_spec.Output.{block}
 use Rattle.mesa_print.specs.declared.printer.Printer.{Printer}
-use Rattle.mesa_engine.specs.mesa_engine_spec.mesa_history_spec.Rows.{Rows, no_rows}
-use Rattle.mesa_engine.specs.mesa_engine_spec.mesa_invariant_spec.Printing.{IsPut}
-use Rattle.mesa_engine.specs.mesa_engine_spec.mesa_invariant_spec.Turns.{Shown, IsSeen, Takes, entry}
-use Rattle.mesa_engine.specs.mesa_engine_spec.mesa_invariant_spec.Undamaged.{NoneDamaged, is_damaged}
-use Rattle.mesa_engine.specs.mesa_engine_spec.mesa_invariant_spec.Invariant.{Counts, run_at}
+use Rattle.mesa_engine.specs.mesa_history_spec.Rows.{Rows, no_rows}
+use Rattle.mesa_engine.specs.mesa_invariant_spec.Printing.{IsPut}
+use Rattle.mesa_engine.specs.mesa_invariant_spec.Turns.{Shown, IsSeen, Takes, entry}
+use Rattle.mesa_engine.specs.mesa_invariant_spec.Undamaged.{NoneDamaged, is_damaged}
+use Rattle.mesa_engine.specs.mesa_invariant_spec.Invariant.{Counts, run_at}
 use Rattle.mesa_engine.specs.declared.log.Log.{Log}
 use Rattle.mesa_engine.specs.Printing.{GoesOn, PrintsBlock}
 use Rattle.mesa_engine.proofs.Printing.{same_goes}
-use Rattle.mesa_engine.specs.mesa_engine_spec.Vault.{Starts, IsVaultAt, outset_of}
-use Rattle.mesa_engine.proofs.mesa_engine_spec.Beginning.{unmoved_vault}
+use Rattle.mesa_engine.specs.Vault.{Starts, IsVaultAt, outset_of}
+use Rattle.mesa_engine.proofs.BeforeTurns.{unmoved_vault}
 use Rattle.mesa_engine.specs.Memory.{Memory}
 use Rattle.mesa_engine.specs.Engine.{IsEngine}
 

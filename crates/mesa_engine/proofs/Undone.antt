@@ -20,26 +20,26 @@ use Rattle.mesa_model.specs.Load.{load_batch}
 use Rattle.mesa_model.specs.Pins.{make_pin, release_pin}
 use Rattle.mesa_model.specs.Tables.{alter_table, make_table, make_view}
 use Rattle.mesa_model.specs.Versions.{expire_to}
-use Rattle.mesa_engine.specs.mesa_engine_spec.mesa_history_spec.Output.{block}
-use Rattle.mesa_engine.specs.mesa_engine_spec.mesa_history_spec.Rows.{Rows}
-use Rattle.mesa_engine.specs.mesa_engine_spec.mesa_invariant_spec.Books.{Books}
-use Rattle.mesa_engine.specs.mesa_engine_spec.mesa_invariant_spec.Causes.{Cause, Replies, Unread, Damaged, Unwritten, NoMemory, outcome_of, reply_of, told_at, is_read_fault}
-use Rattle.mesa_engine.specs.mesa_engine_spec.mesa_invariant_spec.Changes.{Doing, IsDecided, HasFailed, HasNoPlan, failed_books}
-use Rattle.mesa_engine.specs.mesa_engine_spec.mesa_invariant_spec.Printing.{IsPut}
-use Rattle.mesa_engine.specs.mesa_engine_spec.mesa_invariant_spec.Queries.{HasNoAnswer}
-use Rattle.mesa_engine.specs.mesa_engine_spec.mesa_invariant_spec.Turns.{Shown, IsSeen, Takes, entry, is_simple}
-use Rattle.mesa_engine.specs.mesa_engine_spec.mesa_invariant_spec.Undamaged.{is_damaged}
-use Rattle.mesa_engine.specs.mesa_engine_spec.mesa_invariant_spec.Invariant.{Outset, Counts, KeepsInvariant, run_of}
-use Rattle.mesa_engine.specs.mesa_engine_spec.mesa_invariant_spec.Works.{HasNoClaim}
-use Rattle.mesa_engine.proofs.mesa_engine_spec.mesa_invariant_spec.Asking.{unpinned_turn, unpinned_ends}
-use Rattle.mesa_engine.proofs.mesa_engine_spec.mesa_invariant_spec.Changing.{alter_decided, expire_decided, load_decided, pin_decided, release_decided, table_decided, view_decided, fails_turn}
-use Rattle.mesa_engine.proofs.mesa_engine_spec.mesa_invariant_spec.Going.{publish_takes, simple_takes, takes_as}
-use Rattle.mesa_engine.proofs.mesa_engine_spec.mesa_invariant_spec.Reading.{unexplained_turn}
-use Rattle.mesa_engine.proofs.mesa_engine_spec.mesa_invariant_spec.Turning.{stays, counts_same, skipped_turn}
-use Rattle.mesa_engine.proofs.mesa_engine_spec.mesa_invariant_spec.Working.{ungranted_turn, ungranted_ends}
-use Rattle.mesa_engine.specs.mesa_engine_spec.EngineState.{EngineState, books_of}
-use Rattle.mesa_engine.specs.mesa_engine_spec.Vault.{Origin, IsVault}
-use Rattle.mesa_engine.proofs.mesa_engine_spec.Staying.{still_vault}
+use Rattle.mesa_engine.specs.mesa_history_spec.Output.{block}
+use Rattle.mesa_engine.specs.mesa_history_spec.Rows.{Rows}
+use Rattle.mesa_engine.specs.mesa_invariant_spec.Books.{Books}
+use Rattle.mesa_engine.specs.mesa_invariant_spec.Causes.{Cause, Replies, Unread, Damaged, Unwritten, NoMemory, outcome_of, reply_of, told_at, is_read_fault}
+use Rattle.mesa_engine.specs.mesa_invariant_spec.Changes.{Doing, IsDecided, HasFailed, HasNoPlan, failed_books}
+use Rattle.mesa_engine.specs.mesa_invariant_spec.Printing.{IsPut}
+use Rattle.mesa_engine.specs.mesa_invariant_spec.Queries.{HasNoAnswer}
+use Rattle.mesa_engine.specs.mesa_invariant_spec.Turns.{Shown, IsSeen, Takes, entry, is_simple}
+use Rattle.mesa_engine.specs.mesa_invariant_spec.Undamaged.{is_damaged}
+use Rattle.mesa_engine.specs.mesa_invariant_spec.Invariant.{Outset, Counts, KeepsInvariant, run_of}
+use Rattle.mesa_engine.specs.mesa_invariant_spec.Works.{HasNoClaim}
+use Rattle.mesa_engine.proofs.mesa_invariant_spec.Asking.{unpinned_turn, unpinned_ends}
+use Rattle.mesa_engine.proofs.mesa_invariant_spec.Changing.{alter_decided, expire_decided, load_decided, pin_decided, release_decided, table_decided, view_decided, fails_turn}
+use Rattle.mesa_engine.proofs.mesa_invariant_spec.Going.{publish_takes, simple_takes, takes_as}
+use Rattle.mesa_engine.proofs.mesa_invariant_spec.Reading.{unexplained_turn}
+use Rattle.mesa_engine.proofs.mesa_invariant_spec.Turning.{stays, counts_same, skipped_turn}
+use Rattle.mesa_engine.proofs.mesa_invariant_spec.Working.{ungranted_turn, ungranted_ends}
+use Rattle.mesa_engine.specs.EngineState.{EngineState, books_of}
+use Rattle.mesa_engine.specs.Vault.{Origin, IsVault}
+use Rattle.mesa_engine.proofs.Staying.{still_vault}
 use Rattle.mesa_engine.specs.Failing.{HasNotDone, is_of_device, deciding_stage, deciding_kind}
 
 -- ---- causes hang on no rows

@@ -9,16 +9,16 @@ use Rattle.mesa_engine.specs.mesa_catalog.mesa_image_spec.Catalog.{Catalog}
 use Rattle.mesa_engine.specs.mesa_catalog.mesa_image_spec.Held.{IsHeld}
 use Rattle.mesa_engine.specs.mesa_catalog.mesa_image_spec.Shape.{IsCatalog}
 use Rattle.mesa_engine.specs.mesa_catalog.mesa_image_spec.Sound.{AreStocked}
-use Rattle.mesa_engine.specs.mesa_engine_spec.mesa_image_spec.Countable.{AreCounted}
-use Rattle.mesa_engine.specs.mesa_engine_spec.mesa_image_spec.Ids.{HasOwnIds, named}
-use Rattle.mesa_engine.specs.mesa_engine_spec.mesa_image_spec.Recordable.{AreRecordable}
-use Rattle.mesa_engine.specs.mesa_engine_spec.mesa_image_spec.Sourced.{HasSources}
-use Rattle.mesa_engine.specs.mesa_engine_spec.mesa_history_spec.Rows.{Rows}
-use Rattle.mesa_engine.specs.mesa_engine_spec.mesa_commit.Holding.{Among}
-use Rattle.mesa_engine.specs.mesa_engine_spec.mesa_invariant_spec.Books.{AreBooksOf}
-use Rattle.mesa_engine.specs.mesa_engine_spec.mesa_invariant_spec.Invariant.{AllFound}
-use Rattle.mesa_engine.specs.mesa_engine_spec.EngineState.{books_of, first_id}
-use Rattle.mesa_engine.specs.mesa_engine_spec.Vault.{Starts, IsRead, IsReady, outset_of}
+use Rattle.mesa_engine.specs.mesa_image_spec.Countable.{AreCounted}
+use Rattle.mesa_engine.specs.mesa_image_spec.Ids.{HasOwnIds, named}
+use Rattle.mesa_engine.specs.mesa_image_spec.Recordable.{AreRecordable}
+use Rattle.mesa_engine.specs.mesa_image_spec.Sourced.{HasSources}
+use Rattle.mesa_engine.specs.mesa_history_spec.Rows.{Rows}
+use Rattle.mesa_engine.specs.mesa_commit.Holding.{Among}
+use Rattle.mesa_engine.specs.mesa_invariant_spec.Books.{AreBooksOf}
+use Rattle.mesa_engine.specs.mesa_invariant_spec.Invariant.{AllFound}
+use Rattle.mesa_engine.specs.EngineState.{books_of, first_id}
+use Rattle.mesa_engine.specs.Vault.{Starts, IsRead, IsReady, outset_of}
 use Rattle.mesa_engine.specs.mesa_catalog.Lookups.{generation_of}
 use Rattle.mesa_engine.specs.Memory.{opened_state}
 

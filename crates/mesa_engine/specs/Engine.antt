@@ -6,12 +6,12 @@ use Rattle.mesa_disk.specs.Image.{Image}
 use Rattle.mesa_disk.specs.Story.{Story}
 use Rattle.mesa_model.specs.declared.commands.Script.{Script}
 use Rattle.mesa_engine.specs.mesa_catalog.mesa_history_spec.Run.{State}
-use Rattle.mesa_engine.specs.mesa_engine_spec.mesa_history_spec.Rows.{Rows}
-use Rattle.mesa_engine.specs.mesa_engine_spec.mesa_invariant_spec.Turns.{Faults, Shown}
-use Rattle.mesa_engine.specs.mesa_engine_spec.mesa_invariant_spec.Undamaged.{NoneDamaged}
+use Rattle.mesa_engine.specs.mesa_history_spec.Rows.{Rows}
+use Rattle.mesa_engine.specs.mesa_invariant_spec.Turns.{Faults, Shown}
+use Rattle.mesa_engine.specs.mesa_invariant_spec.Undamaged.{NoneDamaged}
 use Rattle.mesa_engine.specs.declared.log.Log.{Log}
-use Rattle.mesa_engine.specs.mesa_engine_spec.EngineState.{EngineState}
-use Rattle.mesa_engine.specs.mesa_engine_spec.Vault.{Origin, Starts, IsVaultAt}
+use Rattle.mesa_engine.specs.EngineState.{EngineState}
+use Rattle.mesa_engine.specs.Vault.{Origin, Starts, IsVaultAt}
 use Rattle.mesa_engine.specs.Memory.{Memory}
 
 -- a run as the parts of its name tell it

@@ -13,11 +13,11 @@ use Rattle.mesa_engine.specs.mesa_catalog.mesa_history_spec.Machine.{claim_of, r
 use Rattle.mesa_engine.specs.mesa_catalog.mesa_history_spec.Run.{Stage, First, Looked, Run}
 use Rattle.mesa_engine.specs.mesa_catalog.mesa_history_spec.Legal.{is_due_at}
 use Rattle.mesa_engine.specs.mesa_catalog.mesa_history_spec.Turns.{IsDue}
-use Rattle.mesa_engine.specs.mesa_engine_spec.mesa_invariant_spec.Books.{Books}
-use Rattle.mesa_engine.specs.mesa_engine_spec.mesa_invariant_spec.Causes.{Cause, Unread, Damaged, Unwritten}
-use Rattle.mesa_engine.specs.mesa_engine_spec.mesa_invariant_spec.Changes.{HasFailed, HasNoPlan}
-use Rattle.mesa_engine.specs.mesa_engine_spec.mesa_invariant_spec.Queries.{HasNoAnswer}
-use Rattle.mesa_engine.specs.mesa_engine_spec.mesa_invariant_spec.Works.{HasNoClaim}
+use Rattle.mesa_engine.specs.mesa_invariant_spec.Books.{Books}
+use Rattle.mesa_engine.specs.mesa_invariant_spec.Causes.{Cause, Unread, Damaged, Unwritten}
+use Rattle.mesa_engine.specs.mesa_invariant_spec.Changes.{HasFailed, HasNoPlan}
+use Rattle.mesa_engine.specs.mesa_invariant_spec.Queries.{HasNoAnswer}
+use Rattle.mesa_engine.specs.mesa_invariant_spec.Works.{HasNoClaim}
 
 -- A turn of this kind is due to a session's command.
 pub record Comes (script : Script) (r : Run) (session number : ℕ) (k : Kind) : Type 0 where

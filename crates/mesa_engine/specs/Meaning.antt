@@ -6,8 +6,8 @@ use Rattle.mesa_record.specs.declared.record.Record.{Record}
 use Rattle.mesa_catalog.specs.mesa_image_spec.Fitting.{fits}
 use Rattle.mesa_commit.specs.declared.trash.Dropped.{Dropped}
 use Rattle.mesa_catalog.specs.Kept.{Reserved}
-use Rattle.mesa_engine_spec.specs.EngineState.{HeldPin, OpenQuery}
-use Rattle.mesa_engine_spec.specs.Recorded.{hold_of_pin, hold_of_query}
+use Rattle.mesa_engine.specs.EngineState.{HeldPin, OpenQuery}
+use Rattle.mesa_engine.specs.Recorded.{hold_of_pin, hold_of_query}
 use Rattle.mesa_engine.specs.declared.holders.Pin.{Pin}
 use Rattle.mesa_engine.specs.declared.holders.Query.{Query}
 use Rattle.mesa_engine.specs.declared.holders.Holders.{Holders}

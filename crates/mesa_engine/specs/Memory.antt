@@ -2,13 +2,13 @@
 use Rattle.std.specs.Prelude.{◌≡◌, ℕ, ◌≤◌, [], not, ◌==◌, Bool, Option, None, Some}
 use Rattle.mesa_disk.specs.declared.area.Area.{Area}
 use Rattle.mesa_lease.specs.Book.{Book, begun}
-use Rattle.mesa_engine_spec.specs.mesa_model.Warehouse.{max_tables}
+use Rattle.mesa_engine.specs.mesa_model.Warehouse.{max_tables}
 use Rattle.mesa_record.specs.declared.record.Record.{Record}
 use Rattle.mesa_catalog.specs.mesa_image_spec.Catalog.{Catalog}
 use Rattle.mesa_commit.specs.declared.trash.Hold.{Hold}
 use Rattle.mesa_catalog.specs.Lookups.{generation_of}
-use Rattle.mesa_engine_spec.specs.EngineState.{OpenQuery, EngineState, next_id}
-use Rattle.mesa_engine_spec.specs.Turned.{leased_state}
+use Rattle.mesa_engine.specs.EngineState.{OpenQuery, EngineState, next_id}
+use Rattle.mesa_engine.specs.Turned.{leased_state}
 
 -- A record for which there is room, and how many files it may drop.
 pub record Readied : Type 0 where

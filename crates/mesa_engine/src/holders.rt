@@ -1,7 +1,7 @@
 // Who holds files: the pins, and the queries that are being answered.
 ghost use Rattle.std.specs.Prelude.{◌≡◌, ◌+◌, ◌≤◌, ◌++◌, ◌&&◌, ◌==◌, filter, find, length, map, not, option_map, vec_capacity, vec_len, OnErr, OnOk, [], ◌∷◌};
 ghost use Rattle.mesa_commit.specs.Holding.{is_held as is_held_by};
-ghost use Rattle.mesa_engine_spec.specs.Turned.{is_held_pin};
+ghost use Rattle.mesa_engine.specs.Turned.{is_held_pin};
 ghost use Rattle.mesa_engine.specs.declared.holders.Pin.{Pin as Held};
 ghost use Rattle.mesa_engine.specs.declared.holders.Query.{Query as Asked};
 ghost use Rattle.mesa_engine.specs.Meaning.{AreIndexed, HasRoom, holds_by, pin_as, pins_in, queries_in, query_as};

@@ -1,7 +1,7 @@
 // Leases, and the end of a vault's work.
 ghost use Rattle.std.specs.Prelude.{◌≡◌, ◌+◌, ◌<◌, ◌≤◌, ◌^◌, IsTrue, IfOk, IfErr, OnErr, OnOk, None};
 ghost use Rattle.mesa_lease.specs.Book.{ended, granted, holder, is_held, IsLost, renewed};
-ghost use Rattle.mesa_engine_spec.specs.Turned.{shut_state, leased_state};
+ghost use Rattle.mesa_engine.specs.Turned.{shut_state, leased_state};
 ghost use Rattle.mesa_engine.specs.Memory.{with_leases, with_state};
 
 use crate::Metadata;

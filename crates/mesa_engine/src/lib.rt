@@ -5,6 +5,9 @@
 //! What a vault has in its memory beside its disk and its history: the catalogue, the pins and the open queries with the files that they hold, the files that wait to be removed, and the leases.
 //!
 //! Each call does to it what a turn does to the state. A call that has no answer for want of memory takes none.
+//!
+//! The state: what a vault has in its memory and on its disk between turns. A run is named by its
+//! script, its start and its origin, which the rows of the files complete.
 #![tactic(auto)]
 
 mod counts;
@@ -16,6 +19,7 @@ mod index;
 mod leasing;
 mod log;
 mod metadata;
+mod naming;
 mod pinning;
 mod recording;
 mod starting;
@@ -28,5 +32,5 @@ pub use log::Log;
 pub use who::Who;
 pub use holders::Pin;
 pub use mesa_catalog::{Begun, Catalog};
-pub use mesa_engine_spec::Naming;
 pub use metadata::Metadata;
+pub use naming::Naming;

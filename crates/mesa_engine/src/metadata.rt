@@ -2,8 +2,8 @@
 ghost use Rattle.std.specs.Prelude.{◌≡◌, ◌+◌, ◌<◌, ◌≤◌, ◌^◌, find, length, option_map, None};
 ghost use Rattle.mesa_catalog.specs.Lookups.{generation_of};
 ghost use Rattle.mesa_lease.specs.Book.{holder};
-ghost use Rattle.mesa_engine_spec.specs.EngineState.{next_id};
-ghost use Rattle.mesa_engine_spec.specs.Turned.{is_held_pin};
+ghost use Rattle.mesa_engine.specs.EngineState.{next_id};
+ghost use Rattle.mesa_engine.specs.Turned.{is_held_pin};
 ghost use Rattle.mesa_engine.specs.Meaning.{pin_as};
 ghost use Rattle.mesa_engine.specs.Memory.{opened_state};
 

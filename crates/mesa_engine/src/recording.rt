@@ -3,7 +3,7 @@ ghost use Rattle.std.specs.Prelude.{◌≡◌, ◌+◌, ◌<◌, ◌^◌, length
 ghost use Rattle.mesa_catalog.specs.mesa_image_spec.Catalog.{applied};
 ghost use Rattle.mesa_catalog.specs.mesa_image_spec.Fitting.{fits};
 ghost use Rattle.mesa_catalog.specs.Lookups.{generation_of, turns_generation};
-ghost use Rattle.mesa_engine_spec.specs.Recorded.{failed_state, left_by, recorded_state, removed_by};
+ghost use Rattle.mesa_engine.specs.Recorded.{failed_state, left_by, recorded_state, removed_by};
 ghost use Rattle.mesa_engine.specs.Memory.{HasRoomFor, with_state};
 
 use crate::Metadata;

@@ -17,7 +17,7 @@ use Rattle.mesa_model.specs.declared.replies.Refusal.TheVariants.{SumBound}
 use Rattle.mesa_catalog.specs.mesa_image_spec.Catalog.{Catalog, Stock, stock_at}
 use Rattle.mesa_catalog.specs.mesa_image_spec.Shape.{IsShaped}
 use Rattle.mesa_catalog.specs.Lookups.{known_as}
-use Rattle.mesa_engine.specs.mesa_engine_spec.EngineState.{projection_of}
+use Rattle.mesa_engine.specs.EngineState.{projection_of}
 use Rattle.mesa_tasks.specs.Batches.{AreParts, HasFiles, Share, is_over, share_of, shares_from}
 use Rattle.mesa_tasks.specs.declared.made.MadeFiles.{MadeFiles}
 use Rattle.mesa_tasks.specs.declared.prepared.PreparedPart.{PreparedPart}

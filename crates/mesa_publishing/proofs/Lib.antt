@@ -1,5 +1,5 @@
 pub use Rattle.mesa_copy.proofs as mesa_copy
-pub use Rattle.mesa_engine.proofs.mesa_engine_spec as mesa_engine_spec
+pub use Rattle.mesa_engine.proofs as mesa_engine
 pub use Rattle.mesa_catalog.proofs.mesa_history_spec as mesa_history_spec
 pub use Rattle.mesa_model.proofs as mesa_model
 pub use Rattle.mesa_plans.proofs as mesa_plans

@@ -20,7 +20,7 @@ use Rattle.mesa_engine.specs.mesa_image_spec.Countable.{AreCounted, IsCounted}
 use Rattle.mesa_engine.specs.mesa_image_spec.Recordable.{AreRecordable, IsRecordable}
 use Rattle.mesa_engine.specs.mesa_image_spec.Rewritten.{AreCovered, Covers, IsCoveredAt, Rewritten, base_rewritten, recasting_of, singles_rewritten, CountsRange, IsRewritten, IsRuled}
 use Rattle.mesa_engine.proofs.mesa_image_spec.Lists.{stock_found}
-use Rattle.mesa_engine.specs.mesa_engine_spec.EngineState.{EngineState, next_id, first_id, most_files}
+use Rattle.mesa_engine.specs.EngineState.{EngineState, next_id, first_id, most_files}
 use Rattle.mesa_record.specs.declared.record.Record.TheVariants as record_of
 use Rattle.mesa_table.specs.Meaning.{AreLoaded, singles_from}
 use Rattle.mesa_table.specs.declared.table.Loaded.{Loaded}

@@ -24,7 +24,7 @@ use Rattle.mesa_tasks.specs.mesa_history_spec.Sources.{Source, Written, range_ro
 use Rattle.mesa_engine.proofs.mesa_image_spec.Lists.{stock_found}
 use Rattle.mesa_tasks.specs.declared.merging.NewDelta.{NewDelta}
 use Rattle.mesa_tasks.specs.declared.merging.Task.{Task}
-use Rattle.mesa_engine.specs.mesa_engine_spec.EngineState.{EngineState, first_id, most_files, next_id}
+use Rattle.mesa_engine.specs.EngineState.{EngineState, first_id, most_files, next_id}
 use Rattle.mesa_publishing.specs.Adopted.{files_if_any, told_under}
 use Rattle.mesa_publishing.specs.Published.{rows_with}
 use Rattle.mesa_publishing.proofs.Ids.{new_ids, rows_stand, rows_stay, under_distinct, under_given, under_ids}

@@ -17,7 +17,7 @@ use Rattle.mesa_engine.specs.mesa_image_spec.Shape.{IsCatalog}
 use Rattle.mesa_engine.specs.mesa_image_spec.Countable.{AreCounted}
 use Rattle.mesa_engine.specs.mesa_image_spec.Ids.{named}
 use Rattle.mesa_engine.specs.mesa_image_spec.Recordable.{AreRecordable}
-use Rattle.mesa_engine.specs.mesa_engine_spec.EngineState.{EngineState, most_files, next_id}
+use Rattle.mesa_engine.specs.EngineState.{EngineState, most_files, next_id}
 use Rattle.mesa_plans.specs.Ranges.{HoldsAll}
 use Rattle.mesa_table.specs.Meaning.{AreLoaded, IsTable, ending_of, singles_from, start_of_base, stock_of}
 use Rattle.mesa_table.specs.declared.table.Base.{Base}

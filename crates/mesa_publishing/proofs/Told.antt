@@ -34,8 +34,8 @@ use Rattle.mesa_catalog.specs.mesa_image_spec.Brought.{AreTold}
 use Rattle.mesa_catalog.specs.mesa_image_spec.Ids.{brought_ids, named}
 use Rattle.mesa_catalog.specs.mesa_image_spec.Sourced.{tables_read}
 use Rattle.mesa_catalog.specs.Lookups.{known_as, sight_of}
-use Rattle.mesa_engine.specs.mesa_engine_spec.EngineState.{EngineState, first_id, most_files, next_id, projection_of}
-use Rattle.mesa_engine.proofs.mesa_engine_spec.Changing.{tables_are}
+use Rattle.mesa_engine.specs.EngineState.{EngineState, first_id, most_files, next_id, projection_of}
+use Rattle.mesa_engine.proofs.Changing.{tables_are}
 use Rattle.mesa_tasks.specs.Batches.{AreParts, IsPrepared, is_over, shares, shares_from}
 use Rattle.mesa_tasks.specs.declared.made.MadeFile.{MadeFile}
 use Rattle.mesa_tasks.specs.declared.prepared.Prepared.{Prepared}

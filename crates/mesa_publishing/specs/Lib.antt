@@ -2,7 +2,7 @@ pub use Rattle.mesa_batch.specs as mesa_batch
 pub use Rattle.mesa_engine.specs.mesa_commit as mesa_commit
 pub use Rattle.mesa_copy.specs.mesa_compact as mesa_compact
 pub use Rattle.mesa_copy.specs as mesa_copy
-pub use Rattle.mesa_engine.specs.mesa_engine_spec as mesa_engine_spec
+pub use Rattle.mesa_engine.specs as mesa_engine
 pub use Rattle.mesa_model.specs.mesa_filter as mesa_filter
 pub use Rattle.mesa_tasks.specs.mesa_history_spec as mesa_history_spec
 pub use Rattle.mesa_engine.specs.mesa_invariant_spec as mesa_invariant_spec

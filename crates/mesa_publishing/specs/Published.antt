@@ -24,8 +24,8 @@ use Rattle.mesa_catalog.specs.mesa_image_spec.Ids.{brought_ids}
 use Rattle.mesa_catalog.specs.Lookups.{sight_of}
 use Rattle.mesa_engine.specs.mesa_history_spec.Rows.{no_rows}
 use Rattle.mesa_tasks.specs.Batches.{Share, shares}
-use Rattle.mesa_engine.specs.mesa_engine_spec.EngineState.{EngineState, books_of, next_id}
-use Rattle.mesa_engine.specs.mesa_engine_spec.Recorded.{Adopts}
+use Rattle.mesa_engine.specs.EngineState.{EngineState, books_of, next_id}
+use Rattle.mesa_engine.specs.Recorded.{Adopts}
 use Rattle.mesa_publishing.specs.declared.publishing.Published.{Published}
 
 -- ---- the rows that a batch brings

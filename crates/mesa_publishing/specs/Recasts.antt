@@ -18,8 +18,8 @@ use Rattle.mesa_engine.specs.mesa_image_spec.Sound.{wants}
 use Rattle.mesa_engine.specs.mesa_image_spec.Brought.{AreTold}
 use Rattle.mesa_engine.specs.mesa_image_spec.Ids.{brought_ids}
 use Rattle.mesa_engine.specs.mesa_image_spec.Rewritten.{Covers, IsRewritten, Rewritten, recasting_of}
-use Rattle.mesa_engine.specs.mesa_engine_spec.EngineState.{EngineState, next_id}
-use Rattle.mesa_engine.specs.mesa_engine_spec.Recorded.{Adopts}
+use Rattle.mesa_engine.specs.EngineState.{EngineState, next_id}
+use Rattle.mesa_engine.specs.Recorded.{Adopts}
 use Rattle.mesa_tasks.specs.mesa_history_spec.Sources.{Source, Written, range_rows, sources_from}
 use Rattle.mesa_tasks.specs.Inputs.{IsMergeOf}
 use Rattle.mesa_tasks.specs.Recasts.{own, recast_in, recast_table}

@@ -19,8 +19,8 @@ use Rattle.mesa_engine.specs.mesa_image_spec.Sourced.{IsMergedOf}
 use Rattle.mesa_tasks.specs.mesa_history_spec.Sources.{Written}
 use Rattle.mesa_tasks.specs.declared.made.MadeFiles.{MadeFiles}
 use Rattle.mesa_tasks.specs.declared.merging.Task.{Task}
-use Rattle.mesa_engine.specs.mesa_engine_spec.EngineState.{EngineState, next_id}
-use Rattle.mesa_engine.specs.mesa_engine_spec.Recorded.{Adopts}
+use Rattle.mesa_engine.specs.EngineState.{EngineState, next_id}
+use Rattle.mesa_engine.specs.Recorded.{Adopts}
 use Rattle.mesa_publishing.specs.Adopted.{files_under}
 use Rattle.mesa_publishing.specs.Published.{AllTell, rows_with}
 use Rattle.mesa_publishing.specs.declared.swapping.Swapped.{Swapped}

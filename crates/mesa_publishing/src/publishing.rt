@@ -12,7 +12,7 @@ ghost use Rattle.mesa_catalog.specs.mesa_image_spec.Ids.{named};
 ghost use Rattle.mesa_catalog.specs.mesa_image_spec.Sourced.{tables_read};
 ghost use Rattle.mesa_catalog.specs.Lookups.{sight_of};
 ghost use Rattle.mesa_tasks.specs.Batches.{IsPrepared};
-ghost use Rattle.mesa_engine.specs.mesa_engine_spec.EngineState.{most_files, next_id};
+ghost use Rattle.mesa_engine.specs.EngineState.{most_files, next_id};
 ghost use Rattle.mesa_publishing.specs.Bounds.{IsDue};
 ghost use Rattle.mesa_publishing.specs.Published.{IsLoaded, IsPublished, bare_of};
 

@@ -7,7 +7,7 @@ ghost use Rattle.mesa_engine.specs.mesa_image_spec.Shape.{IsCatalog};
 ghost use Rattle.mesa_engine.specs.mesa_image_spec.Countable.{AreCounted};
 ghost use Rattle.mesa_engine.specs.mesa_image_spec.Ids.{named};
 ghost use Rattle.mesa_engine.specs.mesa_image_spec.Recordable.{AreRecordable};
-ghost use Rattle.mesa_engine.specs.mesa_engine_spec.EngineState.{most_files, next_id};
+ghost use Rattle.mesa_engine.specs.EngineState.{most_files, next_id};
 ghost use Rattle.mesa_publishing.specs.Adopted.{ref_under, told_under};
 ghost use Rattle.mesa_schema.specs.Recasts.{recast_checked};
 ghost use Rattle.mesa_table.specs.Meaning.{AreLoaded, ending_of};

@@ -8,7 +8,7 @@ ghost use Rattle.mesa_engine.specs.mesa_commit.Holding.{Among};
 ghost use Rattle.mesa_engine.specs.mesa_image_spec.Catalog.{ranges_of};
 ghost use Rattle.mesa_engine.specs.mesa_image_spec.Shape.{IsCatalog};
 ghost use Rattle.mesa_engine.specs.mesa_image_spec.Ids.{named};
-ghost use Rattle.mesa_engine.specs.mesa_engine_spec.EngineState.{most_files, next_id};
+ghost use Rattle.mesa_engine.specs.EngineState.{most_files, next_id};
 ghost use Rattle.mesa_publishing.specs.Adopted.{files_if_any, told_under};
 ghost use Rattle.mesa_publishing.specs.Finished.{IsFinished};
 ghost use Rattle.mesa_publishing.specs.Swapped.{IsSwapped, files_under_if_any, swap_of, table_in};

@@ -15,10 +15,10 @@ use Rattle.mesa_disk.specs.mesa_io.Causes.{last, Rose}
 use Rattle.mesa_engine.specs.mesa_history_spec.Counting.{answers_disk}
 use Rattle.mesa_engine.specs.mesa_history_spec.Replay.{is_skip}
 use Rattle.mesa_engine.specs.mesa_history_spec.Run.{State, Finished}
-use Rattle.mesa_engine.proofs.mesa_engine_spec.Staying.{answered_vault}
-use Rattle.mesa_engine.specs.mesa_engine_spec.EngineState.{EngineState, books_of}
-use Rattle.mesa_engine.specs.mesa_engine_spec.Turned.{answered_state}
-use Rattle.mesa_engine.specs.mesa_engine_spec.Vault.{Origin, Starts, IsVault, outset_of}
+use Rattle.mesa_engine.proofs.Staying.{answered_vault}
+use Rattle.mesa_engine.specs.EngineState.{EngineState, books_of}
+use Rattle.mesa_engine.specs.Turned.{answered_state}
+use Rattle.mesa_engine.specs.Vault.{Origin, Starts, IsVault, outset_of}
 use Rattle.mesa_engine.proofs.Printing.{page_block}
 use Rattle.mesa_engine.specs.Printing.{GoesOn}
 use Rattle.mesa_engine.specs.declared.log.Log.{Log}
@@ -32,14 +32,14 @@ use Rattle.mesa_engine.specs.mesa_history_spec.Output.{block}
 use Rattle.mesa_script.specs.declared.rendered.Rendered.{Rendered}
 use Rattle.mesa_engine.specs.mesa_history_spec.Rows.{Rows}
 use Rattle.mesa_tasks.specs.GivingBack.{GivesBack, SomeFailed}
-use Rattle.mesa_engine.proofs.mesa_engine_spec.mesa_invariant_spec.Asking.{close_turn}
-use Rattle.mesa_engine.proofs.mesa_engine_spec.mesa_invariant_spec.Going.{close_takes}
-use Rattle.mesa_engine.specs.mesa_engine_spec.mesa_invariant_spec.Causes.{Cause}
-use Rattle.mesa_engine.specs.mesa_engine_spec.mesa_invariant_spec.Printing.{IsPut}
-use Rattle.mesa_engine.specs.mesa_engine_spec.mesa_invariant_spec.Queries.{ClosesWith, MayClose, closing_fault, closing_outcome, closing_told}
-use Rattle.mesa_engine.specs.mesa_engine_spec.mesa_invariant_spec.Turns.{Shown, IsSeen, Takes, entry}
-use Rattle.mesa_engine.specs.mesa_engine_spec.mesa_invariant_spec.Undamaged.{is_damaged}
-use Rattle.mesa_engine.specs.mesa_engine_spec.mesa_invariant_spec.Invariant.{Outset, Counts, run_at, run_of}
+use Rattle.mesa_engine.proofs.mesa_invariant_spec.Asking.{close_turn}
+use Rattle.mesa_engine.proofs.mesa_invariant_spec.Going.{close_takes}
+use Rattle.mesa_engine.specs.mesa_invariant_spec.Causes.{Cause}
+use Rattle.mesa_engine.specs.mesa_invariant_spec.Printing.{IsPut}
+use Rattle.mesa_engine.specs.mesa_invariant_spec.Queries.{ClosesWith, MayClose, closing_fault, closing_outcome, closing_told}
+use Rattle.mesa_engine.specs.mesa_invariant_spec.Turns.{Shown, IsSeen, Takes, entry}
+use Rattle.mesa_engine.specs.mesa_invariant_spec.Undamaged.{is_damaged}
+use Rattle.mesa_engine.specs.mesa_invariant_spec.Invariant.{Outset, Counts, run_at, run_of}
 
 -- a reader that has failed is counted
 some_counted : {R : Type 0} (faults : R → ℕ) (old new : ℕ) (inputs : List (Input R)) → AllByRecursion (λ (i : Input R). 0 < faults (reader_in i) → Rose old new) inputs → SomeFailed faults inputs → Rose old new

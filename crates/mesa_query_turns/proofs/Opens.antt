@@ -21,9 +21,9 @@ use Rattle.mesa_filter.specs.declared.words.VersionWord.TheVariants as asks
 use Rattle.mesa_engine.specs.mesa_history_spec.Refused.{is_refusal}
 use Rattle.mesa_engine.specs.mesa_history_spec.Run.{First, Answered, Finished, Place}
 use Rattle.mesa_engine.specs.mesa_history_spec.Turns.{IsDue}
-use Rattle.mesa_engine.proofs.mesa_engine_spec.Staying.{queried_vault, still_vault}
-use Rattle.mesa_engine.specs.mesa_engine_spec.EngineState.{EngineState, books_of}
-use Rattle.mesa_engine.specs.mesa_engine_spec.Vault.{Origin, Starts, IsVault, outset_of}
+use Rattle.mesa_engine.proofs.Staying.{queried_vault, still_vault}
+use Rattle.mesa_engine.specs.EngineState.{EngineState, books_of}
+use Rattle.mesa_engine.specs.Vault.{Origin, Starts, IsVault, outset_of}
 use Rattle.mesa_engine.specs.Printing.{PrintsBlock}
 use Rattle.mesa_engine.specs.declared.log.Log.{Log}
 use Rattle.mesa_engine.specs.Memory.{Memory, hold_now, with_state}
@@ -35,14 +35,14 @@ use Rattle.mesa_model.specs.declared.entries.Outcome.TheVariants as outcome
 use Rattle.mesa_engine.specs.mesa_history_spec.Output.{block}
 use Rattle.mesa_engine.specs.mesa_history_spec.Rows.{Rows, no_rows}
 use Rattle.mesa_tasks.specs.Opening.{Counted}
-use Rattle.mesa_engine.proofs.mesa_engine_spec.mesa_invariant_spec.Asking.{pinned_open, pinned_turn, unpinned_ends, unpinned_turn}
-use Rattle.mesa_engine.proofs.mesa_engine_spec.mesa_invariant_spec.Going.{takes_as}
-use Rattle.mesa_engine.specs.mesa_engine_spec.mesa_invariant_spec.Causes.{Cause, Replies, Unread, Damaged, Unwritten, NoMemory, is_read_fault, outcome_of, reply_of, told_at}
-use Rattle.mesa_engine.specs.mesa_engine_spec.mesa_invariant_spec.Printing.{IsPut}
-use Rattle.mesa_engine.specs.mesa_engine_spec.mesa_invariant_spec.Queries.{HasNoAnswer, IsOpenFrom, IsPinned, IsUnanswered}
-use Rattle.mesa_engine.specs.mesa_engine_spec.mesa_invariant_spec.Turns.{Shown, IsSeen, Takes, entry}
-use Rattle.mesa_engine.specs.mesa_engine_spec.mesa_invariant_spec.Undamaged.{is_damaged}
-use Rattle.mesa_engine.specs.mesa_engine_spec.mesa_invariant_spec.Invariant.{Outset, Counts, KeepsInvariant, run_at, run_of}
+use Rattle.mesa_engine.proofs.mesa_invariant_spec.Asking.{pinned_open, pinned_turn, unpinned_ends, unpinned_turn}
+use Rattle.mesa_engine.proofs.mesa_invariant_spec.Going.{takes_as}
+use Rattle.mesa_engine.specs.mesa_invariant_spec.Causes.{Cause, Replies, Unread, Damaged, Unwritten, NoMemory, is_read_fault, outcome_of, reply_of, told_at}
+use Rattle.mesa_engine.specs.mesa_invariant_spec.Printing.{IsPut}
+use Rattle.mesa_engine.specs.mesa_invariant_spec.Queries.{HasNoAnswer, IsOpenFrom, IsPinned, IsUnanswered}
+use Rattle.mesa_engine.specs.mesa_invariant_spec.Turns.{Shown, IsSeen, Takes, entry}
+use Rattle.mesa_engine.specs.mesa_invariant_spec.Undamaged.{is_damaged}
+use Rattle.mesa_engine.specs.mesa_invariant_spec.Invariant.{Outset, Counts, KeepsInvariant, run_at, run_of}
 
 -- ---- why a query isn't answered
 

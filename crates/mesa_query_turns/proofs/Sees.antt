@@ -9,8 +9,8 @@ use Rattle.mesa_filter.specs.declared.words.QueryWords.{QueryWords}
 use Rattle.mesa_filter.specs.declared.words.VersionWord.{VersionWord}
 use Rattle.mesa_filter.specs.declared.words.VersionWord.TheVariants as asks
 use Rattle.mesa_engine.specs.mesa_catalog.mesa_image_spec.Catalog.{Catalog}
-use Rattle.mesa_engine.specs.mesa_engine_spec.EngineState.{HeldPin, EngineState, bare_held, books_of, projection_at, projection_of, projections, projections_at}
-use Rattle.mesa_engine.specs.mesa_engine_spec.Turned.{is_held_pin}
+use Rattle.mesa_engine.specs.EngineState.{HeldPin, EngineState, bare_held, books_of, projection_at, projection_of, projections, projections_at}
+use Rattle.mesa_engine.specs.Turned.{is_held_pin}
 use Rattle.mesa_plans.specs.mesa_list.Checks.{◌>>=◌, ◌>>◌}
 use Rattle.mesa_model.specs.Pins.{is_pin}
 use Rattle.mesa_model.specs.Query.{Answer, query_answer, store_asked, version_seen}

@@ -17,9 +17,9 @@ use Rattle.mesa_engine.specs.mesa_history_spec.Run.{State}
 use Rattle.mesa_engine.specs.mesa_catalog.mesa_image_spec.Catalog.{Catalog, no_stock, stock_at}
 use Rattle.mesa_engine.specs.mesa_catalog.mesa_image_spec.Contents.{Rows, kept_of}
 use Rattle.mesa_engine.specs.mesa_catalog.mesa_image_spec.Shape.{IsCatalog, IsShaped}
-use Rattle.mesa_engine.specs.mesa_engine_spec.EngineState.{HeldPin, EngineState, books_of, held_with}
-use Rattle.mesa_engine.specs.mesa_engine_spec.Turned.{is_held_pin}
-use Rattle.mesa_engine.specs.mesa_engine_spec.Vault.{IsVersioned}
+use Rattle.mesa_engine.specs.EngineState.{HeldPin, EngineState, books_of, held_with}
+use Rattle.mesa_engine.specs.Turned.{is_held_pin}
+use Rattle.mesa_engine.specs.Vault.{IsVersioned}
 use Rattle.mesa_plans.specs.mesa_list.Checks.{◌>>=◌}
 use Rattle.mesa_model.specs.Pins.{is_pin, store_at}
 use Rattle.mesa_model.specs.Query.{store_asked, version_seen}
@@ -29,7 +29,7 @@ use Rattle.mesa_model.specs.declared.replies.Refusal.TheVariants as no
 use Rattle.mesa_rules.specs.Found.{Sees, of_catalog, version_in}
 use Rattle.mesa_rules.specs.Seen.{HasCatalog}
 use Rattle.mesa_engine.specs.mesa_history_spec.Rows.{no_rows}
-use Rattle.mesa_engine.specs.mesa_engine_spec.mesa_invariant_spec.Books.{AreBooksOf}
+use Rattle.mesa_engine.specs.mesa_invariant_spec.Books.{AreBooksOf}
 
 -- A query sees a catalogue's tables in a warehouse, and the content there of the one of a number at a version.
 pub record SeesContents (rows : Rows) (c : Catalog) (pinned : Option ℕ) (number version : ℕ) (words : QueryWords) (session : ℕ) (w : Warehouse) : Type 0 where

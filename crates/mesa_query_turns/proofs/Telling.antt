@@ -21,16 +21,16 @@ use Rattle.mesa_engine.specs.mesa_history_spec.Run.{First, State}
 use Rattle.mesa_engine.specs.mesa_history_spec.Turns.{IsDue}
 use Rattle.mesa_engine.specs.mesa_catalog.mesa_image_spec.Catalog.{Catalog, no_stock, stock_at}
 use Rattle.mesa_engine.specs.mesa_catalog.mesa_image_spec.Fitting.{delta_shelved, deltas_of, shelved}
-use Rattle.mesa_engine.proofs.mesa_engine_spec.mesa_image_spec.Lists.{all_unflat}
-use Rattle.mesa_engine.specs.mesa_engine_spec.mesa_image_spec.Planned.{planned}
+use Rattle.mesa_engine.proofs.mesa_image_spec.Lists.{all_unflat}
+use Rattle.mesa_engine.specs.mesa_image_spec.Planned.{planned}
 use Rattle.mesa_engine.specs.mesa_catalog.mesa_image_spec.Shape.{IsCatalog, IsShaped}
 use Rattle.mesa_engine.specs.mesa_catalog.mesa_image_spec.Sound.{AreStocked, IsStocked, wants}
-use Rattle.mesa_engine.proofs.mesa_engine_spec.Holding.{pins_of}
-use Rattle.mesa_engine.proofs.mesa_engine_spec.Lists.{map_all}
-use Rattle.mesa_engine.proofs.mesa_engine_spec.Staying.{there_now}
-use Rattle.mesa_engine.specs.mesa_engine_spec.EngineState.{HeldPin, Holder, EngineState, books_of, files_held, holders}
-use Rattle.mesa_engine.specs.mesa_engine_spec.Turned.{is_held_pin}
-use Rattle.mesa_engine.specs.mesa_engine_spec.Vault.{Origin, Starts, IsVault, IsVaultAt, outset_of}
+use Rattle.mesa_engine.proofs.Holding.{pins_of}
+use Rattle.mesa_engine.proofs.Lists.{map_all}
+use Rattle.mesa_engine.proofs.Staying.{there_now}
+use Rattle.mesa_engine.specs.EngineState.{HeldPin, Holder, EngineState, books_of, files_held, holders}
+use Rattle.mesa_engine.specs.Turned.{is_held_pin}
+use Rattle.mesa_engine.specs.Vault.{Origin, Starts, IsVault, IsVaultAt, outset_of}
 use Rattle.mesa_model.specs.Page.{page_of}
 use Rattle.mesa_model.specs.Query.{Answer, answer_rows, query_answer}
 use Rattle.mesa_model.specs.Warehouse.{Warehouse}
@@ -55,10 +55,10 @@ use Rattle.mesa_engine.specs.mesa_history_spec.Bare.{bare_answer, bare_result}
 use Rattle.mesa_engine.specs.mesa_history_spec.Rows.{Rows, no_rows}
 use Rattle.mesa_tasks.specs.declared.querying.Pinned.{Pinned}
 use Rattle.mesa_engine.specs.mesa_commit.Filed.{PinFiles}
-use Rattle.mesa_engine.specs.mesa_engine_spec.mesa_invariant_spec.Books.{AreBooksOf}
-use Rattle.mesa_engine.specs.mesa_engine_spec.mesa_invariant_spec.Queries.{IsOpen, IsPinned}
-use Rattle.mesa_engine.specs.mesa_engine_spec.mesa_invariant_spec.Turns.{entry}
-use Rattle.mesa_engine.specs.mesa_engine_spec.mesa_invariant_spec.Invariant.{Outset, Counts, run_at}
+use Rattle.mesa_engine.specs.mesa_invariant_spec.Books.{AreBooksOf}
+use Rattle.mesa_engine.specs.mesa_invariant_spec.Queries.{IsOpen, IsPinned}
+use Rattle.mesa_engine.specs.mesa_invariant_spec.Turns.{entry}
+use Rattle.mesa_engine.specs.mesa_invariant_spec.Invariant.{Outset, Counts, run_at}
 
 -- ---- the catalogue that a query sees
 

@@ -13,9 +13,9 @@ use Rattle.mesa_model.specs.declared.replies.Page.{Page}
 use Rattle.mesa_engine.specs.mesa_history_spec.Output.{block}
 use Rattle.mesa_script.specs.Rows.{rendered}
 use Rattle.mesa_script.specs.declared.rendered.Rendered.{Rendered}
-use Rattle.mesa_engine.specs.mesa_engine_spec.mesa_invariant_spec.Causes.{Cause, Unread, Damaged, NoMemory, reply_of, told_at}
-use Rattle.mesa_engine.specs.mesa_engine_spec.mesa_invariant_spec.Queries.{IsOpenFrom, closing_outcome}
-use Rattle.mesa_engine.specs.mesa_engine_spec.mesa_invariant_spec.Turns.{entry}
+use Rattle.mesa_engine.specs.mesa_invariant_spec.Causes.{Cause, Unread, Damaged, NoMemory, reply_of, told_at}
+use Rattle.mesa_engine.specs.mesa_invariant_spec.Queries.{IsOpenFrom, closing_outcome}
+use Rattle.mesa_engine.specs.mesa_invariant_spec.Turns.{entry}
 
 -- A session's query was answered at a position and isn't closed yet, and this is told of its answer.
 pub record IsToClose (script : Script) (r : Run) (session number position : ℕ) (tells : Answer → Type 0) : Type 0 where

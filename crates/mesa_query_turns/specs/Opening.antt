@@ -11,14 +11,14 @@ use Rattle.mesa_filter.specs.declared.words.QueryWords.{QueryWords}
 use Rattle.mesa_filter.specs.declared.words.VersionWord.{VersionWord}
 use Rattle.mesa_filter.specs.declared.words.VersionWord.TheVariants as asks
 use Rattle.mesa_engine.specs.mesa_catalog.mesa_image_spec.Catalog.{Catalog, stock_at}
-use Rattle.mesa_engine.specs.mesa_engine_spec.EngineState.{EngineState, books_of}
-use Rattle.mesa_engine.specs.mesa_engine_spec.Turned.{queried_state}
+use Rattle.mesa_engine.specs.EngineState.{EngineState, books_of}
+use Rattle.mesa_engine.specs.Turned.{queried_state}
 use Rattle.mesa_engine.specs.Failure.{cause_in}
 use Rattle.mesa_engine.specs.declared.failure.Failure.{Failure}
 use Rattle.mesa_engine.specs.Memory.{hold_now}
 use Rattle.mesa_model.specs.Query.{Answer}
 use Rattle.mesa_model.specs.declared.replies.Reply.TheVariants as reply
-use Rattle.mesa_engine.specs.mesa_engine_spec.mesa_image_spec.Planned.{planned}
+use Rattle.mesa_engine.specs.mesa_image_spec.Planned.{planned}
 use Rattle.mesa_plans.specs.Read.{IsPinnedFor, SomeUnsound, relation_read}
 use Rattle.mesa_plans.specs.Files.{want_in}
 use Rattle.mesa_rules.specs.Found.{IsAnswered, Sees, columns_at, version_in}
@@ -26,8 +26,8 @@ use Rattle.mesa_rules.specs.Ordered.{as_read}
 use Rattle.mesa_rules.specs.declared.found.Found.{Found}
 use Rattle.mesa_engine.specs.mesa_history_spec.Rows.{no_rows}
 use Rattle.mesa_tasks.specs.declared.querying.Pinned.{Pinned}
-use Rattle.mesa_engine.specs.mesa_engine_spec.mesa_invariant_spec.Causes.{Cause, NoMemory, Replies, is_read_fault, outcome_of}
-use Rattle.mesa_engine.specs.mesa_engine_spec.mesa_invariant_spec.Undamaged.{is_damaged}
+use Rattle.mesa_engine.specs.mesa_invariant_spec.Causes.{Cause, NoMemory, Replies, is_read_fault, outcome_of}
+use Rattle.mesa_engine.specs.mesa_invariant_spec.Undamaged.{is_damaged}
 
 -- the cause for which the rules answer no query
 abbrev pub cause_refused : AskedFailure → Cause

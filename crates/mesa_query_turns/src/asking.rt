@@ -5,7 +5,7 @@ ghost use Rattle.mesa_binding.specs.declared.failure.Failure.TheVariants.{Memory
 ghost use Rattle.mesa_query_turns.specs.Seeing.{catalogue_asked, pinned_asked};
 ghost use Rattle.mesa_engine.specs.mesa_catalog.Lookups.{relation_of};
 ghost use Rattle.mesa_filter.specs.Query.{IsQueryOf};
-ghost use Rattle.mesa_engine.specs.mesa_engine_spec.EngineState.{books_of};
+ghost use Rattle.mesa_engine.specs.EngineState.{books_of};
 ghost use Rattle.mesa_model.specs.Query.{query_answer};
 ghost use Rattle.mesa_rules.specs.Found.{IsAnswered, Sees, columns_at, version_in};
 ghost use Rattle.mesa_engine.specs.mesa_history_spec.Rows.{Rows};

@@ -3,7 +3,7 @@ ghost use Rattle.std.specs.Prelude.{◌≡◌, ◌<◌, ◌≤◌, ◌||◌, ◌
 ghost use Rattle.mesa_query_turns.specs.Closing.{IsPageOf, IsSomePageOf, IsToClose, cause_if, cause_of, closing_entry, closing_text};
 ghost use Rattle.mesa_tasks.specs.Errors.{HasDiffered};
 ghost use Rattle.mesa_engine.specs.mesa_history_spec.Run.{Finished};
-ghost use Rattle.mesa_engine.specs.mesa_engine_spec.Turned.{answered_state};
+ghost use Rattle.mesa_engine.specs.Turned.{answered_state};
 ghost use Rattle.mesa_engine.specs.Failure.{cause_in};
 ghost use Rattle.mesa_engine.specs.Printing.{GoesOn};
 ghost use Rattle.mesa_engine.specs.Memory.{is_of_another};
@@ -11,11 +11,11 @@ ghost use Rattle.mesa_model.specs.Entry.{IsShort};
 ghost use Rattle.mesa_model.specs.declared.entries.Kind.TheVariants as kind;
 ghost use Rattle.mesa_engine.specs.mesa_history_spec.Rows.{Rows, no_rows};
 ghost use Rattle.mesa_tasks.specs.GivingBack.{SomeFailed, pinned_inputs};
-ghost use Rattle.mesa_engine.specs.mesa_engine_spec.mesa_invariant_spec.Printing.{IsPut};
-ghost use Rattle.mesa_engine.specs.mesa_engine_spec.mesa_invariant_spec.Queries.{closing_fault, closing_outcome};
-ghost use Rattle.mesa_engine.specs.mesa_engine_spec.mesa_invariant_spec.Turns.{AnswersDisk, SomeRose, Takes};
-ghost use Rattle.mesa_engine.specs.mesa_engine_spec.mesa_invariant_spec.Undamaged.{is_damaged};
-ghost use Rattle.mesa_engine.specs.mesa_engine_spec.mesa_invariant_spec.Invariant.{run_at};
+ghost use Rattle.mesa_engine.specs.mesa_invariant_spec.Printing.{IsPut};
+ghost use Rattle.mesa_engine.specs.mesa_invariant_spec.Queries.{closing_fault, closing_outcome};
+ghost use Rattle.mesa_engine.specs.mesa_invariant_spec.Turns.{AnswersDisk, SomeRose, Takes};
+ghost use Rattle.mesa_engine.specs.mesa_invariant_spec.Undamaged.{is_damaged};
+ghost use Rattle.mesa_engine.specs.mesa_invariant_spec.Invariant.{run_at};
 
 use crate::damages::may_be_told;
 use crate::give_back;

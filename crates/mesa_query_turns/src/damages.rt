@@ -4,7 +4,7 @@ ghost use Rattle.mesa_tasks.specs.Errors.{Differs, HasDiffered};
 ghost use Rattle.mesa_query_turns.specs.Closing.{cause_if};
 ghost use Rattle.mesa_disk.specs.mesa_key.Spelling.{AreBytes};
 ghost use Rattle.mesa_engine.specs.mesa_history_spec.Output.{IsDamage, IsSeen};
-ghost use Rattle.mesa_engine.specs.mesa_engine_spec.mesa_invariant_spec.Queries.{MayClose};
+ghost use Rattle.mesa_engine.specs.mesa_invariant_spec.Queries.{MayClose};
 
 use mesa_delta::FileError;
 use mesa_file::{Damage, Seen};

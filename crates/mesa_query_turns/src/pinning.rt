@@ -9,9 +9,9 @@ ghost use Rattle.mesa_plans.specs.Told.{Tells};
 ghost use Rattle.mesa_model.specs.mesa_schema.Columns.{Columns};
 ghost use Rattle.mesa_engine.specs.mesa_history_spec.Rows.{no_rows};
 ghost use Rattle.mesa_tasks.specs.Pins.{IsPinned};
-ghost use Rattle.mesa_engine.specs.mesa_engine_spec.mesa_invariant_spec.Queries.{IsOpen};
-ghost use Rattle.mesa_engine.specs.mesa_engine_spec.mesa_invariant_spec.Turns.{AnswersDisk, IsSeen, IsTurn, SomeRose, Takes};
-ghost use Rattle.mesa_engine.specs.mesa_engine_spec.mesa_invariant_spec.Invariant.{run_at};
+ghost use Rattle.mesa_engine.specs.mesa_invariant_spec.Queries.{IsOpen};
+ghost use Rattle.mesa_engine.specs.mesa_invariant_spec.Turns.{AnswersDisk, IsSeen, IsTurn, SomeRose, Takes};
+ghost use Rattle.mesa_engine.specs.mesa_invariant_spec.Invariant.{run_at};
 
 use crate::holding::hold_files;
 use mesa_disk::{Disk, Made};

@@ -29,17 +29,17 @@ use Rattle.mesa_engine.specs.mesa_history_spec.Output.{block}
 use Rattle.mesa_rules.specs.Seen.{HasCatalog, known_of}
 use Rattle.mesa_engine.specs.mesa_history_spec.Rows.{Rows}
 use Rattle.mesa_engine.specs.Engine.{most_turns}
-use Rattle.mesa_engine.specs.mesa_engine_spec.mesa_invariant_spec.Causes.{told_at}
-use Rattle.mesa_engine.specs.mesa_engine_spec.mesa_invariant_spec.Changes.{MakesPin}
-use Rattle.mesa_engine.specs.mesa_engine_spec.mesa_invariant_spec.Printing.{IsPut}
-use Rattle.mesa_engine.specs.mesa_engine_spec.mesa_invariant_spec.Turns.{entry}
-use Rattle.mesa_engine.specs.mesa_engine_spec.mesa_invariant_spec.Invariant.{Outset, run_of}
-use Rattle.mesa_engine.proofs.mesa_engine_spec.mesa_invariant_spec.Pinning.{pin_turn}
-use Rattle.mesa_engine.proofs.mesa_engine_spec.mesa_invariant_spec.Turning.{stays}
-use Rattle.mesa_engine.specs.mesa_engine_spec.EngineState.{EngineState, bare_held, books_of, projection_of, projections}
-use Rattle.mesa_engine.specs.mesa_engine_spec.Turned.{pinned_state}
-use Rattle.mesa_engine.specs.mesa_engine_spec.Vault.{Origin, IsVault}
-use Rattle.mesa_engine.proofs.mesa_engine_spec.Staying.{pinned_vault}
+use Rattle.mesa_engine.specs.mesa_invariant_spec.Causes.{told_at}
+use Rattle.mesa_engine.specs.mesa_invariant_spec.Changes.{MakesPin}
+use Rattle.mesa_engine.specs.mesa_invariant_spec.Printing.{IsPut}
+use Rattle.mesa_engine.specs.mesa_invariant_spec.Turns.{entry}
+use Rattle.mesa_engine.specs.mesa_invariant_spec.Invariant.{Outset, run_of}
+use Rattle.mesa_engine.proofs.mesa_invariant_spec.Pinning.{pin_turn}
+use Rattle.mesa_engine.proofs.mesa_invariant_spec.Turning.{stays}
+use Rattle.mesa_engine.specs.EngineState.{EngineState, bare_held, books_of, projection_of, projections}
+use Rattle.mesa_engine.specs.Turned.{pinned_state}
+use Rattle.mesa_engine.specs.Vault.{Origin, IsVault}
+use Rattle.mesa_engine.proofs.Staying.{pinned_vault}
 use Rattle.mesa_engine.specs.Memory.{hold_now}
 
 -- ---- results

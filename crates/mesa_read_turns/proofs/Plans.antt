@@ -29,16 +29,16 @@ use Rattle.mesa_engine.specs.mesa_history_spec.Output.{block}
 use Rattle.mesa_read_turns.specs.Asked.{cause_asked}
 use Rattle.mesa_engine.specs.mesa_history_spec.Rows.{Rows}
 use Rattle.mesa_rules.specs.mesa_span.Plan.{plan}
-use Rattle.mesa_engine.specs.mesa_engine_spec.mesa_invariant_spec.Causes.{told_at}
-use Rattle.mesa_engine.specs.mesa_engine_spec.mesa_invariant_spec.Changes.{HasNoPlan, is_plain}
-use Rattle.mesa_engine.specs.mesa_engine_spec.mesa_invariant_spec.Printing.{IsPut}
-use Rattle.mesa_engine.specs.mesa_engine_spec.mesa_invariant_spec.Turns.{entry}
-use Rattle.mesa_engine.specs.mesa_engine_spec.mesa_invariant_spec.Invariant.{Outset, run_of}
-use Rattle.mesa_engine.proofs.mesa_engine_spec.mesa_invariant_spec.Reading.{explained_turn}
-use Rattle.mesa_engine.proofs.mesa_engine_spec.mesa_invariant_spec.Turning.{stays}
-use Rattle.mesa_engine.specs.mesa_engine_spec.EngineState.{EngineState, books_of}
-use Rattle.mesa_engine.specs.mesa_engine_spec.Vault.{Origin, IsVault}
-use Rattle.mesa_engine.proofs.mesa_engine_spec.Staying.{still_vault}
+use Rattle.mesa_engine.specs.mesa_invariant_spec.Causes.{told_at}
+use Rattle.mesa_engine.specs.mesa_invariant_spec.Changes.{HasNoPlan, is_plain}
+use Rattle.mesa_engine.specs.mesa_invariant_spec.Printing.{IsPut}
+use Rattle.mesa_engine.specs.mesa_invariant_spec.Turns.{entry}
+use Rattle.mesa_engine.specs.mesa_invariant_spec.Invariant.{Outset, run_of}
+use Rattle.mesa_engine.proofs.mesa_invariant_spec.Reading.{explained_turn}
+use Rattle.mesa_engine.proofs.mesa_invariant_spec.Turning.{stays}
+use Rattle.mesa_engine.specs.EngineState.{EngineState, books_of}
+use Rattle.mesa_engine.specs.Vault.{Origin, IsVault}
+use Rattle.mesa_engine.proofs.Staying.{still_vault}
 
 -- what is told of a plan is its ranges: no page, no refusal, and nothing that was written
 pub record IsPlanReply (r : Reply) : Type 0 where

@@ -16,18 +16,18 @@ use Rattle.mesa_engine.specs.mesa_history_spec.Run.{First}
 use Rattle.mesa_engine.specs.mesa_history_spec.Turns.{IsDue}
 use Rattle.mesa_engine.specs.mesa_history_spec.Output.{block}
 use Rattle.mesa_engine.specs.mesa_history_spec.Rows.{Rows}
-use Rattle.mesa_engine.specs.mesa_engine_spec.mesa_invariant_spec.Books.{without_pin}
-use Rattle.mesa_engine.specs.mesa_engine_spec.mesa_invariant_spec.Causes.{told_at}
-use Rattle.mesa_engine.specs.mesa_engine_spec.mesa_invariant_spec.Changes.{ReleasesPin}
-use Rattle.mesa_engine.specs.mesa_engine_spec.mesa_invariant_spec.Printing.{IsPut}
-use Rattle.mesa_engine.specs.mesa_engine_spec.mesa_invariant_spec.Turns.{entry}
-use Rattle.mesa_engine.specs.mesa_engine_spec.mesa_invariant_spec.Invariant.{Outset, run_of}
-use Rattle.mesa_engine.proofs.mesa_engine_spec.mesa_invariant_spec.Pinning.{release_turn}
-use Rattle.mesa_engine.proofs.mesa_engine_spec.mesa_invariant_spec.Turning.{stays}
-use Rattle.mesa_engine.specs.mesa_engine_spec.EngineState.{HeldPin, EngineState, bare_held, books_of}
-use Rattle.mesa_engine.specs.mesa_engine_spec.Turned.{is_held_pin, released_state}
-use Rattle.mesa_engine.specs.mesa_engine_spec.Vault.{Origin, IsVault}
-use Rattle.mesa_engine.proofs.mesa_engine_spec.Staying.{released_vault}
+use Rattle.mesa_engine.specs.mesa_invariant_spec.Books.{without_pin}
+use Rattle.mesa_engine.specs.mesa_invariant_spec.Causes.{told_at}
+use Rattle.mesa_engine.specs.mesa_invariant_spec.Changes.{ReleasesPin}
+use Rattle.mesa_engine.specs.mesa_invariant_spec.Printing.{IsPut}
+use Rattle.mesa_engine.specs.mesa_invariant_spec.Turns.{entry}
+use Rattle.mesa_engine.specs.mesa_invariant_spec.Invariant.{Outset, run_of}
+use Rattle.mesa_engine.proofs.mesa_invariant_spec.Pinning.{release_turn}
+use Rattle.mesa_engine.proofs.mesa_invariant_spec.Turning.{stays}
+use Rattle.mesa_engine.specs.EngineState.{HeldPin, EngineState, bare_held, books_of}
+use Rattle.mesa_engine.specs.Turned.{is_held_pin, released_state}
+use Rattle.mesa_engine.specs.Vault.{Origin, IsVault}
+use Rattle.mesa_engine.proofs.Staying.{released_vault}
 
 -- a pin without rows is found exactly where the state has it
 found_bare : (s token : ℕ) (pins : List HeldPin) → is_none (find (is_pin s token) (map bare_held pins)) ≡ is_none (find (is_held_pin s token) pins)

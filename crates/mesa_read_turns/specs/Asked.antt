@@ -2,7 +2,7 @@
 use Rattle.mesa_binding.specs.declared.failure.Failure.{Failure}
 use Rattle.mesa_binding.specs.declared.failure.Failure.TheVariants as failure
 use Rattle.mesa_model.specs.declared.replies.Reply.TheVariants as reply
-use Rattle.mesa_engine.specs.mesa_engine_spec.mesa_invariant_spec.Causes.{Cause, Replies, NoMemory}
+use Rattle.mesa_engine.specs.mesa_invariant_spec.Causes.{Cause, Replies, NoMemory}
 
 -- The cause that a failure of the rules is.
 abbrev pub cause_asked : Failure → Cause

@@ -6,16 +6,16 @@ ghost use Rattle.mesa_engine.specs.mesa_history_spec.Replay.{no_rows as no_headi
 ghost use Rattle.mesa_engine.specs.mesa_history_spec.Run.{First, Finished};
 ghost use Rattle.mesa_engine.specs.mesa_history_spec.Turns.{IsDue};
 ghost use Rattle.mesa_engine.specs.mesa_image_spec.Shape.{IsCatalog};
-ghost use Rattle.mesa_engine.specs.mesa_engine_spec.EngineState.{books_of};
+ghost use Rattle.mesa_engine.specs.EngineState.{books_of};
 ghost use Rattle.mesa_engine.specs.Failure.{cause_in};
 ghost use Rattle.mesa_model.specs.declared.commands.Command.TheVariants as command;
 ghost use Rattle.mesa_model.specs.declared.entries.Kind.TheVariants as kind;
 ghost use Rattle.mesa_read_turns.specs.Asked.{cause_asked};
 ghost use Rattle.mesa_engine.specs.mesa_script.Rows.{body_of};
 ghost use Rattle.mesa_engine.specs.mesa_history_spec.Rows.{no_rows};
-ghost use Rattle.mesa_engine.specs.mesa_engine_spec.mesa_invariant_spec.Changes.{HasNoPlan};
-ghost use Rattle.mesa_engine.specs.mesa_engine_spec.mesa_invariant_spec.Turns.{AnswersDisk, Takes};
-ghost use Rattle.mesa_engine.specs.mesa_engine_spec.mesa_invariant_spec.Invariant.{run_at};
+ghost use Rattle.mesa_engine.specs.mesa_invariant_spec.Changes.{HasNoPlan};
+ghost use Rattle.mesa_engine.specs.mesa_invariant_spec.Turns.{AnswersDisk, Takes};
+ghost use Rattle.mesa_engine.specs.mesa_invariant_spec.Invariant.{run_at};
 
 use crate::spans::lines_of;
 use mesa_disk::{Disk, Made};

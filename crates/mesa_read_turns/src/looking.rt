@@ -5,10 +5,10 @@ ghost use Rattle.mesa_rules.specs.mesa_catalog.Lookups.{sight_of};
 ghost use Rattle.mesa_engine.specs.mesa_history_spec.Run.{First, Looked};
 ghost use Rattle.mesa_model.specs.declared.entries.Kind.TheVariants as kind;
 ghost use Rattle.mesa_engine.specs.mesa_history_spec.Rows.{no_rows};
-ghost use Rattle.mesa_engine.specs.mesa_engine_spec.mesa_invariant_spec.Sight.{tables_seen};
-ghost use Rattle.mesa_engine.specs.mesa_engine_spec.mesa_invariant_spec.Turns as spec;
-ghost use Rattle.mesa_engine.specs.mesa_engine_spec.mesa_invariant_spec.Turns.{AnswersDisk, Asks, Takes, is_load};
-ghost use Rattle.mesa_engine.specs.mesa_engine_spec.mesa_invariant_spec.Invariant.{run_at};
+ghost use Rattle.mesa_engine.specs.mesa_invariant_spec.Sight.{tables_seen};
+ghost use Rattle.mesa_engine.specs.mesa_invariant_spec.Turns as spec;
+ghost use Rattle.mesa_engine.specs.mesa_invariant_spec.Turns.{AnswersDisk, Asks, Takes, is_load};
+ghost use Rattle.mesa_engine.specs.mesa_invariant_spec.Invariant.{run_at};
 
 use mesa_batch::Glance;
 use mesa_disk::{Disk, Made};

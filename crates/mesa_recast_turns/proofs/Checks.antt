@@ -12,8 +12,8 @@ use Rattle.mesa_plans.specs.mesa_schema.Changes.{Lineage, epoch_of}
 use Rattle.mesa_plans.specs.mesa_schema.Recasts.{Recast, recast_checked}
 use Rattle.mesa_plans.specs.mesa_schema.declared.recasts.RecastError.{RecastError}
 use Rattle.mesa_plans.specs.mesa_schema.declared.recasts.RecastError.TheVariants as recast
-use Rattle.mesa_engine.specs.mesa_engine_spec.mesa_invariant_spec.Books.{Books}
-use Rattle.mesa_engine.proofs.mesa_engine_spec.mesa_invariant_spec.Working.{checked_open}
+use Rattle.mesa_engine.specs.mesa_invariant_spec.Books.{Books}
+use Rattle.mesa_engine.proofs.mesa_invariant_spec.Working.{checked_open}
 use Rattle.mesa_recast_turns.proofs.Dues.{epoch_still}
 use Rattle.mesa_recast_turns.specs.Unfit.{HasNotRecast, unfit_of}
 

@@ -9,10 +9,10 @@ use Rattle.mesa_engine.specs.mesa_history_spec.Machine.{Claim, Errand, Machine, 
 use Rattle.mesa_engine.specs.mesa_history_spec.Run.{Place, Renewed}
 use Rattle.mesa_engine.specs.mesa_history_spec.Turns.{IsDue}
 use Rattle.mesa_engine.specs.mesa_image_spec.Catalog.{ranges_of}
-use Rattle.mesa_engine.specs.mesa_engine_spec.EngineState.{EngineState}
-use Rattle.mesa_engine.specs.mesa_engine_spec.Vault.{Origin, IsVault}
-use Rattle.mesa_engine.proofs.mesa_engine_spec.Beginning.{vault_claims}
-use Rattle.mesa_engine.specs.mesa_engine_spec.mesa_invariant_spec.Invariant.{Outset, run_of}
+use Rattle.mesa_engine.specs.EngineState.{EngineState}
+use Rattle.mesa_engine.specs.Vault.{Origin, IsVault}
+use Rattle.mesa_engine.proofs.BeforeTurns.{vault_claims}
+use Rattle.mesa_engine.specs.mesa_invariant_spec.Invariant.{Outset, run_of}
 use Rattle.mesa_list.specs.Checks.{refused_as}
 use Rattle.mesa_model.specs.Refusals.{recast_refusal}
 use Rattle.mesa_model.specs.declared.commands.Command.TheVariants as command

@@ -14,9 +14,9 @@ use Rattle.mesa_tasks.specs.Opening.{Counted}
 use Rattle.mesa_tasks.specs.Recasts.{AreRangesOf, AreRewritten, own}
 use Rattle.mesa_tasks.specs.declared.recasting.RecastRange.{RecastRange}
 use Rattle.mesa_tasks.specs.declared.recasting.RecastedRange.{RecastedRange}
-use Rattle.mesa_engine.specs.mesa_engine_spec.mesa_invariant_spec.Turns.{SomeRose, faults_of}
-use Rattle.mesa_engine.specs.mesa_engine_spec.mesa_invariant_spec.Invariant.{HasCounted}
-use Rattle.mesa_engine.proofs.mesa_engine_spec.Lists.{all_joined, all_so}
+use Rattle.mesa_engine.specs.mesa_invariant_spec.Turns.{SomeRose, faults_of}
+use Rattle.mesa_engine.specs.mesa_invariant_spec.Invariant.{HasCounted}
+use Rattle.mesa_engine.proofs.Lists.{all_joined, all_so}
 use Rattle.mesa_close_turns.specs.mesa_copy.Copying.{AreRangesBounded, known_range, known_ranges}
 use Rattle.mesa_close_turns.specs.mesa_publishing.mesa_compact.Bounded.{AreBounded}
 use Rattle.mesa_close_turns.specs.mesa_publishing.mesa_compact.mesa_merge.Inputs.{knowns_of}

@@ -17,18 +17,18 @@ use Rattle.mesa_engine.specs.mesa_history_spec.Turns.{IsDue}
 use Rattle.mesa_close_turns.specs.mesa_record.Reading.{record_at}
 use Rattle.mesa_close_turns.specs.mesa_record.Rules.{IsTyped}
 use Rattle.mesa_engine.specs.mesa_image_spec.Catalog.{applied}
-use Rattle.mesa_engine.specs.mesa_engine_spec.mesa_image_spec.Ids.{dropped_ids}
+use Rattle.mesa_engine.specs.mesa_image_spec.Ids.{dropped_ids}
 use Rattle.mesa_engine.specs.mesa_catalog.Lookups.{generation_of, turns_generation}
 use Rattle.mesa_engine.specs.mesa_history_spec.Rows.{Rows, no_rows}
 use Rattle.mesa_tasks.specs.Recasts.{claim_of_recast, recast_in}
 use Rattle.mesa_tasks.specs.declared.recasting.Recast.{Recast}
-use Rattle.mesa_engine.specs.mesa_engine_spec.mesa_invariant_spec.Causes.{Unwritten, reply_of, told_at}
-use Rattle.mesa_engine.specs.mesa_engine_spec.mesa_invariant_spec.Turns.{entry}
-use Rattle.mesa_engine.specs.mesa_engine_spec.mesa_invariant_spec.Invariant.{Counts, run_at}
-use Rattle.mesa_engine.proofs.mesa_engine_spec.mesa_invariant_spec.Working.{checked_open}
-use Rattle.mesa_engine.specs.mesa_engine_spec.EngineState.{books_of, first_id, next_id, past_id}
-use Rattle.mesa_engine.specs.mesa_engine_spec.Recorded.{failed_state, left_by, recorded_state, removed_by}
-use Rattle.mesa_engine.specs.mesa_engine_spec.Vault.{IsReady, IsVault, Starts, outset_of, written_by}
+use Rattle.mesa_engine.specs.mesa_invariant_spec.Causes.{Unwritten, reply_of, told_at}
+use Rattle.mesa_engine.specs.mesa_invariant_spec.Turns.{entry}
+use Rattle.mesa_engine.specs.mesa_invariant_spec.Invariant.{Counts, run_at}
+use Rattle.mesa_engine.proofs.mesa_invariant_spec.Working.{checked_open}
+use Rattle.mesa_engine.specs.EngineState.{books_of, first_id, next_id, past_id}
+use Rattle.mesa_engine.specs.Recorded.{failed_state, left_by, recorded_state, removed_by}
+use Rattle.mesa_engine.specs.Vault.{IsReady, IsVault, Starts, outset_of, written_by}
 use Rattle.mesa_engine.specs.declared.log.Log.{Log}
 use Rattle.mesa_engine.specs.Printing.{PrintsBlock}
 use Rattle.mesa_engine.specs.Memory.{Memory}

@@ -34,21 +34,21 @@ use Rattle.mesa_engine.specs.mesa_image_spec.Contents.{kept_of}
 use Rattle.mesa_engine.specs.mesa_image_spec.Fitting.{brought, fits, kind_fits, shelved}
 use Rattle.mesa_engine.specs.mesa_image_spec.Held.{IsHeld, IsUnnamed}
 use Rattle.mesa_engine.specs.mesa_image_spec.Sound.{AreStocked, StandsFor, wants}
-use Rattle.mesa_engine.proofs.mesa_engine_spec.mesa_image_spec.Agreeing.{agree_stocked, agree_wants}
-use Rattle.mesa_engine.proofs.mesa_engine_spec.mesa_image_spec.AllSourced.{agree_sourced, recast_sources as recast_sourced}
-use Rattle.mesa_engine.proofs.mesa_engine_spec.mesa_image_spec.CatalogRewriting.{catalog_brings}
-use Rattle.mesa_engine.proofs.mesa_engine_spec.mesa_image_spec.CountedRecords.{fits_counted}
-use Rattle.mesa_engine.proofs.mesa_engine_spec.mesa_image_spec.Ids.{own_ids}
-use Rattle.mesa_engine.proofs.mesa_engine_spec.mesa_image_spec.Recordable.{applied_recordable}
-use Rattle.mesa_engine.proofs.mesa_engine_spec.mesa_image_spec.Moving.{kind_of}
-use Rattle.mesa_engine.proofs.mesa_engine_spec.mesa_image_spec.RecastKept.{recast_moves}
-use Rattle.mesa_engine.proofs.mesa_engine_spec.mesa_image_spec.ShapedRecasts.{recast_there}
-use Rattle.mesa_engine.proofs.mesa_engine_spec.mesa_image_spec.Wholes.{fits_shaped}
-use Rattle.mesa_engine.specs.mesa_engine_spec.mesa_image_spec.Brought.{AreTold, BringsRecast}
-use Rattle.mesa_engine.specs.mesa_engine_spec.mesa_image_spec.Ids.{brought_ids, dropped_ids, named}
-use Rattle.mesa_engine.specs.mesa_engine_spec.mesa_image_spec.Moves.{Moves, kept_recast}
-use Rattle.mesa_engine.specs.mesa_engine_spec.mesa_image_spec.Rewritten.{recasting_of}
-use Rattle.mesa_engine.specs.mesa_engine_spec.mesa_image_spec.Sourced.{HasSources, written_behind}
+use Rattle.mesa_engine.proofs.mesa_image_spec.Agreeing.{agree_stocked, agree_wants}
+use Rattle.mesa_engine.proofs.mesa_image_spec.AllSourced.{agree_sourced, recast_sources as recast_sourced}
+use Rattle.mesa_engine.proofs.mesa_image_spec.CatalogRewriting.{catalog_brings}
+use Rattle.mesa_engine.proofs.mesa_image_spec.CountedRecords.{fits_counted}
+use Rattle.mesa_engine.proofs.mesa_image_spec.Ids.{own_ids}
+use Rattle.mesa_engine.proofs.mesa_image_spec.Recordable.{applied_recordable}
+use Rattle.mesa_engine.proofs.mesa_image_spec.Moving.{kind_of}
+use Rattle.mesa_engine.proofs.mesa_image_spec.RecastKept.{recast_moves}
+use Rattle.mesa_engine.proofs.mesa_image_spec.ShapedRecasts.{recast_there}
+use Rattle.mesa_engine.proofs.mesa_image_spec.Wholes.{fits_shaped}
+use Rattle.mesa_engine.specs.mesa_image_spec.Brought.{AreTold, BringsRecast}
+use Rattle.mesa_engine.specs.mesa_image_spec.Ids.{brought_ids, dropped_ids, named}
+use Rattle.mesa_engine.specs.mesa_image_spec.Moves.{Moves, kept_recast}
+use Rattle.mesa_engine.specs.mesa_image_spec.Rewritten.{recasting_of}
+use Rattle.mesa_engine.specs.mesa_image_spec.Sourced.{HasSources, written_behind}
 use Rattle.mesa_engine.specs.mesa_catalog.Lookups.{generation_of, turns_generation}
 use Rattle.mesa_store.specs.Store.{Writes as IsWritten}
 use Rattle.mesa_engine.specs.mesa_history_spec.Output.{block}
@@ -58,22 +58,22 @@ use Rattle.mesa_close_turns.specs.mesa_commit.Filed.{Renames}
 use Rattle.mesa_close_turns.specs.mesa_commit.Holding.{Among, freed, ids_of}
 use Rattle.mesa_tasks.specs.Recasts.{claim_of_recast, recast_in, recast_table}
 use Rattle.mesa_tasks.specs.declared.recasting.Recast.{Recast}
-use Rattle.mesa_engine.specs.mesa_engine_spec.mesa_invariant_spec.Causes.{Unwritten, reply_of, told_at}
-use Rattle.mesa_engine.specs.mesa_engine_spec.mesa_invariant_spec.Printing.{IsPut}
-use Rattle.mesa_engine.specs.mesa_engine_spec.mesa_invariant_spec.Turns.{entry}
-use Rattle.mesa_engine.specs.mesa_engine_spec.mesa_invariant_spec.Invariant.{Counts, Passes, StandsForEither, Writes, run_of}
-use Rattle.mesa_engine.specs.mesa_engine_spec.mesa_invariant_spec.Works.{Regroups}
-use Rattle.mesa_engine.proofs.mesa_engine_spec.mesa_invariant_spec.Working.{checked_open}
-use Rattle.mesa_engine.specs.mesa_engine_spec.EngineState.{EngineState, books_of, first_id, holders, ids_held, next_id, projection_of}
-use Rattle.mesa_engine.specs.mesa_engine_spec.Recorded.{IsRecorded, failed_state, left_by, recorded_state, removed_by, waiting}
-use Rattle.mesa_engine.specs.mesa_engine_spec.Vault.{IsVault, Starts, outset_of, written_by}
-use Rattle.mesa_engine.proofs.mesa_engine_spec.Agreeing.{named_agree, same_kept}
-use Rattle.mesa_engine.proofs.mesa_engine_spec.Filing.{filed_moved, holds_are}
-use Rattle.mesa_engine.proofs.mesa_engine_spec.Recasting.{recast_as, recast_is}
-use Rattle.mesa_engine.proofs.mesa_engine_spec.Recording.{Clears, clears_freed}
-use Rattle.mesa_engine.proofs.mesa_engine_spec.Renaming.{record_brings, record_renames}
-use Rattle.mesa_engine.proofs.mesa_engine_spec.Sources.{recast_sources}
-use Rattle.mesa_engine.proofs.mesa_engine_spec.Writing.{recast_vault, unrecast_vault}
+use Rattle.mesa_engine.specs.mesa_invariant_spec.Causes.{Unwritten, reply_of, told_at}
+use Rattle.mesa_engine.specs.mesa_invariant_spec.Printing.{IsPut}
+use Rattle.mesa_engine.specs.mesa_invariant_spec.Turns.{entry}
+use Rattle.mesa_engine.specs.mesa_invariant_spec.Invariant.{Counts, Passes, StandsForEither, Writes, run_of}
+use Rattle.mesa_engine.specs.mesa_invariant_spec.Works.{Regroups}
+use Rattle.mesa_engine.proofs.mesa_invariant_spec.Working.{checked_open}
+use Rattle.mesa_engine.specs.EngineState.{EngineState, books_of, first_id, holders, ids_held, next_id, projection_of}
+use Rattle.mesa_engine.specs.Recorded.{IsRecorded, failed_state, left_by, recorded_state, removed_by, waiting}
+use Rattle.mesa_engine.specs.Vault.{IsVault, Starts, outset_of, written_by}
+use Rattle.mesa_engine.proofs.Agreeing.{named_agree, same_kept}
+use Rattle.mesa_engine.proofs.Filing.{filed_moved, holds_are}
+use Rattle.mesa_engine.proofs.Recasting.{recast_as, recast_is}
+use Rattle.mesa_engine.proofs.RecordedStates.{Clears, clears_freed}
+use Rattle.mesa_engine.proofs.Renaming.{record_brings, record_renames}
+use Rattle.mesa_engine.proofs.Sources.{recast_sources}
+use Rattle.mesa_engine.proofs.Writing.{recast_vault, unrecast_vault}
 use Rattle.mesa_close_turns.specs.mesa_publishing.Published.{AllTell, rows_with}
 use Rattle.mesa_close_turns.specs.mesa_publishing.Grown.{HasSameColumns}
 use Rattle.mesa_close_turns.specs.mesa_publishing.Recasts.{HasItsRanges, IsRecastIn, stock_of_recast}

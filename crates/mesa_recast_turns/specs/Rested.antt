@@ -6,8 +6,8 @@ use Rattle.mesa_plans.specs.Ranges.{HoldsAll}
 use Rattle.mesa_engine.specs.mesa_history_spec.Counting.{count_in, is_disk_fault}
 use Rattle.mesa_engine.specs.mesa_history_spec.Run.{State, begins}
 use Rattle.mesa_engine.specs.mesa_history_spec.Sources.{Written}
-use Rattle.mesa_engine.specs.mesa_engine_spec.EngineState.{EngineState}
-use Rattle.mesa_engine.specs.mesa_engine_spec.mesa_invariant_spec.Turns.{Faults, Shown}
+use Rattle.mesa_engine.specs.EngineState.{EngineState}
+use Rattle.mesa_engine.specs.mesa_invariant_spec.Turns.{Faults, Shown}
 use Rattle.mesa_model.specs.declared.commands.Script.{Script}
 use Rattle.mesa_plans.specs.mesa_schema.Changes.{Lineage, columns_of, epoch_of}
 use Rattle.mesa_engine.specs.mesa_history_spec.Rows.{Rows}

@@ -3,11 +3,11 @@ ghost use Rattle.std.specs.Prelude.{◌≡◌, ◌+◌, ◌<◌, ◌^◌, ℕ, S
 ghost use Rattle.mesa_plans.specs.Ranges.{HoldsAll};
 ghost use Rattle.mesa_engine.specs.mesa_image_spec.Shape.{IsCatalog};
 ghost use Rattle.mesa_disk.specs.mesa_key.Spelling.{AreBytes};
-ghost use Rattle.mesa_engine.specs.mesa_engine_spec.EngineState.{books_of, most_files, next_id};
-ghost use Rattle.mesa_engine.specs.mesa_engine_spec.Recorded.{removed_by};
-ghost use Rattle.mesa_engine.specs.mesa_engine_spec.mesa_image_spec.Countable.{AreCounted};
-ghost use Rattle.mesa_engine.specs.mesa_engine_spec.mesa_image_spec.Ids.{dropped_ids, named};
-ghost use Rattle.mesa_engine.specs.mesa_engine_spec.mesa_image_spec.Recordable.{AreRecordable};
+ghost use Rattle.mesa_engine.specs.EngineState.{books_of, most_files, next_id};
+ghost use Rattle.mesa_engine.specs.Recorded.{removed_by};
+ghost use Rattle.mesa_engine.specs.mesa_image_spec.Countable.{AreCounted};
+ghost use Rattle.mesa_engine.specs.mesa_image_spec.Ids.{dropped_ids, named};
+ghost use Rattle.mesa_engine.specs.mesa_image_spec.Recordable.{AreRecordable};
 ghost use Rattle.mesa_model.specs.Tables.{recast_reply as reply_for};
 ghost use Rattle.mesa_model.specs.Warehouse.{table_at};
 ghost use Rattle.mesa_close_turns.specs.mesa_record.Reading.{record_at};

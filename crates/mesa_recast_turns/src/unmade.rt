@@ -12,12 +12,12 @@ ghost use Rattle.mesa_tasks.specs.GivingBack.{SomeFailed};
 ghost use Rattle.mesa_tasks.specs.Recasts.{claim_of_recast, recast_inputs};
 ghost use Rattle.mesa_tasks.specs.declared.merging.CompactError.TheVariants as compact;
 ghost use Rattle.mesa_delta.specs.declared.error.FileError.TheVariants as file_error;
-ghost use Rattle.mesa_engine.specs.mesa_engine_spec.mesa_invariant_spec.Causes.{is_read_fault, outcome_of, reply_of, told_at};
-ghost use Rattle.mesa_engine.specs.mesa_engine_spec.mesa_invariant_spec.Printing.{IsPut};
-ghost use Rattle.mesa_engine.specs.mesa_engine_spec.mesa_invariant_spec.Turns.{AnswersDisk, AnswersDraft, SomeRose, Takes, entry};
-ghost use Rattle.mesa_engine.specs.mesa_engine_spec.mesa_invariant_spec.Undamaged.{is_damaged};
-ghost use Rattle.mesa_engine.specs.mesa_engine_spec.mesa_invariant_spec.Invariant.{run_at};
-ghost use Rattle.mesa_engine.specs.mesa_engine_spec.mesa_invariant_spec.Works.{closing_stage};
+ghost use Rattle.mesa_engine.specs.mesa_invariant_spec.Causes.{is_read_fault, outcome_of, reply_of, told_at};
+ghost use Rattle.mesa_engine.specs.mesa_invariant_spec.Printing.{IsPut};
+ghost use Rattle.mesa_engine.specs.mesa_invariant_spec.Turns.{AnswersDisk, AnswersDraft, SomeRose, Takes, entry};
+ghost use Rattle.mesa_engine.specs.mesa_invariant_spec.Undamaged.{is_damaged};
+ghost use Rattle.mesa_engine.specs.mesa_invariant_spec.Invariant.{run_at};
+ghost use Rattle.mesa_engine.specs.mesa_invariant_spec.Works.{closing_stage};
 ghost use Rattle.mesa_close_turns.specs.Unmerged.{MergeDiffered, cause_of, closing_cause, closing_state};
 ghost use Rattle.mesa_recast_turns.specs.Rested.{HasUnpaid};
 

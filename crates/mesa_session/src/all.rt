@@ -11,7 +11,7 @@ ghost use Rattle.mesa_session_laws.specs.Passes.{HasEnded, HaveEnded, Mine, Wait
 
 use crate::{Gate, Vault, run_session};
 use mesa_disk::{Bench, Disk, Made};
-use mesa_engine_spec::Naming;
+use mesa_engine::Naming;
 use mesa_io::Sink;
 use mesa_model::Script;
 use mesa_turn::{Pass, TurnLock};

@@ -20,8 +20,7 @@ use crate::turns::{
 use mesa_batch::LoadRows;
 use mesa_core::Vault;
 use mesa_disk::{Bench, Disk, Made};
-use mesa_engine::Who;
-use mesa_engine_spec::Naming;
+use mesa_engine::{Naming, Who};
 use mesa_io::Sink;
 use mesa_model::Command;
 use mesa_tasks::Serials;

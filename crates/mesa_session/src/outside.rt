@@ -24,7 +24,7 @@ use mesa_copy::{regroup_more, regroup_task};
 use mesa_core::Vault;
 use mesa_delta::FileError;
 use mesa_disk::{Bench, Disk, FileReader, Made};
-use mesa_engine_spec::Naming;
+use mesa_engine::Naming;
 use mesa_filter::Query;
 use mesa_io::Sink;
 use mesa_key::reads_back;

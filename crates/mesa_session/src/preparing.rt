@@ -15,7 +15,7 @@ ghost use Rattle.mesa_session.specs.Loads.{StaysPrepared};
 use mesa_batch::{Glance, LoadRows};
 use mesa_core::Vault;
 use mesa_disk::{Bench, Disk, Made};
-use mesa_engine_spec::Naming;
+use mesa_engine::Naming;
 use mesa_io::Sink;
 use mesa_load::prepare;
 use mesa_session_laws::sights_last;

@@ -9,7 +9,7 @@ ghost use Rattle.mesa_session_laws.specs.Passes.{turns_of};
 use crate::all::run_all;
 use crate::{Gate, Vault};
 use mesa_disk::{Bench, Disk, Made};
-use mesa_engine_spec::Naming;
+use mesa_engine::Naming;
 use mesa_io::Sink;
 use mesa_model::Script;
 use mesa_turn::TurnLock;

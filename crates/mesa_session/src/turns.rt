@@ -27,8 +27,7 @@ use mesa_batch::{Glance, LoadRows};
 use mesa_core::Vault;
 use mesa_delta::FileError;
 use mesa_disk::{Bench, Disk, Made};
-use mesa_engine::Who;
-use mesa_engine_spec::Naming;
+use mesa_engine::{Naming, Who};
 use mesa_io::Sink;
 use mesa_script::Rendered;
 use mesa_tasks::{

@@ -16,7 +16,7 @@ use Rattle.mesa_publishing.proofs.mesa_history_spec.More.{runs-append}
 use Rattle.mesa_publishing.specs.mesa_span.declared.works.Work.{Work}
 use Rattle.mesa_publishing.specs.mesa_plans.mesa_image_spec.Moves.{last_of, first_of}
 use Rattle.mesa_history_laws.proofs.Ranges.{ranges_hold}
-use Rattle.mesa_publishing.specs.mesa_engine_spec.Vault.{Origin}
+use Rattle.mesa_publishing.specs.mesa_engine.Vault.{Origin}
 use Rattle.mesa_publishing.specs.Finished.{GroupOnly, HasRange, sources_in}
 use Rattle.mesa_publishing.specs.Recasts.{HasItsRange, HasItsRanges}
 use Rattle.mesa_tasks.specs.Recasts.{recast_table}
@@ -24,7 +24,7 @@ use Rattle.mesa_tasks.specs.declared.merging.Task.{Task}
 use Rattle.mesa_tasks.specs.declared.recasting.Recast.{Recast}
 use Rattle.mesa_tasks.specs.declared.recasting.RecastRange.{RecastRange}
 use Rattle.mesa_publishing.specs.mesa_invariant_spec.Invariant.{run_at}
-use Rattle.mesa_publishing.specs.mesa_engine_spec.Written.{written_at}
+use Rattle.mesa_publishing.specs.mesa_engine.Written.{written_at}
 
 -- ---- what is written behind a history
 

@@ -11,7 +11,7 @@ ghost use Rattle.mesa_publishing.specs.mesa_history_spec.Replay.{runs};
 ghost use Rattle.mesa_publishing.specs.mesa_history_spec.Run.{Run as AnyRun, State};
 ghost use Rattle.mesa_publishing.specs.mesa_plans.mesa_image_spec.Moves.{last_of};
 ghost use Rattle.mesa_publishing.specs.mesa_history_spec.Sources.{Written};
-ghost use Rattle.mesa_publishing.specs.mesa_engine_spec.Vault.{Origin};
+ghost use Rattle.mesa_publishing.specs.mesa_engine.Vault.{Origin};
 ghost use Rattle.mesa_publishing.specs.mesa_model.declared.commands.Script.{Script as AnyScript};
 ghost use Rattle.mesa_publishing.specs.mesa_model.declared.entries.Entry.{Entry as AnyEntry};
 ghost use Rattle.mesa_publishing.specs.mesa_copy.mesa_compact.Bounded.{AreBounded, IsBounded};
@@ -27,7 +27,7 @@ ghost use Rattle.mesa_publishing.specs.Recasts.{HasItsRanges};
 ghost use Rattle.mesa_tasks.specs.Tasks.{IsMerged, IsTask};
 ghost use Rattle.mesa_tasks.specs.declared.recasting.Recast.{Recast as AnyRecast};
 ghost use Rattle.mesa_publishing.specs.mesa_invariant_spec.Invariant.{run_at};
-ghost use Rattle.mesa_publishing.specs.mesa_engine_spec.Written.{written_at};
+ghost use Rattle.mesa_publishing.specs.mesa_engine.Written.{written_at};
 ghost use Rattle.mesa_session_laws.specs.Known.{AllAreBounded, AllHaveRange, AllHaveRanges, IsKnownOf, lineage_in};
 
 use mesa_disk::{FileReader, Made};

@@ -13,16 +13,16 @@ use Rattle.mesa_check.specs.mesa_history_spec.Replay.{runs}
 use Rattle.mesa_check.specs.mesa_history_spec.Run.{begins}
 use Rattle.mesa_store_digest.specs.mesa_history_spec.Bare.{bare_table}
 use Rattle.mesa_store_digest.specs.mesa_history_spec.Rows.{Rows}
-use Rattle.mesa_engine_spec.specs.mesa_commit.Filed.{AreFresh}
-use Rattle.mesa_engine_spec.specs.mesa_commit.Holding.{Among}
-use Rattle.mesa_engine_spec.specs.mesa_invariant_spec.Books.{AreBooksOf}
+use Rattle.mesa_engine.specs.mesa_commit.Filed.{AreFresh}
+use Rattle.mesa_engine.specs.mesa_commit.Holding.{Among}
+use Rattle.mesa_engine.specs.mesa_invariant_spec.Books.{AreBooksOf}
 use Rattle.mesa_check.specs.mesa_catalog.mesa_image_spec.Catalog.{Stock, Catalog, ranges_of}
 use Rattle.mesa_check.specs.mesa_catalog.mesa_image_spec.Contents.{kept_of, table_of}
 use Rattle.mesa_check.specs.mesa_catalog.mesa_image_spec.Sound.{StandsFor}
 use Rattle.mesa_check.specs.mesa_catalog.mesa_image_spec.Ids.{named}
 use Rattle.mesa_check.proofs.mesa_catalog.mesa_image_spec.AllSourced.{all_found}
-use Rattle.mesa_engine_spec.specs.EngineState.{books_of, first_id, projection_of}
-use Rattle.mesa_engine_spec.specs.Vault.{IsReady, Starts}
+use Rattle.mesa_engine.specs.EngineState.{books_of, first_id, projection_of}
+use Rattle.mesa_engine.specs.Vault.{IsReady, Starts}
 use Rattle.mesa_session.specs.mesa_engine.Memory.{opened_state}
 use Rattle.mesa_session.specs.mesa_engine.Beginning.{IsBegun}
 use Rattle.mesa_session.specs.mesa_engine.Engine.{most_turns, starts_of}

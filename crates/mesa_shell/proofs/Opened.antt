@@ -5,7 +5,7 @@ use Rattle.std.specs.Prelude.{Result, Ok, Err, IfOk, IfErr}
 use Rattle.mesa_disk.specs.mesa_io.Causes.{last}
 use Rattle.mesa_disk.specs.Image.{Image}
 use Rattle.mesa_disk.specs.Story.{Story, Unmoved}
-use Rattle.mesa_engine_spec.specs.mesa_commit.Filed.{FilesAdopted}
+use Rattle.mesa_engine.specs.mesa_commit.Filed.{FilesAdopted}
 use Rattle.mesa_store_digest.specs.mesa_history_spec.Rows.{Rows}
 use Rattle.mesa_check.specs.mesa_catalog.mesa_image_spec.Catalog.{Catalog, applied}
 use Rattle.mesa_check.specs.mesa_catalog.mesa_image_spec.Shape.{IsCatalog}
@@ -18,7 +18,7 @@ use Rattle.mesa_exit.specs.mesa_exit_spec.mesa_recover.declared.error.OpenError.
 use Rattle.mesa_exit.specs.mesa_exit_spec.mesa_recover.declared.error.OpenError.TheVariants as open_error
 use Rattle.mesa_exit.specs.mesa_exit_spec.mesa_recover.Opening.{HasReason, IsHeldAs, IsSoundStart, Keeps, first_id, most_runs, run_record}
 use Rattle.mesa_exit.proofs.mesa_exit_spec.mesa_recover.Beginnings.{runs_few}
-use Rattle.mesa_engine_spec.specs.Vault.{IsRead}
+use Rattle.mesa_engine.specs.Vault.{IsRead}
 use Rattle.mesa_check.specs.mesa_catalog.declared.begun.Begun.{Begun}
 use Rattle.mesa_recover.specs.declared.opened.Opened.{Opened}
 use Rattle.mesa_recover.specs.Opened.{IsOpened}

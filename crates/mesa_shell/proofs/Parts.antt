@@ -14,11 +14,11 @@ use Rattle.mesa_check.specs.mesa_history_spec.Run.{Run, State, begins}
 use Rattle.mesa_store_digest.specs.mesa_history_spec.Bare.{bare_run, bare_state}
 use Rattle.mesa_store_digest.proofs.mesa_history_spec.Alike.{go_alike, legal_alike}
 use Rattle.mesa_session.specs.mesa_session_laws.Answers.{AreTimely, HasCounted, HaveCounted}
-use Rattle.mesa_engine_spec.specs.mesa_invariant_spec.Printing.{IsPrintedButRows}
-use Rattle.mesa_engine_spec.specs.mesa_invariant_spec.Invariant.{HasCounted as HasCountedFaults}
+use Rattle.mesa_engine.specs.mesa_invariant_spec.Printing.{IsPrintedButRows}
+use Rattle.mesa_engine.specs.mesa_invariant_spec.Invariant.{HasCounted as HasCountedFaults}
 use Rattle.mesa_exit.specs.mesa_exit_spec.Counting.{HasBenchCounts}
 use Rattle.mesa_exit.specs.mesa_exit_spec.Run.{RanAnyhow}
-use Rattle.mesa_engine_spec.specs.Vault.{IsRead}
+use Rattle.mesa_engine.specs.Vault.{IsRead}
 use Rattle.mesa_session.specs.mesa_engine.Ending.{ReadsState}
 
 -- ---- moments

@@ -10,8 +10,8 @@ use Rattle.mesa_check.specs.mesa_history_spec.Run.{begins}
 use Rattle.mesa_script.specs.Generated.{generated}
 use Rattle.mesa_script.specs.Script.{script_of}
 use Rattle.mesa_store_digest.specs.mesa_history_spec.Rows.{Rows}
-use Rattle.mesa_engine_spec.specs.mesa_invariant_spec.Printing.{HasAll, HasAllButRows, IsOutputButRows}
-use Rattle.mesa_engine_spec.specs.mesa_invariant_spec.mesa_history_spec.Output.{IsOutput}
+use Rattle.mesa_engine.specs.mesa_invariant_spec.Printing.{HasAll, HasAllButRows, IsOutputButRows}
+use Rattle.mesa_engine.specs.mesa_invariant_spec.mesa_history_spec.Output.{IsOutput}
 use Rattle.mesa_check.specs.mesa_catalog.mesa_image_spec.Catalog.{Catalog}
 use Rattle.mesa_generate.specs.Excerpt.{CutsOut, HasPlainNames}
 use Rattle.mesa_exit.specs.mesa_exit_spec.Ports.{ports}

@@ -4,7 +4,7 @@ use Rattle.mesa_disk.specs.mesa_io.Causes.{last}
 use Rattle.mesa_disk.specs.Image.{Image}
 use Rattle.mesa_disk.specs.Story.{Story}
 use Rattle.mesa_disk.specs.declared.area.Area.{Area}
-use Rattle.mesa_engine_spec.specs.mesa_commit.Filed.{FilesAdopted}
+use Rattle.mesa_engine.specs.mesa_commit.Filed.{FilesAdopted}
 use Rattle.mesa_store_digest.specs.mesa_history_spec.Rows.{Rows}
 use Rattle.mesa_check.specs.mesa_catalog.mesa_image_spec.Catalog.{Catalog, applied}
 use Rattle.mesa_check.specs.mesa_catalog.mesa_image_spec.Contents.{kept_of}
@@ -14,7 +14,7 @@ use Rattle.mesa_check.specs.mesa_catalog.mesa_image_spec.Countable.{AreCounted}
 use Rattle.mesa_check.specs.mesa_catalog.mesa_image_spec.Ids.{HasOwnIds, named}
 use Rattle.mesa_check.specs.mesa_catalog.mesa_image_spec.Recordable.{AreRecordable}
 use Rattle.mesa_exit.specs.mesa_exit_spec.mesa_recover.Opening.{IsHeldAs, IsSoundStart, Keeps, ReadsAs, first_id, most_runs, run_record}
-use Rattle.mesa_engine_spec.specs.Vault.{IsRead}
+use Rattle.mesa_engine.specs.Vault.{IsRead}
 use Rattle.mesa_check.specs.mesa_catalog.declared.begun.Begun.{Begun}
 use Rattle.mesa_exit.specs.mesa_exit_spec.Start.{AreTold}
 

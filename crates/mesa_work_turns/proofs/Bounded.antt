@@ -18,12 +18,12 @@ use Rattle.mesa_engine.specs.mesa_image_spec.Catalog.{Catalog, Delta, Stock, sto
 use Rattle.mesa_engine.specs.mesa_image_spec.Contents.{Rows, present}
 use Rattle.mesa_engine.specs.mesa_image_spec.Fitting.{delta_shelved, deltas_of, shelved}
 use Rattle.mesa_engine.specs.mesa_image_spec.Sound.{wants}
-use Rattle.mesa_engine.proofs.mesa_engine_spec.mesa_image_spec.Lists.{all_unflat, stock_found}
+use Rattle.mesa_engine.proofs.mesa_image_spec.Lists.{all_unflat, stock_found}
 use Rattle.mesa_engine.specs.mesa_image_spec.Sound.{IsStocked}
-use Rattle.mesa_engine.specs.mesa_engine_spec.mesa_image_spec.Moves.{is_base, last_of}
-use Rattle.mesa_engine.specs.mesa_engine_spec.EngineState.{EngineState}
-use Rattle.mesa_engine.specs.mesa_engine_spec.Vault.{Origin, IsVault}
-use Rattle.mesa_engine.proofs.mesa_engine_spec.Standing.{held_there}
+use Rattle.mesa_engine.specs.mesa_image_spec.Moves.{is_base, last_of}
+use Rattle.mesa_engine.specs.EngineState.{EngineState}
+use Rattle.mesa_engine.specs.Vault.{Origin, IsVault}
+use Rattle.mesa_engine.proofs.Standing.{held_there}
 use Rattle.mesa_publishing.specs.mesa_compact.mesa_merge.Inputs.{AreTold, knowns_of, lifted_parts}
 use Rattle.mesa_model.specs.declared.entries.Entry.{Entry}
 use Rattle.mesa_plans.specs.Folding.{folded_deltas}
@@ -40,7 +40,7 @@ use Rattle.mesa_tasks.specs.Opening.{HaveOpened}
 use Rattle.mesa_tasks.specs.declared.merging.Task.{Task}
 use Rattle.mesa_tasks.specs.declared.merging.TaskView.{TaskView}
 use Rattle.mesa_tasks.specs.declared.opening.Wanted.{Wanted}
-use Rattle.mesa_engine.specs.mesa_engine_spec.mesa_invariant_spec.Invariant.{Outset}
+use Rattle.mesa_engine.specs.mesa_invariant_spec.Invariant.{Outset}
 use Rattle.mesa_work_turns.proofs.Grants.{shaped_at}
 
 -- a view that has no files of its own has none that could be wrong

@@ -14,9 +14,9 @@ use Rattle.mesa_engine.specs.mesa_history_spec.Machine.{Claim, Machine, Merges, 
 use Rattle.mesa_engine.specs.mesa_image_spec.Catalog.{Catalog, Stock, no_stock, ranges_of, start_in, stock_at}
 use Rattle.mesa_engine.specs.mesa_image_spec.Fitting.{is_number, may_be_work}
 use Rattle.mesa_engine.specs.mesa_image_spec.Shape.{IsShaped}
-use Rattle.mesa_engine.proofs.mesa_engine_spec.mesa_image_spec.Lists.{both_true, is_at_most, is_equal}
-use Rattle.mesa_engine.proofs.mesa_engine_spec.mesa_image_spec.ShapedBatches.{missing_there}
-use Rattle.mesa_engine.specs.mesa_engine_spec.mesa_image_spec.Moves.{first_of, is_base, last_of}
+use Rattle.mesa_engine.proofs.mesa_image_spec.Lists.{both_true, is_at_most, is_equal}
+use Rattle.mesa_engine.proofs.mesa_image_spec.ShapedBatches.{missing_there}
+use Rattle.mesa_engine.specs.mesa_image_spec.Moves.{first_of, is_base, last_of}
 use Rattle.mesa_lease.specs.Book.{holder}
 use Rattle.mesa_model.specs.Refusals.{no_such_table, refuse_closed}
 use Rattle.mesa_model.specs.Relations.{table_number}
@@ -24,7 +24,7 @@ use Rattle.mesa_model.specs.Warehouse.{Table, Warehouse, table_at}
 use Rattle.mesa_model.specs.declared.replies.Refusal.TheVariants as no
 use Rattle.mesa_model.specs.declared.replies.Reply.{Reply}
 use Rattle.mesa_model.specs.declared.replies.Reply.TheVariants as reply
-use Rattle.mesa_engine.specs.mesa_engine_spec.EngineState.{EngineState, books_of, projection_of}
+use Rattle.mesa_engine.specs.EngineState.{EngineState, books_of, projection_of}
 use Rattle.mesa_rules.specs.Seen.{number_of}
 use Rattle.mesa_engine.specs.mesa_history_spec.Rows.{no_rows}
 

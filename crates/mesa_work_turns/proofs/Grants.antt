@@ -28,19 +28,19 @@ use Rattle.mesa_engine.specs.mesa_history_spec.Rows.{Rows, no_rows}
 use Rattle.mesa_tasks.specs.Opening.{Counted}
 use Rattle.mesa_tasks.specs.declared.opening.Unopened.{Unopened}
 use Rattle.mesa_tasks.specs.declared.opening.Unopened.TheVariants as un
-use Rattle.mesa_engine.specs.mesa_engine_spec.mesa_invariant_spec.Causes.{Cause, Damaged, NoMemory, Replies, Unread, Unwritten, is_read_fault, outcome_of, reply_of, told_at}
-use Rattle.mesa_engine.specs.mesa_engine_spec.mesa_invariant_spec.Printing.{IsPut}
-use Rattle.mesa_engine.specs.mesa_engine_spec.mesa_invariant_spec.Turns.{Shown, IsSeen, Takes, entry}
-use Rattle.mesa_engine.specs.mesa_engine_spec.mesa_invariant_spec.Books.{Books}
-use Rattle.mesa_engine.specs.mesa_engine_spec.mesa_invariant_spec.Undamaged.{is_damaged}
-use Rattle.mesa_engine.specs.mesa_engine_spec.mesa_invariant_spec.Invariant.{Outset, Counts, run_at, run_of}
-use Rattle.mesa_engine.specs.mesa_engine_spec.mesa_invariant_spec.Works.{HasNoClaim}
-use Rattle.mesa_engine.proofs.mesa_engine_spec.mesa_invariant_spec.Going.{takes_as}
-use Rattle.mesa_engine.proofs.mesa_engine_spec.mesa_invariant_spec.Working.{claim_is, granted_turn, ungranted_ends, ungranted_turn}
-use Rattle.mesa_engine.specs.mesa_engine_spec.EngineState.{EngineState, books_of, projection_of}
-use Rattle.mesa_engine.specs.mesa_engine_spec.Turned.{leased_state}
-use Rattle.mesa_engine.specs.mesa_engine_spec.Vault.{Origin, Starts, IsVault, outset_of}
-use Rattle.mesa_engine.proofs.mesa_engine_spec.Staying.{leased_vault, still_vault}
+use Rattle.mesa_engine.specs.mesa_invariant_spec.Causes.{Cause, Damaged, NoMemory, Replies, Unread, Unwritten, is_read_fault, outcome_of, reply_of, told_at}
+use Rattle.mesa_engine.specs.mesa_invariant_spec.Printing.{IsPut}
+use Rattle.mesa_engine.specs.mesa_invariant_spec.Turns.{Shown, IsSeen, Takes, entry}
+use Rattle.mesa_engine.specs.mesa_invariant_spec.Books.{Books}
+use Rattle.mesa_engine.specs.mesa_invariant_spec.Undamaged.{is_damaged}
+use Rattle.mesa_engine.specs.mesa_invariant_spec.Invariant.{Outset, Counts, run_at, run_of}
+use Rattle.mesa_engine.specs.mesa_invariant_spec.Works.{HasNoClaim}
+use Rattle.mesa_engine.proofs.mesa_invariant_spec.Going.{takes_as}
+use Rattle.mesa_engine.proofs.mesa_invariant_spec.Working.{claim_is, granted_turn, ungranted_ends, ungranted_turn}
+use Rattle.mesa_engine.specs.EngineState.{EngineState, books_of, projection_of}
+use Rattle.mesa_engine.specs.Turned.{leased_state}
+use Rattle.mesa_engine.specs.Vault.{Origin, Starts, IsVault, outset_of}
+use Rattle.mesa_engine.proofs.Staying.{leased_vault, still_vault}
 use Rattle.mesa_engine.specs.declared.log.Log.{Log}
 use Rattle.mesa_engine.specs.Printing.{PrintsBlock}
 use Rattle.mesa_engine.specs.Memory.{Memory, with_leases}

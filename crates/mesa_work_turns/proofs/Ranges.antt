@@ -12,12 +12,12 @@ use Rattle.mesa_engine.specs.mesa_image_spec.Catalog.{Catalog, Stock, stock_at}
 use Rattle.mesa_engine.specs.mesa_image_spec.Contents.{present}
 use Rattle.mesa_engine.specs.mesa_image_spec.Fitting.{may_be_work, shelved}
 use Rattle.mesa_engine.specs.mesa_image_spec.Sound.{IsStocked, wants}
-use Rattle.mesa_engine.proofs.mesa_engine_spec.mesa_image_spec.AllSourced.{epochs_written, work_written}
-use Rattle.mesa_engine.proofs.mesa_engine_spec.mesa_image_spec.Lists.{stock_found}
-use Rattle.mesa_engine.specs.mesa_engine_spec.mesa_image_spec.Moves.{first_of, is_base, last_of}
-use Rattle.mesa_engine.specs.mesa_engine_spec.EngineState.{EngineState}
-use Rattle.mesa_engine.specs.mesa_engine_spec.Vault.{Origin, IsVault, written_by}
-use Rattle.mesa_engine.proofs.mesa_engine_spec.Standing.{held_there}
+use Rattle.mesa_engine.proofs.mesa_image_spec.AllSourced.{epochs_written, work_written}
+use Rattle.mesa_engine.proofs.mesa_image_spec.Lists.{stock_found}
+use Rattle.mesa_engine.specs.mesa_image_spec.Moves.{first_of, is_base, last_of}
+use Rattle.mesa_engine.specs.EngineState.{EngineState}
+use Rattle.mesa_engine.specs.Vault.{Origin, IsVault, written_by}
+use Rattle.mesa_engine.proofs.Standing.{held_there}
 use Rattle.mesa_model.specs.declared.entries.Entry.{Entry}
 use Rattle.mesa_plans.specs.Folding.{folded_deltas}
 use Rattle.mesa_plans.specs.Gathered.{IsGathered, unread_view}
@@ -27,7 +27,7 @@ use Rattle.mesa_publishing.specs.Finished.{GroupOnly, HasRange, sources_in}
 use Rattle.mesa_tasks.specs.Inputs.{present_parts}
 use Rattle.mesa_tasks.specs.Tasks.{IsTask}
 use Rattle.mesa_tasks.specs.declared.merging.Task.{Task}
-use Rattle.mesa_engine.specs.mesa_engine_spec.mesa_invariant_spec.Invariant.{Outset}
+use Rattle.mesa_engine.specs.mesa_invariant_spec.Invariant.{Outset}
 use Rattle.mesa_work_turns.proofs.Sound.{IsSoundDelta, none_met, none_own, present_lifted, same_folded, sound_deltas, told_inputs}
 use Rattle.mesa_work_turns.proofs.Bounded.{range_told}
 use Rattle.mesa_work_turns.proofs.Grants.{shaped_at}

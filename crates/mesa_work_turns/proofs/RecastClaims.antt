@@ -16,8 +16,8 @@ use Rattle.mesa_binding.specs.declared.failure.Failure.{Failure}
 use Rattle.mesa_binding.specs.declared.failure.Failure.TheVariants as asked
 use Rattle.mesa_engine.specs.mesa_history_spec.Machine.{Claim, Machine, Recasts, max_deltas, recast_claim_of, refuse_busy}
 use Rattle.mesa_lease.specs.Book.{holder}
-use Rattle.mesa_engine.specs.mesa_engine_spec.EngineState.{EngineState, books_of, projection_of}
-use Rattle.mesa_engine.specs.mesa_engine_spec.mesa_invariant_spec.Works.{HasNoClaim}
+use Rattle.mesa_engine.specs.EngineState.{EngineState, books_of, projection_of}
+use Rattle.mesa_engine.specs.mesa_invariant_spec.Works.{HasNoClaim}
 use Rattle.mesa_engine.specs.mesa_image_spec.Catalog.{no_stock, ranges_of, start_in, stock_at}
 use Rattle.mesa_model.specs.Refusals.{no_such_table, recast_refusal, refuse_closed}
 use Rattle.mesa_model.specs.Relations.{table_number}

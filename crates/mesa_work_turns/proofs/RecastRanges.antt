@@ -25,14 +25,14 @@ use Rattle.mesa_engine.specs.mesa_image_spec.Contents.{Rows, present, rows_if_an
 use Rattle.mesa_engine.specs.mesa_image_spec.Fitting.{base_deltas, delta_in, delta_shelved, deltas_of, files_shelved, shelved}
 use Rattle.mesa_engine.specs.mesa_image_spec.Shape.{IsShaped}
 use Rattle.mesa_engine.specs.mesa_image_spec.Sound.{IsStocked, bytes_of, wants}
-use Rattle.mesa_engine.specs.mesa_engine_spec.EngineState.{EngineState}
-use Rattle.mesa_engine.specs.mesa_engine_spec.Vault.{Origin, IsVault, written_by}
-use Rattle.mesa_engine.specs.mesa_engine_spec.mesa_image_spec.Sourced.{AreMadeOf, IsMadeOf, IsSourced}
-use Rattle.mesa_engine.specs.mesa_engine_spec.mesa_invariant_spec.Invariant.{Outset}
-use Rattle.mesa_engine.proofs.mesa_engine_spec.Standing.{held_there}
-use Rattle.mesa_engine.proofs.mesa_engine_spec.mesa_image_spec.AllSourced.{epochs_written, own as own_sources}
-use Rattle.mesa_engine.proofs.mesa_engine_spec.mesa_image_spec.Lists.{all_back, all_front, all_unflat, stock_found}
-use Rattle.mesa_engine.proofs.mesa_engine_spec.mesa_image_spec.Rising.{folds_itself}
+use Rattle.mesa_engine.specs.EngineState.{EngineState}
+use Rattle.mesa_engine.specs.Vault.{Origin, IsVault, written_by}
+use Rattle.mesa_engine.specs.mesa_image_spec.Sourced.{AreMadeOf, IsMadeOf, IsSourced}
+use Rattle.mesa_engine.specs.mesa_invariant_spec.Invariant.{Outset}
+use Rattle.mesa_engine.proofs.Standing.{held_there}
+use Rattle.mesa_engine.proofs.mesa_image_spec.AllSourced.{epochs_written, own as own_sources}
+use Rattle.mesa_engine.proofs.mesa_image_spec.Lists.{all_back, all_front, all_unflat, stock_found}
+use Rattle.mesa_engine.proofs.mesa_image_spec.Rising.{folds_itself}
 use Rattle.mesa_plans.specs.Read.{own_file}
 use Rattle.mesa_plans.proofs.Given.{AreGiven, IsGiven, all_told}
 use Rattle.mesa_plans.proofs.Sums.{abs_append, all_below}

@@ -21,17 +21,17 @@ use Rattle.mesa_model.specs.declared.replies.Refusal.TheVariants as no
 use Rattle.mesa_model.specs.declared.replies.Reply.TheVariants as reply
 use Rattle.mesa_engine.specs.mesa_history_spec.Output.{block}
 use Rattle.mesa_engine.specs.mesa_history_spec.Rows.{Rows, no_rows}
-use Rattle.mesa_engine.specs.mesa_engine_spec.mesa_invariant_spec.Causes.{told_at}
-use Rattle.mesa_engine.specs.mesa_engine_spec.mesa_invariant_spec.Printing.{IsPut}
-use Rattle.mesa_engine.specs.mesa_engine_spec.mesa_invariant_spec.Turns.{Shown, IsSeen, Takes, entry}
-use Rattle.mesa_engine.specs.mesa_engine_spec.mesa_invariant_spec.Invariant.{Outset, run_at, run_of}
-use Rattle.mesa_engine.proofs.mesa_engine_spec.mesa_invariant_spec.Turning.{stays, counts_same}
-use Rattle.mesa_engine.proofs.mesa_engine_spec.mesa_invariant_spec.Going.{takes_as}
-use Rattle.mesa_engine.proofs.mesa_engine_spec.mesa_invariant_spec.Working.{checked_is, renewed_turn, unrenewed_ends, unrenewed_turn}
-use Rattle.mesa_engine.specs.mesa_engine_spec.EngineState.{EngineState, books_of}
-use Rattle.mesa_engine.specs.mesa_engine_spec.Turned.{leased_state}
-use Rattle.mesa_engine.specs.mesa_engine_spec.Vault.{Origin, Starts, IsVault, outset_of}
-use Rattle.mesa_engine.proofs.mesa_engine_spec.Staying.{leased_vault, still_vault}
+use Rattle.mesa_engine.specs.mesa_invariant_spec.Causes.{told_at}
+use Rattle.mesa_engine.specs.mesa_invariant_spec.Printing.{IsPut}
+use Rattle.mesa_engine.specs.mesa_invariant_spec.Turns.{Shown, IsSeen, Takes, entry}
+use Rattle.mesa_engine.specs.mesa_invariant_spec.Invariant.{Outset, run_at, run_of}
+use Rattle.mesa_engine.proofs.mesa_invariant_spec.Turning.{stays, counts_same}
+use Rattle.mesa_engine.proofs.mesa_invariant_spec.Going.{takes_as}
+use Rattle.mesa_engine.proofs.mesa_invariant_spec.Working.{checked_is, renewed_turn, unrenewed_ends, unrenewed_turn}
+use Rattle.mesa_engine.specs.EngineState.{EngineState, books_of}
+use Rattle.mesa_engine.specs.Turned.{leased_state}
+use Rattle.mesa_engine.specs.Vault.{Origin, Starts, IsVault, outset_of}
+use Rattle.mesa_engine.proofs.Staying.{leased_vault, still_vault}
 use Rattle.mesa_engine.specs.declared.log.Log.{Log}
 use Rattle.mesa_engine.specs.Printing.{PrintsBlock}
 use Rattle.mesa_engine.specs.Memory.{Memory, with_leases}

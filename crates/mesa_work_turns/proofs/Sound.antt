@@ -18,8 +18,8 @@ use Rattle.mesa_engine.specs.mesa_image_spec.Catalog.{Catalog, Delta, Stock, sto
 use Rattle.mesa_engine.specs.mesa_image_spec.Contents.{Rows}
 use Rattle.mesa_engine.specs.mesa_image_spec.Fitting.{Shelved, delta_shelved, deltas_of, files_shelved, shelved, stock_shelved}
 use Rattle.mesa_engine.specs.mesa_image_spec.Sound.{AreStocked, IsStocked, IsTold, bytes_of, wanted, wants}
-use Rattle.mesa_engine.proofs.mesa_engine_spec.mesa_image_spec.Lists.{all_unflat, all_unmap, stock_found}
-use Rattle.mesa_engine.proofs.mesa_engine_spec.Lists.{all_also}
+use Rattle.mesa_engine.proofs.mesa_image_spec.Lists.{all_unflat, all_unmap, stock_found}
+use Rattle.mesa_engine.proofs.Lists.{all_also}
 use Rattle.mesa_plans.specs.Files.{Want, files_wanted, table_wanted, want_of}
 use Rattle.mesa_plans.specs.Gathered.{unread_view}
 use Rattle.mesa_publishing.specs.Finished.{GroupOnly}

@@ -33,28 +33,28 @@ use Rattle.mesa_record.specs.Rules.{IsTyped, IsTypedChange}
 use Rattle.mesa_engine.specs.mesa_catalog.mesa_image_spec.Catalog.{Catalog, applied, stock_at}
 use Rattle.mesa_engine.specs.mesa_catalog.mesa_image_spec.Fitting.{expire_fits, fits, is_new_name, is_there}
 use Rattle.mesa_engine.specs.mesa_catalog.mesa_image_spec.Sound.{AreStocked}
-use Rattle.mesa_engine.proofs.mesa_engine_spec.mesa_image_spec.Agreeing.{agree_stocked}
-use Rattle.mesa_engine.proofs.mesa_engine_spec.mesa_image_spec.AllSourced.{alter_sourced, expire_sourced, expire_table_sourced, table_sourced, view_sourced}
-use Rattle.mesa_engine.proofs.mesa_engine_spec.mesa_image_spec.Lists.{both_true, is_less}
-use Rattle.mesa_engine.proofs.mesa_engine_spec.mesa_image_spec.Moving.{alter_step, expire_step, expire_table_step, kind_of, publish_step, table_step, view_step}
-use Rattle.mesa_engine.specs.mesa_engine_spec.mesa_image_spec.Brought.{AreTold, BringsAll}
-use Rattle.mesa_engine.specs.mesa_engine_spec.mesa_image_spec.Ids.{dropped_ids}
-use Rattle.mesa_engine.specs.mesa_engine_spec.mesa_image_spec.Moves.{Moves}
-use Rattle.mesa_engine.specs.mesa_engine_spec.mesa_image_spec.Sourced.{HasSources, tables_read}
+use Rattle.mesa_engine.proofs.mesa_image_spec.Agreeing.{agree_stocked}
+use Rattle.mesa_engine.proofs.mesa_image_spec.AllSourced.{alter_sourced, expire_sourced, expire_table_sourced, table_sourced, view_sourced}
+use Rattle.mesa_engine.proofs.mesa_image_spec.Lists.{both_true, is_less}
+use Rattle.mesa_engine.proofs.mesa_image_spec.Moving.{alter_step, expire_step, expire_table_step, kind_of, publish_step, table_step, view_step}
+use Rattle.mesa_engine.specs.mesa_image_spec.Brought.{AreTold, BringsAll}
+use Rattle.mesa_engine.specs.mesa_image_spec.Ids.{dropped_ids}
+use Rattle.mesa_engine.specs.mesa_image_spec.Moves.{Moves}
+use Rattle.mesa_engine.specs.mesa_image_spec.Sourced.{HasSources, tables_read}
 use Rattle.mesa_engine.specs.mesa_catalog.Lookups.{generation_of, turns_generation}
 use Rattle.mesa_rules.specs.Seen.{number_of}
 use Rattle.mesa_engine.specs.mesa_history_spec.Rows.{Rows}
-use Rattle.mesa_engine.specs.mesa_engine_spec.mesa_invariant_spec.Causes.{told_at}
-use Rattle.mesa_engine.specs.mesa_engine_spec.mesa_invariant_spec.Changes.{Doing, IsChange, IsDecided}
-use Rattle.mesa_engine.specs.mesa_engine_spec.mesa_invariant_spec.Sight.{is_of_schemas}
-use Rattle.mesa_engine.specs.mesa_engine_spec.mesa_invariant_spec.Invariant.{Outset, run_of}
-use Rattle.mesa_engine.proofs.mesa_engine_spec.mesa_invariant_spec.Changing.{alter_decided, expire_decided, load_decided, table_decided, view_decided}
-use Rattle.mesa_engine.specs.mesa_engine_spec.EngineState.{EngineState, books_of, next_id, projection_of}
-use Rattle.mesa_engine.specs.mesa_engine_spec.Recorded.{recorded_state}
-use Rattle.mesa_engine.specs.mesa_engine_spec.Vault.{Origin, IsVault, written_by}
-use Rattle.mesa_engine.proofs.mesa_engine_spec.Agreeing.{named_agree}
-use Rattle.mesa_engine.proofs.mesa_engine_spec.Changing.{alter_change, expire_change, expire_table_change, load_change, table_change, view_change}
-use Rattle.mesa_engine.proofs.mesa_engine_spec.Sources.{batch_sources, sources_stay}
+use Rattle.mesa_engine.specs.mesa_invariant_spec.Causes.{told_at}
+use Rattle.mesa_engine.specs.mesa_invariant_spec.Changes.{Doing, IsChange, IsDecided}
+use Rattle.mesa_engine.specs.mesa_invariant_spec.Sight.{is_of_schemas}
+use Rattle.mesa_engine.specs.mesa_invariant_spec.Invariant.{Outset, run_of}
+use Rattle.mesa_engine.proofs.mesa_invariant_spec.Changing.{alter_decided, expire_decided, load_decided, table_decided, view_decided}
+use Rattle.mesa_engine.specs.EngineState.{EngineState, books_of, next_id, projection_of}
+use Rattle.mesa_engine.specs.Recorded.{recorded_state}
+use Rattle.mesa_engine.specs.Vault.{Origin, IsVault, written_by}
+use Rattle.mesa_engine.proofs.Agreeing.{named_agree}
+use Rattle.mesa_engine.proofs.Changing.{alter_change, expire_change, expire_table_change, load_change, table_change, view_change}
+use Rattle.mesa_engine.proofs.Sources.{batch_sources, sources_stay}
 use Rattle.mesa_engine.specs.Failing.{deciding_stage}
 use Rattle.mesa_write_turns.specs.Writing.{Does, HasRecord}
 

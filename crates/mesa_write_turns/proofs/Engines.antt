@@ -18,13 +18,13 @@ use Rattle.mesa_engine.specs.mesa_catalog.mesa_image_spec.Catalog.{applied}
 use Rattle.mesa_engine.specs.mesa_catalog.Lookups.{generation_of, turns_generation}
 use Rattle.mesa_engine.specs.mesa_history_spec.Bare.{bare_state}
 use Rattle.mesa_engine.specs.mesa_history_spec.Rows.{Rows, no_rows}
-use Rattle.mesa_engine.specs.mesa_engine_spec.mesa_invariant_spec.Causes.{Unwritten, reply_of, told_at}
-use Rattle.mesa_engine.specs.mesa_engine_spec.mesa_invariant_spec.Turns.{entry}
-use Rattle.mesa_engine.specs.mesa_engine_spec.mesa_invariant_spec.Invariant.{Counts, run_at, run_of}
-use Rattle.mesa_engine.proofs.mesa_engine_spec.mesa_invariant_spec.Alike.{due_alike}
-use Rattle.mesa_engine.specs.mesa_engine_spec.EngineState.{first_id, next_id, past_id}
-use Rattle.mesa_engine.specs.mesa_engine_spec.Recorded.{failed_state, recorded_state}
-use Rattle.mesa_engine.specs.mesa_engine_spec.Vault.{IsReady, IsVault, Starts, outset_of}
+use Rattle.mesa_engine.specs.mesa_invariant_spec.Causes.{Unwritten, reply_of, told_at}
+use Rattle.mesa_engine.specs.mesa_invariant_spec.Turns.{entry}
+use Rattle.mesa_engine.specs.mesa_invariant_spec.Invariant.{Counts, run_at, run_of}
+use Rattle.mesa_engine.proofs.mesa_invariant_spec.Alike.{due_alike}
+use Rattle.mesa_engine.specs.EngineState.{first_id, next_id, past_id}
+use Rattle.mesa_engine.specs.Recorded.{failed_state, recorded_state}
+use Rattle.mesa_engine.specs.Vault.{IsReady, IsVault, Starts, outset_of}
 use Rattle.mesa_engine.specs.declared.log.Log.{Log}
 use Rattle.mesa_engine.specs.Printing.{PrintsBlock}
 use Rattle.mesa_engine.specs.Memory.{Memory}

@@ -26,25 +26,25 @@ use Rattle.mesa_engine.specs.mesa_history_spec.Legal.{builds_files}
 use Rattle.mesa_engine.specs.mesa_history_spec.Run.{Run, First, Looked}
 use Rattle.mesa_engine.specs.mesa_history_spec.Turns.{IsDue}
 use Rattle.mesa_engine.specs.mesa_catalog.mesa_image_spec.Catalog.{Catalog}
-use Rattle.mesa_engine.specs.mesa_engine_spec.mesa_image_spec.Sourced.{tables_read}
+use Rattle.mesa_engine.specs.mesa_image_spec.Sourced.{tables_read}
 use Rattle.mesa_engine.specs.mesa_catalog.Lookups.{sight_of}
 use Rattle.mesa_engine.specs.mesa_history_spec.Output.{block}
 use Rattle.mesa_engine.specs.mesa_history_spec.Bare.{bare_state}
 use Rattle.mesa_engine.specs.mesa_history_spec.Rows.{Rows, no_rows}
-use Rattle.mesa_engine.specs.mesa_engine_spec.mesa_invariant_spec.Causes.{Unwritten, reply_of, told_at}
-use Rattle.mesa_engine.specs.mesa_engine_spec.mesa_invariant_spec.Changes.{HasFailed}
-use Rattle.mesa_engine.specs.mesa_engine_spec.mesa_invariant_spec.Printing.{IsPut}
-use Rattle.mesa_engine.specs.mesa_engine_spec.mesa_invariant_spec.Turns.{entry}
-use Rattle.mesa_engine.specs.mesa_engine_spec.mesa_invariant_spec.Invariant.{Outset, run_at, run_of}
-use Rattle.mesa_engine.proofs.mesa_engine_spec.mesa_invariant_spec.Alike.{due_alike}
-use Rattle.mesa_engine.proofs.mesa_engine_spec.mesa_invariant_spec.Changing.{fails_turn, load_decided}
-use Rattle.mesa_engine.proofs.mesa_engine_spec.mesa_invariant_spec.Clock.{begun_moment, closing, not_closing}
-use Rattle.mesa_engine.proofs.mesa_engine_spec.mesa_invariant_spec.Turning.{stays}
-use Rattle.mesa_engine.specs.mesa_engine_spec.EngineState.{EngineState, books_of, most_files}
-use Rattle.mesa_engine.specs.mesa_engine_spec.Turned.{shut_state}
-use Rattle.mesa_engine.specs.mesa_engine_spec.Vault.{Origin, IsVault, Starts, outset_of}
-use Rattle.mesa_engine.proofs.mesa_engine_spec.Changing.{tables_are}
-use Rattle.mesa_engine.proofs.mesa_engine_spec.Staying.{closed_vault, still_vault}
+use Rattle.mesa_engine.specs.mesa_invariant_spec.Causes.{Unwritten, reply_of, told_at}
+use Rattle.mesa_engine.specs.mesa_invariant_spec.Changes.{HasFailed}
+use Rattle.mesa_engine.specs.mesa_invariant_spec.Printing.{IsPut}
+use Rattle.mesa_engine.specs.mesa_invariant_spec.Turns.{entry}
+use Rattle.mesa_engine.specs.mesa_invariant_spec.Invariant.{Outset, run_at, run_of}
+use Rattle.mesa_engine.proofs.mesa_invariant_spec.Alike.{due_alike}
+use Rattle.mesa_engine.proofs.mesa_invariant_spec.Changing.{fails_turn, load_decided}
+use Rattle.mesa_engine.proofs.mesa_invariant_spec.Clock.{begun_moment, closing, not_closing}
+use Rattle.mesa_engine.proofs.mesa_invariant_spec.Turning.{stays}
+use Rattle.mesa_engine.specs.EngineState.{EngineState, books_of, most_files}
+use Rattle.mesa_engine.specs.Turned.{shut_state}
+use Rattle.mesa_engine.specs.Vault.{Origin, IsVault, Starts, outset_of}
+use Rattle.mesa_engine.proofs.Changing.{tables_are}
+use Rattle.mesa_engine.proofs.Staying.{closed_vault, still_vault}
 use Rattle.mesa_publishing.specs.declared.publishing.Published.{Published}
 use Rattle.mesa_engine.specs.declared.log.Log.{Log}
 use Rattle.mesa_engine.specs.Printing.{PrintsBlock}

@@ -31,12 +31,12 @@ use Rattle.mesa_rules.specs.declared.ruled.Ruled.{Ruled}
 use Rattle.mesa_rules.specs.Ruled.{IsRuled, IsRefused as IsUnruled}
 use Rattle.mesa_rules.specs.Seen.{HasCatalog, known_of}
 use Rattle.mesa_engine.specs.mesa_history_spec.Rows.{Rows, no_rows}
-use Rattle.mesa_engine.specs.mesa_engine_spec.mesa_invariant_spec.Causes.{NoMemory}
-use Rattle.mesa_engine.specs.mesa_engine_spec.mesa_invariant_spec.Changes.{Doing, HasFailed}
-use Rattle.mesa_engine.specs.mesa_engine_spec.mesa_invariant_spec.Turns.{Shown, IsSeen, Takes, entry}
-use Rattle.mesa_engine.specs.mesa_engine_spec.mesa_invariant_spec.Invariant.{run_at}
-use Rattle.mesa_engine.proofs.mesa_engine_spec.mesa_invariant_spec.Going.{publish_takes, simple_takes}
-use Rattle.mesa_engine.specs.mesa_engine_spec.EngineState.{EngineState, books_of, projection_of}
+use Rattle.mesa_engine.specs.mesa_invariant_spec.Causes.{NoMemory}
+use Rattle.mesa_engine.specs.mesa_invariant_spec.Changes.{Doing, HasFailed}
+use Rattle.mesa_engine.specs.mesa_invariant_spec.Turns.{Shown, IsSeen, Takes, entry}
+use Rattle.mesa_engine.specs.mesa_invariant_spec.Invariant.{run_at}
+use Rattle.mesa_engine.proofs.mesa_invariant_spec.Going.{publish_takes, simple_takes}
+use Rattle.mesa_engine.specs.EngineState.{EngineState, books_of, projection_of}
 use Rattle.mesa_engine.specs.Failure.{cause_in}
 use Rattle.mesa_engine.specs.Failing.{HasNotDone, deciding_kind, deciding_stage}
 use Rattle.mesa_write_turns.specs.Ruling.{IsAllowed, IsRefused, told_as}

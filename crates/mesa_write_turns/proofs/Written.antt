@@ -22,28 +22,28 @@ use Rattle.mesa_engine.specs.mesa_catalog.mesa_image_spec.Contents.{kept_of}
 use Rattle.mesa_engine.specs.mesa_catalog.mesa_image_spec.Fitting.{shelved}
 use Rattle.mesa_engine.specs.mesa_catalog.mesa_image_spec.Held.{IsHeld, StandsForEither as EitherOf}
 use Rattle.mesa_engine.specs.mesa_catalog.mesa_image_spec.Sound.{StandsFor}
-use Rattle.mesa_engine.proofs.mesa_engine_spec.mesa_image_spec.Agreeing.{agree_wants}
-use Rattle.mesa_engine.proofs.mesa_engine_spec.mesa_image_spec.CountedRecords.{fits_counted}
-use Rattle.mesa_engine.proofs.mesa_engine_spec.mesa_image_spec.Ids.{own_ids}
-use Rattle.mesa_engine.proofs.mesa_engine_spec.mesa_image_spec.Recordable.{applied_recordable}
-use Rattle.mesa_engine.proofs.mesa_engine_spec.mesa_image_spec.Wholes.{fits_shaped}
-use Rattle.mesa_engine.specs.mesa_engine_spec.mesa_image_spec.Ids.{named}
+use Rattle.mesa_engine.proofs.mesa_image_spec.Agreeing.{agree_wants}
+use Rattle.mesa_engine.proofs.mesa_image_spec.CountedRecords.{fits_counted}
+use Rattle.mesa_engine.proofs.mesa_image_spec.Ids.{own_ids}
+use Rattle.mesa_engine.proofs.mesa_image_spec.Recordable.{applied_recordable}
+use Rattle.mesa_engine.proofs.mesa_image_spec.Wholes.{fits_shaped}
+use Rattle.mesa_engine.specs.mesa_image_spec.Ids.{named}
 use Rattle.mesa_engine.specs.mesa_catalog.Lookups.{generation_of, turns_generation}
 use Rattle.mesa_store.specs.Store.{Writes as IsWritten}
 use Rattle.mesa_engine.specs.mesa_history_spec.Output.{block}
 use Rattle.mesa_engine.specs.mesa_history_spec.Rows.{Rows}
 use Rattle.mesa_publishing.specs.mesa_commit.Filed.{AreGiven, Renames}
-use Rattle.mesa_engine.specs.mesa_engine_spec.mesa_invariant_spec.Causes.{Unwritten, reply_of, told_at}
-use Rattle.mesa_engine.specs.mesa_engine_spec.mesa_invariant_spec.Printing.{IsPut}
-use Rattle.mesa_engine.specs.mesa_engine_spec.mesa_invariant_spec.Turns.{entry}
-use Rattle.mesa_engine.specs.mesa_engine_spec.mesa_invariant_spec.Invariant.{Counts, Passes, StandsForEither, Writes, run_of}
-use Rattle.mesa_engine.specs.mesa_engine_spec.EngineState.{EngineState}
-use Rattle.mesa_engine.specs.mesa_engine_spec.Recorded.{IsRecorded, failed_state, recorded_state}
-use Rattle.mesa_engine.specs.mesa_engine_spec.Vault.{IsVault, Starts, outset_of}
-use Rattle.mesa_engine.proofs.mesa_engine_spec.Agreeing.{named_agree, same_kept}
-use Rattle.mesa_engine.proofs.mesa_engine_spec.Recording.{Clears, clears_none}
-use Rattle.mesa_engine.proofs.mesa_engine_spec.Renaming.{record_brings, record_renames}
-use Rattle.mesa_engine.proofs.mesa_engine_spec.Writing.{unwritten_vault, written_vault}
+use Rattle.mesa_engine.specs.mesa_invariant_spec.Causes.{Unwritten, reply_of, told_at}
+use Rattle.mesa_engine.specs.mesa_invariant_spec.Printing.{IsPut}
+use Rattle.mesa_engine.specs.mesa_invariant_spec.Turns.{entry}
+use Rattle.mesa_engine.specs.mesa_invariant_spec.Invariant.{Counts, Passes, StandsForEither, Writes, run_of}
+use Rattle.mesa_engine.specs.EngineState.{EngineState}
+use Rattle.mesa_engine.specs.Recorded.{IsRecorded, failed_state, recorded_state}
+use Rattle.mesa_engine.specs.Vault.{IsVault, Starts, outset_of}
+use Rattle.mesa_engine.proofs.Agreeing.{named_agree, same_kept}
+use Rattle.mesa_engine.proofs.RecordedStates.{Clears, clears_none}
+use Rattle.mesa_engine.proofs.Renaming.{record_brings, record_renames}
+use Rattle.mesa_engine.proofs.Writing.{unwritten_vault, written_vault}
 use Rattle.mesa_engine.specs.Failing.{deciding_stage}
 use Rattle.mesa_publishing.specs.Published.{AllTell}
 use Rattle.mesa_write_turns.specs.declared.writing.Change.{Change}

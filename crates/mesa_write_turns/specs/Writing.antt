@@ -25,13 +25,13 @@ use Rattle.mesa_record.specs.Rules.{keeps_rules}
 use Rattle.mesa_engine.specs.mesa_catalog.mesa_image_spec.Catalog.{stock_at}
 use Rattle.mesa_engine.specs.mesa_catalog.mesa_image_spec.Fitting.{brought, fits}
 use Rattle.mesa_engine.specs.mesa_catalog.mesa_image_spec.Sound.{wants}
-use Rattle.mesa_engine.specs.mesa_engine_spec.mesa_image_spec.Brought.{AreTold, BringsAll}
-use Rattle.mesa_engine.specs.mesa_engine_spec.mesa_image_spec.Ids.{brought_ids}
-use Rattle.mesa_engine.specs.mesa_engine_spec.mesa_image_spec.Sourced.{tables_read}
+use Rattle.mesa_engine.specs.mesa_image_spec.Brought.{AreTold, BringsAll}
+use Rattle.mesa_engine.specs.mesa_image_spec.Ids.{brought_ids}
+use Rattle.mesa_engine.specs.mesa_image_spec.Sourced.{tables_read}
 use Rattle.mesa_engine.specs.mesa_history_spec.Rows.{Rows, no_rows}
-use Rattle.mesa_engine.specs.mesa_engine_spec.mesa_invariant_spec.Changes.{Doing}
-use Rattle.mesa_engine.specs.mesa_engine_spec.EngineState.{EngineState, books_of, next_id}
-use Rattle.mesa_engine.specs.mesa_engine_spec.Recorded.{Adopts}
+use Rattle.mesa_engine.specs.mesa_invariant_spec.Changes.{Doing}
+use Rattle.mesa_engine.specs.EngineState.{EngineState, books_of, next_id}
+use Rattle.mesa_engine.specs.Recorded.{Adopts}
 use Rattle.mesa_publishing.specs.Published.{AllTell}
 use Rattle.mesa_rules.specs.Seen.{number_of}
 use Rattle.mesa_engine.specs.Failing.{deciding_stage}

@@ -6,8 +6,8 @@ ghost use Rattle.mesa_engine.specs.mesa_history_spec.Turns.{IsDue};
 ghost use Rattle.mesa_model.specs.declared.commands.Command.TheVariants as command;
 ghost use Rattle.mesa_model.specs.declared.entries.Kind.TheVariants as kind;
 ghost use Rattle.mesa_engine.specs.mesa_history_spec.Rows.{no_rows};
-ghost use Rattle.mesa_engine.specs.mesa_engine_spec.mesa_invariant_spec.Turns.{AnswersDisk, SomeRose, Takes};
-ghost use Rattle.mesa_engine.specs.mesa_engine_spec.mesa_invariant_spec.Invariant.{run_at};
+ghost use Rattle.mesa_engine.specs.mesa_invariant_spec.Turns.{AnswersDisk, SomeRose, Takes};
+ghost use Rattle.mesa_engine.specs.mesa_invariant_spec.Invariant.{run_at};
 ghost use Rattle.mesa_write_turns.specs.Writing.{KeepsFiles};
 
 use crate::deciding::decide;

@@ -6,7 +6,7 @@ use Rattle.mesa_publishing.specs.mesa_history_spec.Refused.{is_refusal}
 use Rattle.mesa_publishing.specs.mesa_history_spec.Run.{Finished, Renewed}
 use Rattle.mesa_publishing.specs.mesa_history_spec.Turns.{IsDue}
 use Rattle.mesa_engine.specs.mesa_image_spec.Catalog.{applied, stock_at}
-use Rattle.mesa_engine.specs.mesa_engine_spec.mesa_image_spec.Ids.{dropped_ids}
+use Rattle.mesa_engine.specs.mesa_image_spec.Ids.{dropped_ids}
 use Rattle.mesa_engine.specs.mesa_catalog.Lookups.{generation_of, turns_generation}
 use Rattle.mesa_lease.specs.Book.{ended}
 use Rattle.mesa_model.specs.Entry.{IsShort}
@@ -19,18 +19,18 @@ use Rattle.mesa_engine.specs.mesa_script.Rows.{body_of}
 use Rattle.mesa_engine.specs.mesa_history_spec.Rows.{Rows, no_rows}
 use Rattle.mesa_publishing.specs.Finished.{HasRange, IsFinished}
 use Rattle.mesa_publishing.specs.Swapped.{IsSwapped}
-use Rattle.mesa_engine.specs.mesa_engine_spec.mesa_invariant_spec.Causes.{Replies, Unwritten, told_at}
-use Rattle.mesa_engine.specs.mesa_engine_spec.mesa_invariant_spec.Turns.{AnswersDisk, AnswersDraft, Shown, SomeRose, Takes, entry, faults_of}
-use Rattle.mesa_engine.specs.mesa_engine_spec.mesa_invariant_spec.Invariant.{Counts, run_at}
-use Rattle.mesa_engine.proofs.mesa_engine_spec.mesa_invariant_spec.Alike.{due_alike}
-use Rattle.mesa_engine.proofs.mesa_engine_spec.mesa_invariant_spec.Clock.{closing}
-use Rattle.mesa_engine.proofs.mesa_engine_spec.mesa_invariant_spec.Faulting.{disk_counted, disk_where}
-use Rattle.mesa_engine.proofs.mesa_engine_spec.mesa_invariant_spec.Working.{checked_open}
-use Rattle.mesa_engine.specs.mesa_engine_spec.EngineState.{EngineState, books_of}
-use Rattle.mesa_engine.specs.mesa_engine_spec.Recorded.{failed_state, holds_in, left_by, recorded_state, removed_by, waiting}
-use Rattle.mesa_engine.specs.mesa_engine_spec.Turned.{leased_state}
-use Rattle.mesa_engine.specs.mesa_engine_spec.Vault.{Starts, outset_of, written_by}
-use Rattle.mesa_engine.proofs.mesa_engine_spec.Beginning.{vault_at_seen}
+use Rattle.mesa_engine.specs.mesa_invariant_spec.Causes.{Replies, Unwritten, told_at}
+use Rattle.mesa_engine.specs.mesa_invariant_spec.Turns.{AnswersDisk, AnswersDraft, Shown, SomeRose, Takes, entry, faults_of}
+use Rattle.mesa_engine.specs.mesa_invariant_spec.Invariant.{Counts, run_at}
+use Rattle.mesa_engine.proofs.mesa_invariant_spec.Alike.{due_alike}
+use Rattle.mesa_engine.proofs.mesa_invariant_spec.Clock.{closing}
+use Rattle.mesa_engine.proofs.mesa_invariant_spec.Faulting.{disk_counted, disk_where}
+use Rattle.mesa_engine.proofs.mesa_invariant_spec.Working.{checked_open}
+use Rattle.mesa_engine.specs.EngineState.{EngineState, books_of}
+use Rattle.mesa_engine.specs.Recorded.{failed_state, holds_in, left_by, recorded_state, removed_by, waiting}
+use Rattle.mesa_engine.specs.Turned.{leased_state}
+use Rattle.mesa_engine.specs.Vault.{Starts, outset_of, written_by}
+use Rattle.mesa_engine.proofs.BeforeTurns.{vault_at_seen}
 use Rattle.mesa_engine.specs.Printing.{PrintsBlock}
 use Rattle.mesa_engine.specs.Memory.{Memory}
 use Rattle.mesa_engine.specs.Engine.{IsEngine, Standing, starts_of}
@@ -39,7 +39,7 @@ use Rattle.mesa_tasks.specs.Tasks.{claim_in}
 use Rattle.mesa_publishing.specs.mesa_commit.Holding.{kept}
 use Rattle.mesa_write_turns.proofs.Loads.{all_tell}
 use Rattle.mesa_write_turns.proofs.Written.{IsWhole, IsWorked}
-use Rattle.mesa_engine.specs.mesa_engine_spec.Written.{written_at}
+use Rattle.mesa_engine.specs.Written.{written_at}
 use Rattle.mesa_close_turns.proofs.Claims.{due_still}
 use Rattle.mesa_close_turns.proofs.Refusing.{closed_takes}
 use Rattle.mesa_close_turns.proofs.SwapEngines.{absent_still, ready_still, swap_prints, swapped_engine, unswapped_engine}

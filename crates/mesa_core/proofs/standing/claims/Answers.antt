@@ -3,8 +3,8 @@ use Rattle.mesa_engine.specs.Engine.{Standing, starts_of}
 use Rattle.mesa_session_laws.specs.mesa_history_spec.Claims.{HasClaimAt}
 use Rattle.mesa_session_laws.specs.mesa_history_spec.Machine.{Machine}
 use Rattle.mesa_session_laws.specs.mesa_history_spec.Run.{place_of}
-use Rattle.mesa_engine.proofs.mesa_engine_spec.Beginning.{vault_claims}
-use Rattle.mesa_engine.specs.mesa_engine_spec.Vault.{Starts, outset_of}
+use Rattle.mesa_engine.proofs.BeforeTurns.{vault_claims}
+use Rattle.mesa_engine.specs.Vault.{Starts, outset_of}
 use Rattle.mesa_engine.specs.mesa_history_spec.Rows.{no_rows}
 use Rattle.mesa_engine.specs.mesa_invariant_spec.Invariant.{run_at}
 use Rattle.mesa_core.proofs.standing.claims.Goals as goal

@@ -2,7 +2,7 @@ use Rattle.std.proofs.Common.{◌≡◌, ◌+◌, ◌++◌, ◌≤◌, length, r
 use Rattle.mesa_disk.specs.Files.{files_of}
 use Rattle.mesa_schema.specs.Changes.{columns_of}
 use Rattle.mesa_engine.specs.mesa_image_spec.Catalog.{Catalog, stock_at}
-use Rattle.mesa_engine.specs.mesa_engine_spec.EngineState.{next_id}
+use Rattle.mesa_engine.specs.EngineState.{next_id}
 use Rattle.mesa_publishing.specs.Adopted.{told_under}
 use Rattle.mesa_table.specs.Meaning.{AreLoaded, IsTable, start_of_base, stock_of}
 use Rattle.mesa_table.specs.declared.table.Loaded.{Loaded}

@@ -2,7 +2,7 @@ use Rattle.std.proofs.Common.{◌≡◌, ◌∙◌, ◌++◌, ap, arith}
 use Rattle.mesa_disk.specs.Files.{files_of}
 use Rattle.mesa_engine.specs.mesa_image_spec.Catalog.{Catalog}
 use Rattle.mesa_engine.proofs.mesa_image_spec.Plans.{due_work_fits}
-use Rattle.mesa_engine.specs.mesa_engine_spec.EngineState.{next_id}
+use Rattle.mesa_engine.specs.EngineState.{next_id}
 use Rattle.mesa_publishing.specs.Adopted.{files_if_any, told_under}
 use Rattle.mesa_publishing.proofs.Told.{count_made}
 use Rattle.mesa_publishing.specs.Swapped.{files_under_if_any, swap_of, table_in}

@@ -3,12 +3,12 @@ use Rattle.mesa_query_turns.proofs.Opens.{has_no_asked, has_no_files, met_damage
 use Rattle.mesa_plans.proofs.There.{name_there, view_within}
 use Rattle.mesa_query_turns.proofs.opening.files_asked.Goals as goal
 use Rattle.mesa_engine.specs.mesa_catalog.mesa_image_spec.Catalog.{stock_at}
-use Rattle.mesa_engine.specs.mesa_engine_spec.EngineState.{books_of}
+use Rattle.mesa_engine.specs.EngineState.{books_of}
 use Rattle.mesa_rules.specs.Found.{answer_found}
 use Rattle.mesa_engine.specs.mesa_history_spec.Rows.{no_rows}
-use Rattle.mesa_engine.specs.mesa_engine_spec.mesa_invariant_spec.Causes.{Cause, outcome_of}
-use Rattle.mesa_engine.specs.mesa_engine_spec.mesa_invariant_spec.Queries.{HasNoAnswer}
-use Rattle.mesa_engine.specs.mesa_engine_spec.mesa_invariant_spec.Undamaged.{is_damaged}
+use Rattle.mesa_engine.specs.mesa_invariant_spec.Causes.{Cause, outcome_of}
+use Rattle.mesa_engine.specs.mesa_invariant_spec.Queries.{HasNoAnswer}
+use Rattle.mesa_engine.specs.mesa_invariant_spec.Undamaged.{is_damaged}
 
 pub returns-in-Err-clause-refused : goal.returns-in-Err-clause-refused
 returns-in-Err-clause-refused g c =

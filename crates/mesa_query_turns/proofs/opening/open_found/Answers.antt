@@ -10,7 +10,7 @@ use Rattle.mesa_disk.specs.Image.{Image}
 use Rattle.mesa_engine.proofs.Seeing.{ok_also}
 use Rattle.mesa_filter.specs.Filter.{are_within}
 use Rattle.mesa_filter.specs.Query.{IsQueryOf, group_kinds}
-use Rattle.mesa_engine.specs.mesa_engine_spec.mesa_image_spec.Planned.{planned}
+use Rattle.mesa_engine.specs.mesa_image_spec.Planned.{planned}
 use Rattle.mesa_plans.proofs.Contents.{columns_found}
 use Rattle.mesa_plans.proofs.Ordered.{read_kinds}
 use Rattle.mesa_plans.proofs.Reading.{columns_read}

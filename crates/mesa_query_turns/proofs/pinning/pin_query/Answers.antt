@@ -6,9 +6,9 @@ use Rattle.mesa_query_turns.proofs.pinning.pin_query.Goals as goal
 use Rattle.mesa_engine.specs.Engine.{Standing, IsEngine, starts_of}
 use Rattle.mesa_engine.specs.mesa_history_spec.Run.{First, Finished}
 use Rattle.mesa_engine.specs.mesa_history_spec.Turns.{IsDue}
-use Rattle.mesa_engine.proofs.mesa_engine_spec.Beginning.{vault_at_seen}
-use Rattle.mesa_engine.specs.mesa_engine_spec.EngineState.{books_of}
-use Rattle.mesa_engine.specs.mesa_engine_spec.Vault.{Starts, outset_of}
+use Rattle.mesa_engine.proofs.BeforeTurns.{vault_at_seen}
+use Rattle.mesa_engine.specs.EngineState.{books_of}
+use Rattle.mesa_engine.specs.Vault.{Starts, outset_of}
 use Rattle.mesa_engine.specs.Failure.{cause_in}
 use Rattle.mesa_engine.specs.Memory.{Memory}
 use Rattle.mesa_model.specs.Entry.{IsShort}
@@ -18,12 +18,12 @@ use Rattle.mesa_model.specs.declared.entries.Kind.TheVariants as kind
 use Rattle.mesa_model.specs.declared.entries.Outcome.TheVariants as outcome
 use Rattle.mesa_plans.specs.Told.{Tells}
 use Rattle.mesa_engine.specs.mesa_history_spec.Rows.{Rows, no_rows}
-use Rattle.mesa_engine.proofs.mesa_engine_spec.mesa_invariant_spec.Alike.{due_alike}
-use Rattle.mesa_engine.proofs.mesa_engine_spec.mesa_invariant_spec.Faulting.{disk_caused, disk_counted}
-use Rattle.mesa_engine.specs.mesa_engine_spec.mesa_invariant_spec.Causes.{Unwritten, outcome_of}
-use Rattle.mesa_engine.specs.mesa_engine_spec.mesa_invariant_spec.Queries.{HasNoAnswer, IsOpen}
-use Rattle.mesa_engine.specs.mesa_engine_spec.mesa_invariant_spec.Turns.{AnswersDisk, Shown, SomeRose, Takes, entry, faults_of}
-use Rattle.mesa_engine.specs.mesa_engine_spec.mesa_invariant_spec.Invariant.{run_at}
+use Rattle.mesa_engine.proofs.mesa_invariant_spec.Alike.{due_alike}
+use Rattle.mesa_engine.proofs.mesa_invariant_spec.Faulting.{disk_caused, disk_counted}
+use Rattle.mesa_engine.specs.mesa_invariant_spec.Causes.{Unwritten, outcome_of}
+use Rattle.mesa_engine.specs.mesa_invariant_spec.Queries.{HasNoAnswer, IsOpen}
+use Rattle.mesa_engine.specs.mesa_invariant_spec.Turns.{AnswersDisk, Shown, SomeRose, Takes, entry, faults_of}
+use Rattle.mesa_engine.specs.mesa_invariant_spec.Invariant.{run_at}
 
 pub skip-requires-clause-due : goal.skip-requires-clause-due
 skip-requires-clause-due g c κs within w =

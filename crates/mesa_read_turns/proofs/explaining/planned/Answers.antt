@@ -1,9 +1,9 @@
 use Rattle.std.proofs.Common.{map, sym, ◌∙◌, ap, subst}
 use Rattle.mesa_engine.specs.Failing.{is_of_device}
 use Rattle.mesa_engine.specs.mesa_image_spec.Catalog.{Catalog, ranges_of}
-use Rattle.mesa_engine.specs.mesa_engine_spec.EngineState.{books_of}
+use Rattle.mesa_engine.specs.EngineState.{books_of}
 use Rattle.mesa_engine.specs.mesa_history_spec.Rows.{no_rows}
-use Rattle.mesa_engine.specs.mesa_engine_spec.mesa_invariant_spec.Changes.{HasNoPlan}
+use Rattle.mesa_engine.specs.mesa_invariant_spec.Changes.{HasNoPlan}
 use Rattle.mesa_read_turns.proofs.Pins.{catalog_there}
 use Rattle.mesa_read_turns.proofs.Plans.{no_device, no_plan, plan_told}
 use Rattle.mesa_read_turns.proofs.explaining.planned.Goals as goal

@@ -2,7 +2,7 @@ use Rattle.std.proofs.Common.{◌≡◌, [], ◌∷◌, ◌++◌, Bool, true, fa
 use Rattle.std.specs.Prelude.{IfOk}
 use Rattle.mesa_batch.specs.Glance.{Sight, tables_of}
 use Rattle.mesa_rules.specs.mesa_catalog.Lookups.{sight_of}
-use Rattle.mesa_engine.specs.mesa_engine_spec.mesa_invariant_spec.Sight.{tables_seen}
+use Rattle.mesa_engine.specs.mesa_invariant_spec.Sight.{tables_seen}
 use Rattle.mesa_engine.proofs.Seeing.{ok_also, tables_are_seen}
 use Rattle.mesa_engine.specs.mesa_history_spec.Counting.{answers_disk}
 use Rattle.mesa_engine.specs.mesa_history_spec.Replay.{closes}
@@ -12,15 +12,15 @@ use Rattle.mesa_model.specs.Entry.{IsShort}
 use Rattle.mesa_model.specs.declared.commands.Command.TheVariants as command
 use Rattle.mesa_model.specs.declared.entries.Entry.{Entry}
 use Rattle.mesa_model.specs.declared.entries.Kind.TheVariants as kind
-use Rattle.mesa_engine.specs.mesa_engine_spec.Vault.{Starts, outset_of}
-use Rattle.mesa_engine.proofs.mesa_engine_spec.Beginning.{vault_at_seen}
+use Rattle.mesa_engine.specs.Vault.{Starts, outset_of}
+use Rattle.mesa_engine.proofs.BeforeTurns.{vault_at_seen}
 use Rattle.mesa_engine.specs.mesa_history_spec.Rows.{no_rows}
-use Rattle.mesa_engine.specs.mesa_engine_spec.mesa_invariant_spec.Turns.{AnswersDisk, Asks, Shown, Takes, entry, is_load, looking}
-use Rattle.mesa_engine.specs.mesa_engine_spec.mesa_invariant_spec.Undamaged.{is_damaged}
-use Rattle.mesa_engine.specs.mesa_engine_spec.mesa_invariant_spec.Invariant.{run_at}
-use Rattle.mesa_engine.proofs.mesa_engine_spec.mesa_invariant_spec.Alike.{due_alike}
-use Rattle.mesa_engine.proofs.mesa_engine_spec.mesa_invariant_spec.Faulting.{disk_never}
-use Rattle.mesa_engine.proofs.mesa_engine_spec.mesa_invariant_spec.Going.{look_takes}
+use Rattle.mesa_engine.specs.mesa_invariant_spec.Turns.{AnswersDisk, Asks, Shown, Takes, entry, is_load, looking}
+use Rattle.mesa_engine.specs.mesa_invariant_spec.Undamaged.{is_damaged}
+use Rattle.mesa_engine.specs.mesa_invariant_spec.Invariant.{run_at}
+use Rattle.mesa_engine.proofs.mesa_invariant_spec.Alike.{due_alike}
+use Rattle.mesa_engine.proofs.mesa_invariant_spec.Faulting.{disk_never}
+use Rattle.mesa_engine.proofs.mesa_invariant_spec.Going.{look_takes}
 use Rattle.mesa_engine.specs.Engine.{Standing, IsEngine, starts_of}
 use Rattle.mesa_engine.proofs.Turning.{passed_engine}
 use Rattle.mesa_read_turns.proofs.Looks.{load_of, looked_vault, skips}

@@ -8,18 +8,18 @@ use Rattle.mesa_model.specs.declared.entries.Entry.{Entry}
 use Rattle.mesa_model.specs.declared.entries.Kind.TheVariants as kind
 use Rattle.mesa_model.specs.declared.entries.Outcome.TheVariants as outcome
 use Rattle.mesa_model.specs.declared.replies.Reply.TheVariants as reply
-use Rattle.mesa_engine.specs.mesa_engine_spec.Turned.{released_state}
-use Rattle.mesa_engine.specs.mesa_engine_spec.Vault.{Starts, outset_of}
-use Rattle.mesa_engine.proofs.mesa_engine_spec.Beginning.{vault_at_seen}
+use Rattle.mesa_engine.specs.Turned.{released_state}
+use Rattle.mesa_engine.specs.Vault.{Starts, outset_of}
+use Rattle.mesa_engine.proofs.BeforeTurns.{vault_at_seen}
 use Rattle.mesa_engine.specs.Printing.{PrintsBlock}
 use Rattle.mesa_engine.specs.Memory.{Memory, with_state}
 use Rattle.mesa_engine.specs.mesa_history_spec.Rows.{no_rows}
-use Rattle.mesa_engine.specs.mesa_engine_spec.mesa_invariant_spec.Causes.{told_at}
-use Rattle.mesa_engine.specs.mesa_engine_spec.mesa_invariant_spec.Turns.{AnswersDisk, Shown, Takes, entry}
-use Rattle.mesa_engine.specs.mesa_engine_spec.mesa_invariant_spec.Invariant.{run_at}
-use Rattle.mesa_engine.proofs.mesa_engine_spec.mesa_invariant_spec.Alike.{due_alike}
-use Rattle.mesa_engine.proofs.mesa_engine_spec.mesa_invariant_spec.Faulting.{disk_never}
-use Rattle.mesa_engine.proofs.mesa_engine_spec.mesa_invariant_spec.Going.{simple_takes}
+use Rattle.mesa_engine.specs.mesa_invariant_spec.Causes.{told_at}
+use Rattle.mesa_engine.specs.mesa_invariant_spec.Turns.{AnswersDisk, Shown, Takes, entry}
+use Rattle.mesa_engine.specs.mesa_invariant_spec.Invariant.{run_at}
+use Rattle.mesa_engine.proofs.mesa_invariant_spec.Alike.{due_alike}
+use Rattle.mesa_engine.proofs.mesa_invariant_spec.Faulting.{disk_never}
+use Rattle.mesa_engine.proofs.mesa_invariant_spec.Going.{simple_takes}
 use Rattle.mesa_engine.specs.Engine.{Standing, IsEngine, starts_of}
 use Rattle.mesa_engine.proofs.Turning.{told_engine}
 use Rattle.mesa_read_turns.proofs.Releases.{without_vault}

@@ -1,7 +1,7 @@
 use Rattle.std.proofs.Common.{sym, ◌∙◌, ap, subst}
 use Rattle.mesa_engine.specs.mesa_history_spec.Machine.{still_checked}
 use Rattle.mesa_engine.specs.mesa_image_spec.Catalog.{Catalog, stock_at}
-use Rattle.mesa_engine.specs.mesa_engine_spec.EngineState.{books_of}
+use Rattle.mesa_engine.specs.EngineState.{books_of}
 use Rattle.mesa_model.specs.Warehouse.{Table}
 use Rattle.mesa_model.specs.declared.replies.Refusal.TheVariants as no
 use Rattle.mesa_plans.specs.mesa_schema.Changes.{Lineage, epoch_of}

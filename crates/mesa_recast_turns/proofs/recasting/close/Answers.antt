@@ -4,10 +4,10 @@ use Rattle.mesa_engine.specs.mesa_history_spec.Run.{Renewed}
 use Rattle.mesa_engine.specs.mesa_history_spec.Turns.{IsDue}
 use Rattle.mesa_model.specs.Warehouse.{Table}
 use Rattle.mesa_model.specs.declared.commands.Command.TheVariants as command
-use Rattle.mesa_engine.specs.mesa_engine_spec.EngineState.{books_of}
-use Rattle.mesa_engine.specs.mesa_engine_spec.Vault.{Starts, outset_of}
-use Rattle.mesa_engine.specs.mesa_engine_spec.mesa_invariant_spec.Causes.{outcome_of}
-use Rattle.mesa_engine.specs.mesa_engine_spec.mesa_invariant_spec.Invariant.{run_at}
+use Rattle.mesa_engine.specs.EngineState.{books_of}
+use Rattle.mesa_engine.specs.Vault.{Starts, outset_of}
+use Rattle.mesa_engine.specs.mesa_invariant_spec.Causes.{outcome_of}
+use Rattle.mesa_engine.specs.mesa_invariant_spec.Invariant.{run_at}
 use Rattle.mesa_engine.specs.Engine.{Standing, starts_of}
 use Rattle.mesa_engine.specs.mesa_history_spec.Rows.{no_rows}
 use Rattle.mesa_tasks.specs.Recasts.{claim_of_recast, recast_in}

@@ -6,7 +6,7 @@ use Rattle.mesa_engine.specs.mesa_history_spec.Refused.{is_refusal}
 use Rattle.mesa_engine.specs.mesa_history_spec.Run.{Finished, Renewed}
 use Rattle.mesa_engine.specs.mesa_history_spec.Turns.{IsDue}
 use Rattle.mesa_engine.specs.mesa_image_spec.Catalog.{applied}
-use Rattle.mesa_engine.specs.mesa_engine_spec.mesa_image_spec.Ids.{dropped_ids}
+use Rattle.mesa_engine.specs.mesa_image_spec.Ids.{dropped_ids}
 use Rattle.mesa_engine.specs.mesa_catalog.Lookups.{generation_of, turns_generation}
 use Rattle.mesa_lease.specs.Book.{ended}
 use Rattle.mesa_model.specs.Entry.{IsShort}
@@ -20,18 +20,18 @@ use Rattle.mesa_engine.specs.mesa_history_spec.Rows.{Rows, no_rows}
 use Rattle.mesa_plans.specs.mesa_schema.Changes.{epoch_of}
 use Rattle.mesa_close_turns.specs.mesa_publishing.Recasts.{HasItsRanges, IsRecastIn, stock_of_recast}
 use Rattle.mesa_close_turns.proofs.mesa_publishing.Becoming.{same_columns}
-use Rattle.mesa_engine.specs.mesa_engine_spec.mesa_invariant_spec.Causes.{Replies, Unwritten, told_at}
-use Rattle.mesa_engine.specs.mesa_engine_spec.mesa_invariant_spec.Turns.{AnswersDisk, AnswersDraft, Shown, SomeRose, Takes, entry, faults_of}
-use Rattle.mesa_engine.specs.mesa_engine_spec.mesa_invariant_spec.Invariant.{Counts, run_at}
-use Rattle.mesa_engine.proofs.mesa_engine_spec.mesa_invariant_spec.Alike.{due_alike}
-use Rattle.mesa_engine.proofs.mesa_engine_spec.mesa_invariant_spec.Clock.{closing}
-use Rattle.mesa_engine.proofs.mesa_engine_spec.mesa_invariant_spec.Faulting.{disk_counted, disk_where}
-use Rattle.mesa_engine.proofs.mesa_engine_spec.mesa_invariant_spec.Working.{checked_open}
-use Rattle.mesa_engine.specs.mesa_engine_spec.EngineState.{EngineState, books_of}
-use Rattle.mesa_engine.specs.mesa_engine_spec.Recorded.{failed_state, holds_in, left_by, recorded_state, removed_by, waiting}
-use Rattle.mesa_engine.specs.mesa_engine_spec.Turned.{leased_state}
-use Rattle.mesa_engine.specs.mesa_engine_spec.Vault.{Starts, outset_of, written_by}
-use Rattle.mesa_engine.proofs.mesa_engine_spec.Beginning.{vault_at_seen}
+use Rattle.mesa_engine.specs.mesa_invariant_spec.Causes.{Replies, Unwritten, told_at}
+use Rattle.mesa_engine.specs.mesa_invariant_spec.Turns.{AnswersDisk, AnswersDraft, Shown, SomeRose, Takes, entry, faults_of}
+use Rattle.mesa_engine.specs.mesa_invariant_spec.Invariant.{Counts, run_at}
+use Rattle.mesa_engine.proofs.mesa_invariant_spec.Alike.{due_alike}
+use Rattle.mesa_engine.proofs.mesa_invariant_spec.Clock.{closing}
+use Rattle.mesa_engine.proofs.mesa_invariant_spec.Faulting.{disk_counted, disk_where}
+use Rattle.mesa_engine.proofs.mesa_invariant_spec.Working.{checked_open}
+use Rattle.mesa_engine.specs.EngineState.{EngineState, books_of}
+use Rattle.mesa_engine.specs.Recorded.{failed_state, holds_in, left_by, recorded_state, removed_by, waiting}
+use Rattle.mesa_engine.specs.Turned.{leased_state}
+use Rattle.mesa_engine.specs.Vault.{Starts, outset_of, written_by}
+use Rattle.mesa_engine.proofs.BeforeTurns.{vault_at_seen}
 use Rattle.mesa_engine.specs.Printing.{PrintsBlock}
 use Rattle.mesa_engine.specs.Memory.{Memory}
 use Rattle.mesa_engine.specs.Engine.{IsEngine, Standing, starts_of}
@@ -40,7 +40,7 @@ use Rattle.mesa_tasks.specs.Recasts.{claim_of_recast, recast_in, recast_table}
 use Rattle.mesa_close_turns.specs.mesa_commit.Holding.{kept}
 use Rattle.mesa_close_turns.proofs.mesa_write_turns.Loads.{all_tell}
 use Rattle.mesa_close_turns.proofs.mesa_write_turns.Written.{IsWhole, IsWorked}
-use Rattle.mesa_engine.specs.mesa_engine_spec.Written.{written_at}
+use Rattle.mesa_engine.specs.Written.{written_at}
 use Rattle.mesa_close_turns.specs.Swept.{HasStood, IsSwept}
 use Rattle.mesa_close_turns.proofs.Sweeping.{stood_as, swept}
 use Rattle.mesa_recast_turns.specs.Rested.{HasRested}

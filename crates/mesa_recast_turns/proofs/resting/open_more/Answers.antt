@@ -8,13 +8,13 @@ use Rattle.mesa_plans.specs.Ranges.{HoldsAll, IsDamagedRange, IsOfRange, IsOpene
 use Rattle.mesa_plans.specs.mesa_table.Meaning.{stock_of}
 use Rattle.mesa_engine.specs.mesa_history_spec.Rows.{no_rows}
 use Rattle.mesa_engine.specs.Engine.{Standing, starts_of}
-use Rattle.mesa_engine.specs.mesa_engine_spec.Vault.{Starts, outset_of}
-use Rattle.mesa_engine.specs.mesa_engine_spec.Written.{written_at}
-use Rattle.mesa_engine.specs.mesa_engine_spec.mesa_invariant_spec.Turns.{NoneFell, SomeRose, faults_of}
-use Rattle.mesa_engine.specs.mesa_engine_spec.mesa_invariant_spec.Invariant.{faults_in}
+use Rattle.mesa_engine.specs.Vault.{Starts, outset_of}
+use Rattle.mesa_engine.specs.Written.{written_at}
+use Rattle.mesa_engine.specs.mesa_invariant_spec.Turns.{NoneFell, SomeRose, faults_of}
+use Rattle.mesa_engine.specs.mesa_invariant_spec.Invariant.{faults_in}
 use Rattle.mesa_engine.proofs.Turning.{unmoved_engine}
 use Rattle.mesa_engine.proofs.Seeing.{ok_also}
-use Rattle.mesa_engine.proofs.mesa_engine_spec.Lists.{all_so}
+use Rattle.mesa_engine.proofs.Lists.{all_so}
 use Rattle.mesa_close_turns.proofs.mesa_work_turns.Grants.{shaped_at}
 use Rattle.mesa_close_turns.proofs.mesa_work_turns.RecastRanges.{none_damaged, ranges_bounded, ranges_inputs, ranges_sourced}
 use Rattle.mesa_recast_turns.specs.Rested.{HasFurther}

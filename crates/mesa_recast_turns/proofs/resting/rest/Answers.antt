@@ -5,7 +5,7 @@ use Rattle.mesa_engine.specs.mesa_history_spec.Rows.{Rows}
 use Rattle.mesa_tasks.specs.Recasts.{recast_in, recast_table}
 use Rattle.mesa_delta.specs.declared.error.FileError.TheVariants as file_error
 use Rattle.mesa_engine.specs.Engine.{Standing}
-use Rattle.mesa_engine.specs.mesa_engine_spec.Written.{written_at}
+use Rattle.mesa_engine.specs.Written.{written_at}
 use Rattle.mesa_close_turns.specs.mesa_copy.Copying.{known_ranges}
 use Rattle.mesa_close_turns.proofs.mesa_copy.Rewriting.{rewritten_all}
 use Rattle.mesa_close_turns.proofs.mesa_publishing.Becoming.{same_columns as become_same}

@@ -7,10 +7,10 @@ use Rattle.mesa_store_digest.specs.mesa_history_spec.Rows.{no_rows}
 use Rattle.mesa_session.specs.mesa_core.Vault.{Stand}
 use Rattle.mesa_check.specs.mesa_history_spec.Refused.{some_refused}
 use Rattle.mesa_check.specs.mesa_history_spec.Run.{begins}
-use Rattle.mesa_engine_spec.specs.mesa_invariant_spec.Printing.{IsPrinted, IsPrintedButRows}
-use Rattle.mesa_engine_spec.specs.mesa_invariant_spec.Invariant.{AllFound}
+use Rattle.mesa_engine.specs.mesa_invariant_spec.Printing.{IsPrinted, IsPrintedButRows}
+use Rattle.mesa_engine.specs.mesa_invariant_spec.Invariant.{AllFound}
 use Rattle.mesa_check.specs.mesa_catalog.declared.begun.Begun.{Begun}
-use Rattle.mesa_engine_spec.specs.Vault.{IsRead}
+use Rattle.mesa_engine.specs.Vault.{IsRead}
 use Rattle.mesa_exit.specs.mesa_exit_spec.Run.{RanAnyhow, RanSoundly, outset_from}
 use Rattle.mesa_exit.proofs.mesa_exit_spec.Small.{session_small}
 use Rattle.mesa_shell.proofs.Parts.{benches_counted, fits_room, ran_anyhow, read_first, refilled}

@@ -12,10 +12,10 @@ use Rattle.mesa_model.specs.Entry.{IsShort}
 use Rattle.mesa_model.specs.declared.commands.Command.TheVariants as command
 use Rattle.mesa_model.specs.declared.entries.Kind.TheVariants as kind
 use Rattle.mesa_model.specs.declared.entries.Outcome.TheVariants as outcome
-use Rattle.mesa_engine.specs.mesa_engine_spec.EngineState.{EngineState, books_of}
-use Rattle.mesa_engine.proofs.mesa_engine_spec.mesa_image_spec.Plans.{due_work_fits}
-use Rattle.mesa_engine.specs.mesa_engine_spec.mesa_image_spec.Moves.{first_of, is_base, last_of}
-use Rattle.mesa_engine.specs.mesa_engine_spec.Vault.{IsVault, Starts, outset_of}
+use Rattle.mesa_engine.specs.EngineState.{EngineState, books_of}
+use Rattle.mesa_engine.proofs.mesa_image_spec.Plans.{due_work_fits}
+use Rattle.mesa_engine.specs.mesa_image_spec.Moves.{first_of, is_base, last_of}
+use Rattle.mesa_engine.specs.Vault.{IsVault, Starts, outset_of}
 use Rattle.mesa_publishing.specs.mesa_compact.Bounded.{IsBounded}
 use Rattle.mesa_engine.specs.Failure.{cause_in}
 use Rattle.mesa_plans.specs.Gathered.{IsGathered, unread_views}
@@ -26,12 +26,12 @@ use Rattle.mesa_engine.specs.mesa_history_spec.Rows.{Rows, no_rows}
 use Rattle.mesa_publishing.specs.Finished.{HasRange}
 use Rattle.mesa_tasks.specs.Tasks.{IsTask}
 use Rattle.mesa_tasks.specs.declared.merging.Task.{Task}
-use Rattle.mesa_engine.specs.mesa_engine_spec.mesa_invariant_spec.Turns.{AnswersDisk, Shown, SomeRose, Takes, entry, faults_of}
-use Rattle.mesa_engine.specs.mesa_engine_spec.mesa_invariant_spec.Invariant.{run_at}
-use Rattle.mesa_engine.proofs.mesa_engine_spec.mesa_invariant_spec.Alike.{due_alike}
+use Rattle.mesa_engine.specs.mesa_invariant_spec.Turns.{AnswersDisk, Shown, SomeRose, Takes, entry, faults_of}
+use Rattle.mesa_engine.specs.mesa_invariant_spec.Invariant.{run_at}
+use Rattle.mesa_engine.proofs.mesa_invariant_spec.Alike.{due_alike}
 use Rattle.mesa_engine.specs.Engine.{Standing, starts_of}
 use Rattle.mesa_work_turns.specs.Claims.{claim_as}
-use Rattle.mesa_engine.specs.mesa_engine_spec.Written.{written_at}
+use Rattle.mesa_engine.specs.Written.{written_at}
 use Rattle.mesa_work_turns.proofs.Bounded.{is_bounded}
 use Rattle.mesa_work_turns.proofs.Claims.{work_ends}
 use Rattle.mesa_work_turns.proofs.Ranges.{has_no_damage, has_range}

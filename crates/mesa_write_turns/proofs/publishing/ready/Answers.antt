@@ -3,8 +3,8 @@ use Rattle.mesa_engine.specs.mesa_catalog.Lookups.{sight_of}
 use Rattle.mesa_engine.specs.mesa_catalog.mesa_image_spec.Catalog.{Catalog}
 use Rattle.mesa_model.specs.declared.commands.Command.TheVariants as command
 use Rattle.mesa_engine.specs.mesa_history_spec.Rows.{no_rows}
-use Rattle.mesa_engine.specs.mesa_engine_spec.mesa_invariant_spec.Changes.{HasFailed}
-use Rattle.mesa_engine.specs.mesa_engine_spec.EngineState.{books_of}
+use Rattle.mesa_engine.specs.mesa_invariant_spec.Changes.{HasFailed}
+use Rattle.mesa_engine.specs.EngineState.{books_of}
 use Rattle.mesa_model.specs.Load.{load_batch}
 use Rattle.mesa_publishing.specs.Bounds.{IsDue}
 use Rattle.mesa_publishing.specs.Published.{bare_of}

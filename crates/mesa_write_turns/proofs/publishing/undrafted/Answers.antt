@@ -8,18 +8,18 @@ use Rattle.mesa_model.specs.declared.entries.Kind.TheVariants as kind
 use Rattle.mesa_model.specs.declared.entries.Outcome.TheVariants as outcome
 use Rattle.mesa_model.specs.Load.{load_batch}
 use Rattle.mesa_engine.specs.mesa_history_spec.Rows.{no_rows}
-use Rattle.mesa_engine.specs.mesa_engine_spec.mesa_invariant_spec.Causes.{Unwritten, reply_of, told_at}
-use Rattle.mesa_engine.specs.mesa_engine_spec.mesa_invariant_spec.Changes.{HasFailed}
-use Rattle.mesa_engine.specs.mesa_engine_spec.mesa_invariant_spec.Turns.{AnswersDisk, Shown, SomeRose, Takes, entry, faults_of}
-use Rattle.mesa_engine.specs.mesa_engine_spec.mesa_invariant_spec.Invariant.{run_at}
-use Rattle.mesa_engine.proofs.mesa_engine_spec.mesa_invariant_spec.Clock.{begun_moment, not_closing}
-use Rattle.mesa_engine.proofs.mesa_engine_spec.mesa_invariant_spec.Faulting.{disk_caused}
-use Rattle.mesa_engine.proofs.mesa_engine_spec.mesa_invariant_spec.Going.{publish_takes}
-use Rattle.mesa_engine.proofs.mesa_engine_spec.mesa_invariant_spec.Turning.{counts_same}
-use Rattle.mesa_engine.specs.mesa_engine_spec.EngineState.{books_of}
-use Rattle.mesa_engine.specs.mesa_engine_spec.Turned.{shut_state}
-use Rattle.mesa_engine.specs.mesa_engine_spec.Vault.{Starts}
-use Rattle.mesa_engine.proofs.mesa_engine_spec.Beginning.{vault_at_seen}
+use Rattle.mesa_engine.specs.mesa_invariant_spec.Causes.{Unwritten, reply_of, told_at}
+use Rattle.mesa_engine.specs.mesa_invariant_spec.Changes.{HasFailed}
+use Rattle.mesa_engine.specs.mesa_invariant_spec.Turns.{AnswersDisk, Shown, SomeRose, Takes, entry, faults_of}
+use Rattle.mesa_engine.specs.mesa_invariant_spec.Invariant.{run_at}
+use Rattle.mesa_engine.proofs.mesa_invariant_spec.Clock.{begun_moment, not_closing}
+use Rattle.mesa_engine.proofs.mesa_invariant_spec.Faulting.{disk_caused}
+use Rattle.mesa_engine.proofs.mesa_invariant_spec.Going.{publish_takes}
+use Rattle.mesa_engine.proofs.mesa_invariant_spec.Turning.{counts_same}
+use Rattle.mesa_engine.specs.EngineState.{books_of}
+use Rattle.mesa_engine.specs.Turned.{shut_state}
+use Rattle.mesa_engine.specs.Vault.{Starts}
+use Rattle.mesa_engine.proofs.BeforeTurns.{vault_at_seen}
 use Rattle.mesa_engine.specs.Printing.{PrintsBlock}
 use Rattle.mesa_engine.specs.Memory.{Memory}
 use Rattle.mesa_engine.specs.Engine.{Standing, starts_of}

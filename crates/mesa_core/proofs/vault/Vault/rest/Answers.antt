@@ -3,7 +3,7 @@ use Rattle.mesa_session_laws.specs.Recasts.{known_recast}
 use Rattle.mesa_session_laws.specs.Works.{WasGranted}
 use Rattle.mesa_session_laws.specs.mesa_publishing.Grown.{HasBecome}
 use Rattle.mesa_engine.specs.Engine.{Standing}
-use Rattle.mesa_engine.specs.mesa_engine_spec.EngineState.{EngineState}
+use Rattle.mesa_engine.specs.EngineState.{EngineState}
 use Rattle.mesa_engine.specs.mesa_history_spec.Rows.{no_rows}
 use Rattle.mesa_tasks.specs.Recasts.{recast_table}
 use Rattle.mesa_recast_turns.specs.Rested.{MayRest}

@@ -1,6 +1,6 @@
 use Rattle.std.proofs.Common.{◌≡◌, ◌++◌, ◌∙◌, ap, map, subst, sym, arith}
 use Rattle.std.proofs.lemmas.Simd.{map-map}
-use Rattle.mesa_engine_spec.specs.Recorded.{hold_of_pin, hold_of_query}
+use Rattle.mesa_engine.specs.Recorded.{hold_of_pin, hold_of_query}
 use Rattle.mesa_engine.specs.declared.holders.Pin.{Pin}
 use Rattle.mesa_engine.specs.declared.holders.Query.{Query}
 use Rattle.mesa_engine.specs.Index.{IsIndexOf}

@@ -1,6 +1,6 @@
 use Rattle.std.proofs.Common.{◌≡◌, ◌∙◌, ap, Option, None, Some, refl}
 use Rattle.std.specs.Prelude.{find, option_map}
-use Rattle.mesa_engine_spec.specs.Turned.{is_held_pin}
+use Rattle.mesa_engine.specs.Turned.{is_held_pin}
 use Rattle.mesa_engine.specs.declared.holders.Pin.{Pin as Held}
 use Rattle.mesa_engine.specs.Meaning.{pin_as}
 use Rattle.mesa_engine.proofs.Mapped.{find_mapped}

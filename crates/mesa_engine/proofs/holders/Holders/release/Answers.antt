@@ -1,6 +1,6 @@
 use Rattle.std.proofs.Common.{◌∙◌, length, map, ap, arith}
 use Rattle.std.specs.Prelude.{not}
-use Rattle.mesa_engine_spec.specs.Turned.{is_held_pin}
+use Rattle.mesa_engine.specs.Turned.{is_held_pin}
 use Rattle.mesa_engine.specs.declared.holders.Pin.{Pin}
 use Rattle.mesa_engine.specs.Meaning.{pin_as}
 use Rattle.mesa_engine.proofs.Mapped.{fewer, filter_mapped}

@@ -1,7 +1,7 @@
 use Rattle.std.proofs.Common.{◌≡◌, ◌∙◌, ◌++◌, [], ◌∷◌, ap, map, sym}
 use Rattle.mesa_catalog.specs.Kept.{Reserved}
-use Rattle.mesa_engine_spec.specs.EngineState.{HeldPin, next_id}
-use Rattle.mesa_engine_spec.specs.Turned.{pin_now, pinned_state}
+use Rattle.mesa_engine.specs.EngineState.{HeldPin, next_id}
+use Rattle.mesa_engine.specs.Turned.{pin_now, pinned_state}
 use Rattle.mesa_engine.specs.declared.holders.Pin.{Pin}
 use Rattle.mesa_engine.specs.Meaning.{pin_as, pins_in, queries_in, query_as}
 use Rattle.mesa_engine.specs.Memory.{Memory, hold_now, with_state}

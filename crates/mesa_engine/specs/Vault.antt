@@ -24,7 +24,7 @@ use Rattle.mesa_commit.specs.Holding.{AreFiled, ids_of}
 use Rattle.mesa_invariant_spec.specs.Sight.{schema_changes}
 use Rattle.mesa_invariant_spec.specs.Invariant.{Outset, HoldsInvariant}
 use Rattle.mesa_image_spec.specs.mesa_model.Versions.{common_oldest}
-use Rattle.mesa_engine_spec.specs.EngineState.{HeldPin, EngineState, books_of, next_id, past_id, most_files, Holder, holders, ids_held, files_held, projections}
+use Rattle.mesa_engine.specs.EngineState.{HeldPin, EngineState, books_of, next_id, past_id, most_files, Holder, holders, ids_held, files_held, projections}
 
 -- All that stands written of each table so far: what was found of it, and the batches that the run accepted since, each carried through the recasts behind it.
 abbrev pub written_by : Outset → (ℕ → List Written) → List Entry → ℕ → List Written

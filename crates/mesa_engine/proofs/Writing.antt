@@ -45,13 +45,13 @@ use Rattle.mesa_invariant_spec.specs.Works.{Regroups, Swaps}
 use Rattle.mesa_invariant_spec.proofs.Changing.{unwritten_turn, written_turn}
 use Rattle.mesa_invariant_spec.proofs.Recasting.{recast_turn, unrecast_turn}
 use Rattle.mesa_invariant_spec.proofs.Working.{swapped_turn, unswapped_turn}
-use Rattle.mesa_engine_spec.specs.EngineState.{EngineState, books_of}
-use Rattle.mesa_engine_spec.specs.Recorded.{Adopts, IsRecorded, failed_state, recorded_state}
-use Rattle.mesa_engine_spec.specs.Vault.{Origin, IsVault, Starts, outset_of, written_by}
-use Rattle.mesa_engine_spec.proofs.Recording.{Clears, failed_vault, recorded_vault}
-use Rattle.mesa_engine_spec.proofs.Staying.{stands_now}
-use Rattle.mesa_engine_spec.proofs.Swapping.{ended_granted}
-use Rattle.mesa_engine_spec.proofs.Standing.{held_stand}
+use Rattle.mesa_engine.specs.EngineState.{EngineState, books_of}
+use Rattle.mesa_engine.specs.Recorded.{Adopts, IsRecorded, failed_state, recorded_state}
+use Rattle.mesa_engine.specs.Vault.{Origin, IsVault, Starts, outset_of, written_by}
+use Rattle.mesa_engine.proofs.RecordedStates.{Clears, failed_vault, recorded_vault}
+use Rattle.mesa_engine.proofs.Staying.{stands_now}
+use Rattle.mesa_engine.proofs.Swapping.{ended_granted}
+use Rattle.mesa_engine.proofs.Standing.{held_stand}
 
 -- a run of a family, where the files had these rows
 module _ (n : Starts) (w : Rows) (sound : Bool) (l : EngineState) (story : Story) (held : Option (List ℕ)) (h : List Entry) (running refused : Bool) (v : IsVault (outset_of n w) (n.origin w) sound l story held h running refused)

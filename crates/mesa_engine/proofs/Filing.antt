@@ -20,9 +20,9 @@ use Rattle.mesa_commit.specs.Holding.{Among, is_held, ids_of, freed, kept, dropp
 use Rattle.mesa_commit.proofs.Adopting.{pin_stays, had_apart}
 use Rattle.mesa_commit.proofs.Filing.{filed_later, filed_brought, filed_dropped, filed_removed, freed_unheld}
 use Rattle.mesa_commit.proofs.Waiting.{among_front, among_back, dropped_among}
-use Rattle.mesa_engine_spec.specs.EngineState.{EngineState, Holder, pin_holder, query_holder, holders, ids_held}
-use Rattle.mesa_engine_spec.specs.Recorded.{holds_in}
-use Rattle.mesa_engine_spec.proofs.Lists.{among_left, among_split}
+use Rattle.mesa_engine.specs.EngineState.{EngineState, Holder, pin_holder, query_holder, holders, ids_held}
+use Rattle.mesa_engine.specs.Recorded.{holds_in}
+use Rattle.mesa_engine.proofs.Lists.{among_left, among_split}
 
 -- ---- ids
 

@@ -4,7 +4,7 @@ ghost use Rattle.mesa_image_spec.specs.mesa_history_spec.Run.{State, nothing_the
 ghost use Rattle.mesa_image_spec.specs.mesa_model.declared.commands.Script.{Script as AnyScript};
 ghost use Rattle.mesa_invariant_spec.specs.mesa_history_spec.Bare.{bare_state};
 ghost use Rattle.mesa_invariant_spec.specs.mesa_history_spec.Rows.{Rows, no_rows};
-ghost use Rattle.mesa_engine_spec.specs.Vault.{Origin};
+ghost use Rattle.mesa_engine.specs.Vault.{Origin};
 
 use std::marker::Brand;
 

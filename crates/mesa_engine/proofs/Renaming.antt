@@ -19,7 +19,7 @@ use Rattle.mesa_image_spec.proofs.Lists.{is_equal}
 use Rattle.mesa_image_spec.proofs.Moving.{kind_of}
 use Rattle.mesa_commit.specs.Filed.{Renames}
 use Rattle.mesa_commit.specs.Holding.{Among}
-use Rattle.mesa_engine_spec.proofs.Lists.{among_left, among_right, among_split}
+use Rattle.mesa_engine.proofs.Lists.{among_left, among_right, among_split}
 
 -- ---- ids in lists
 

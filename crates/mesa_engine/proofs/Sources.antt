@@ -29,11 +29,11 @@ use Rattle.mesa_invariant_spec.specs.mesa_history_spec.Rows.{Rows}
 use Rattle.mesa_invariant_spec.specs.Causes.{told_at}
 use Rattle.mesa_invariant_spec.specs.Invariant.{Outset, run_of}
 use Rattle.mesa_invariant_spec.proofs.Projections.{named_is}
-use Rattle.mesa_engine_spec.specs.EngineState.{EngineState, books_of, next_id}
-use Rattle.mesa_engine_spec.specs.Vault.{Origin, IsVault, written_by}
-use Rattle.mesa_engine_spec.proofs.Accepting.{written_more}
-use Rattle.mesa_engine_spec.proofs.Agreeing.{named_agree, same_kept}
-use Rattle.mesa_engine_spec.proofs.Changing.{tables_are}
+use Rattle.mesa_engine.specs.EngineState.{EngineState, books_of, next_id}
+use Rattle.mesa_engine.specs.Vault.{Origin, IsVault, written_by}
+use Rattle.mesa_engine.proofs.Accepting.{written_more}
+use Rattle.mesa_engine.proofs.Agreeing.{named_agree, same_kept}
+use Rattle.mesa_engine.proofs.Changing.{tables_are}
 
 -- a reply that leaves what stands written
 abbrev pub LeavesWritten : Reply → Type 0

@@ -11,8 +11,8 @@ use Rattle.mesa_image_spec.specs.Held.{IsHeld}
 use Rattle.mesa_image_spec.specs.Sound.{StandsFor, wants}
 use Rattle.mesa_invariant_spec.specs.mesa_history_spec.Rows.{Rows}
 use Rattle.mesa_invariant_spec.specs.Invariant.{AllStand}
-use Rattle.mesa_engine_spec.specs.EngineState.{EngineState}
-use Rattle.mesa_engine_spec.specs.Vault.{IsReady, AreThere}
+use Rattle.mesa_engine.specs.EngineState.{EngineState}
+use Rattle.mesa_engine.specs.Vault.{IsReady, AreThere}
 
 -- each image stands for the catalogue with its rows
 pub held_stand : (story : Story) (area : Area) (bodies : List (List ℕ)) (end : ℕ) (c : Catalog) (rows : Rows) → IsHeld story area bodies end c rows → AllStand StandsFor story (kept_of rows c)

@@ -10,12 +10,12 @@ use Rattle.mesa_image_spec.specs.Catalog.{Catalog}
 use Rattle.mesa_image_spec.specs.Ids.{named}
 use Rattle.mesa_commit.specs.Holding.{AreFiled}
 use Rattle.mesa_invariant_spec.specs.Invariant.{Outset, KeepsInvariant}
-use Rattle.mesa_engine_spec.specs.EngineState.{HeldPin, OpenQuery, EngineState, books_of, next_id, most_files, holders, ids_held}
+use Rattle.mesa_engine.specs.EngineState.{HeldPin, OpenQuery, EngineState, books_of, next_id, most_files, holders, ids_held}
 use Rattle.mesa_image_spec.specs.Sourced.{HasSources}
-use Rattle.mesa_engine_spec.specs.Vault.{Origin, IsReady, IsVault}
-use Rattle.mesa_engine_spec.proofs.Accepting.{silent_changes, silent_leaves}
-use Rattle.mesa_engine_spec.proofs.Holding.{AreKept}
-use Rattle.mesa_engine_spec.proofs.Standing.{held_unmoved, ready_unmoved}
+use Rattle.mesa_engine.specs.Vault.{Origin, IsReady, IsVault}
+use Rattle.mesa_engine.proofs.Accepting.{silent_changes, silent_leaves}
+use Rattle.mesa_engine.proofs.Holding.{AreKept}
+use Rattle.mesa_engine.proofs.Standing.{held_unmoved, ready_unmoved}
 
 module _ (o : Outset) (g : Origin) (sound : Bool) (l : EngineState) (story : Story) (held : Option (List ℕ)) (h : List Entry) (running refused : Bool) (v : IsVault o g sound l story held h running refused) where
   -- what is kept of the holds between turns

@@ -11,8 +11,8 @@ use Rattle.mesa_invariant_spec.specs.mesa_history_spec.Bare.{bare_pin, bare_stor
 use Rattle.mesa_invariant_spec.specs.mesa_history_spec.Rows.{Rows}
 use Rattle.mesa_commit.specs.declared.trash.Hold.{Hold}
 use Rattle.mesa_invariant_spec.specs.Books.{pinned_books, released_books}
-use Rattle.mesa_engine_spec.specs.EngineState.{HeldPin, EngineState, projection_at, projection_of, projections, projections_at, bare_held, held_with, books_of}
-use Rattle.mesa_engine_spec.specs.Turned.{pin_now, pinned_state, is_held_pin, released_state}
+use Rattle.mesa_engine.specs.EngineState.{HeldPin, EngineState, projection_at, projection_of, projections, projections_at, bare_held, held_with, books_of}
+use Rattle.mesa_engine.specs.Turned.{pin_now, pinned_state, is_held_pin, released_state}
 
 -- ---- projections
 

@@ -19,12 +19,12 @@ use Rattle.mesa_commit.proofs.Filing.{filed_first}
 use Rattle.mesa_invariant_spec.specs.Turns.{IsSeen}
 use Rattle.mesa_invariant_spec.specs.Invariant.{Outset, HoldsInvariant, Counts, run_of}
 use Rattle.mesa_invariant_spec.proofs.Beginning.{unmoved_invariant}
-use Rattle.mesa_engine_spec.specs.EngineState.{EngineState, books_of, next_id}
+use Rattle.mesa_engine.specs.EngineState.{EngineState, books_of, next_id}
 use Rattle.mesa_image_spec.specs.Countable.{AreCounted}
 use Rattle.mesa_image_spec.specs.Recordable.{AreRecordable}
 use Rattle.mesa_image_spec.specs.Sourced.{HasSources}
-use Rattle.mesa_engine_spec.specs.Vault.{Origin, IsRead, IsReady, IsVault, Starts, IsVaultAt, outset_of}
-use Rattle.mesa_engine_spec.proofs.Standing.{held_unmoved, ready_unmoved, there_unmoved}
+use Rattle.mesa_engine.specs.Vault.{Origin, IsRead, IsReady, IsVault, Starts, IsVaultAt, outset_of}
+use Rattle.mesa_engine.proofs.Standing.{held_unmoved, ready_unmoved, there_unmoved}
 
 -- a state of a catalogue, in which nothing was done yet
 abbrev pub first_state : Outset → Catalog → ℕ → Area → ℕ → EngineState

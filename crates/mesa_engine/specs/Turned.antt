@@ -3,7 +3,7 @@ use Rattle.std.specs.Prelude.{ℕ, ◌+◌, [], ◌∷◌, ◌++◌, filter, Boo
 use Rattle.mesa_image_spec.specs.mesa_lease.Book.{Book}
 use Rattle.mesa_image_spec.specs.mesa_model.Pins.{count_at, counted_at}
 use Rattle.mesa_commit.specs.declared.trash.Hold.{Hold}
-use Rattle.mesa_engine_spec.specs.EngineState.{HeldPin, OpenQuery, EngineState}
+use Rattle.mesa_engine.specs.EngineState.{HeldPin, OpenQuery, EngineState}
 
 -- ---- pins
 

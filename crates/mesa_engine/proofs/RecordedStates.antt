@@ -24,13 +24,13 @@ use Rattle.mesa_commit.specs.Holding.{Among, Held, AreFiled, IsHoldOf, ids_of, f
 use Rattle.mesa_commit.proofs.Adopting.{fresh_stays, named_stays}
 use Rattle.mesa_invariant_spec.specs.Sight.{is_of_schemas, tells_of_schemas, schema_changes}
 use Rattle.mesa_invariant_spec.specs.Invariant.{Outset, KeepsInvariant, KeepsInvariantTelling}
-use Rattle.mesa_engine_spec.specs.EngineState.{EngineState, books_of, first_id, next_id, past_id, most_files, Holder, holders, ids_held, files_held}
-use Rattle.mesa_engine_spec.specs.Recorded.{waiting, removed_by, left_by, Adopts, IsRecorded, recorded_state, failed_state}
+use Rattle.mesa_engine.specs.EngineState.{EngineState, books_of, first_id, next_id, past_id, most_files, Holder, holders, ids_held, files_held}
+use Rattle.mesa_engine.specs.Recorded.{waiting, removed_by, left_by, Adopts, IsRecorded, recorded_state, failed_state}
 use Rattle.mesa_image_spec.specs.Sourced.{HasSources}
-use Rattle.mesa_engine_spec.specs.Vault.{Origin, IsRead, AreThere, IsVault, written_by}
-use Rattle.mesa_engine_spec.proofs.Accepting.{silent_changes, silent_leaves, changes_more}
-use Rattle.mesa_engine_spec.proofs.Filing.{IsCleared, holds_are, filed_lost, freed_cleared, none_cleared, old_agree, files_stay}
-use Rattle.mesa_engine_spec.proofs.Lists.{map_all, all_also}
+use Rattle.mesa_engine.specs.Vault.{Origin, IsRead, AreThere, IsVault, written_by}
+use Rattle.mesa_engine.proofs.Accepting.{silent_changes, silent_leaves, changes_more}
+use Rattle.mesa_engine.proofs.Filing.{IsCleared, holds_are, filed_lost, freed_cleared, none_cleared, old_agree, files_stay}
+use Rattle.mesa_engine.proofs.Lists.{map_all, all_also}
 
 -- no number is more than the next one
 pub more_given : (n : ℕ) (ns : List ℕ) → AllByRecursion (λ x. x ≤ n) ns → AllByRecursion (λ x. x ≤ n + 1) ns

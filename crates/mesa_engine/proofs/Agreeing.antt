@@ -11,11 +11,11 @@ use Rattle.mesa_image_spec.specs.Ids.{named}
 use Rattle.mesa_invariant_spec.specs.mesa_history_spec.Rows.{Rows}
 use Rattle.mesa_commit.specs.Holding.{Held, IsHoldOf}
 use Rattle.mesa_invariant_spec.specs.Invariant.{Outset}
-use Rattle.mesa_engine_spec.specs.EngineState.{HeldPin, EngineState, held_with, next_id, Holder, holders, ids_held}
-use Rattle.mesa_engine_spec.specs.Vault.{Origin, IsVault}
-use Rattle.mesa_engine_spec.proofs.Filing.{old_agree}
-use Rattle.mesa_engine_spec.proofs.Holding.{pins_of}
-use Rattle.mesa_engine_spec.proofs.Lists.{all_also, map_all}
+use Rattle.mesa_engine.specs.EngineState.{HeldPin, EngineState, held_with, next_id, Holder, holders, ids_held}
+use Rattle.mesa_engine.specs.Vault.{Origin, IsVault}
+use Rattle.mesa_engine.proofs.Filing.{old_agree}
+use Rattle.mesa_engine.proofs.Holding.{pins_of}
+use Rattle.mesa_engine.proofs.Lists.{all_also, map_all}
 
 same_held : (rows later : Rows) (pins : List HeldPin) → AllByRecursion (λ (p : HeldPin). kept_of later p.copy ≡ kept_of rows p.copy) pins → map (held_with later) pins ≡ map (held_with rows) pins
 same_held rows later [] all = refl

@@ -23,10 +23,10 @@ use Rattle.mesa_invariant_spec.specs.mesa_history_spec.Rows.{Rows}
 use Rattle.mesa_invariant_spec.specs.Books.{Books, recast_books}
 use Rattle.mesa_invariant_spec.specs.Invariant.{Outset}
 use Rattle.mesa_invariant_spec.specs.Works.{Regroups}
-use Rattle.mesa_engine_spec.specs.EngineState.{EngineState, books_of, next_id, projection_of, projections}
-use Rattle.mesa_engine_spec.specs.Recorded.{recorded_state}
-use Rattle.mesa_engine_spec.specs.Vault.{Origin, IsVault}
-use Rattle.mesa_engine_spec.proofs.Agreeing.{same_kept, same_pins}
+use Rattle.mesa_engine.specs.EngineState.{EngineState, books_of, next_id, projection_of, projections}
+use Rattle.mesa_engine.specs.Recorded.{recorded_state}
+use Rattle.mesa_engine.specs.Vault.{Origin, IsVault}
+use Rattle.mesa_engine.proofs.Agreeing.{same_kept, same_pins}
 
 -- a base ends where it did
 base_ends : (epoch : ℕ) (made : List Rewritten) (old : Option Ending) → option_map end_in (option_map (base_recast epoch) (base_rewritten made old)) ≡ option_map end_in old

@@ -53,11 +53,11 @@ use Rattle.mesa_invariant_spec.specs.Changes.{IsChange}
 use Rattle.mesa_invariant_spec.specs.Invariant.{Outset}
 use Rattle.mesa_invariant_spec.proofs.Making.{alter_made, expire_made, expire_table_made, load_made, made_change, table_made, view_made}
 use Rattle.mesa_invariant_spec.proofs.Projections.{named_is}
-use Rattle.mesa_engine_spec.specs.EngineState.{EngineState, books_of, next_id, projection_of, projections}
-use Rattle.mesa_engine_spec.specs.Recorded.{recorded_state}
-use Rattle.mesa_engine_spec.specs.Vault.{Origin, IsVault}
-use Rattle.mesa_engine_spec.proofs.Agreeing.{named_agree, same_kept, same_pins}
-use Rattle.mesa_engine_spec.proofs.Pins.{bare_pins, bare_tables}
+use Rattle.mesa_engine.specs.EngineState.{EngineState, books_of, next_id, projection_of, projections}
+use Rattle.mesa_engine.specs.Recorded.{recorded_state}
+use Rattle.mesa_engine.specs.Vault.{Origin, IsVault}
+use Rattle.mesa_engine.proofs.Agreeing.{named_agree, same_kept, same_pins}
+use Rattle.mesa_engine.proofs.Pins.{bare_pins, bare_tables}
 
 -- ---- projections of tables
 

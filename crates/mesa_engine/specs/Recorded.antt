@@ -12,7 +12,7 @@ use Rattle.mesa_commit.specs.declared.trash.Dropped.{Dropped}
 use Rattle.mesa_commit.specs.declared.trash.Hold.{Hold}
 use Rattle.mesa_commit.specs.Filed.{AreGiven, Renames, waits_after}
 use Rattle.mesa_commit.specs.Holding.{Among, freed, ids_of, kept}
-use Rattle.mesa_engine_spec.specs.EngineState.{HeldPin, OpenQuery, EngineState, first_id, next_id, most_files}
+use Rattle.mesa_engine.specs.EngineState.{HeldPin, OpenQuery, EngineState, first_id, next_id, most_files}
 
 abbrev pub hold_of_pin : HeldPin → Hold
 hold_of_pin p = p.hold

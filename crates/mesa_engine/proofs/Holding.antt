@@ -15,9 +15,9 @@ use Rattle.mesa_commit.specs.declared.trash.Hold.{Hold}
 use Rattle.mesa_commit.specs.Filed.{PinFiles}
 use Rattle.mesa_commit.specs.Holding.{Held, IsHoldOf, AreFiled}
 use Rattle.mesa_commit.proofs.Filing.{filed_later, filed_pinned}
-use Rattle.mesa_engine_spec.specs.EngineState.{HeldPin, OpenQuery, EngineState, next_id, Holder, pin_holder, query_holder, holders, ids_held, files_held}
-use Rattle.mesa_engine_spec.specs.Vault.{AreShaped, IsVersioned}
-use Rattle.mesa_engine_spec.proofs.Lists.{all_map, map_all, all_joined, all_front, all_back, all_also, all_so, all_filtered}
+use Rattle.mesa_engine.specs.EngineState.{HeldPin, OpenQuery, EngineState, next_id, Holder, pin_holder, query_holder, holders, ids_held, files_held}
+use Rattle.mesa_engine.specs.Vault.{AreShaped, IsVersioned}
+use Rattle.mesa_engine.proofs.Lists.{all_map, map_all, all_joined, all_front, all_back, all_also, all_so, all_filtered}
 
 -- ---- all holds, by pins and queries
 

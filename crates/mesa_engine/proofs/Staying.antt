@@ -12,14 +12,14 @@ use Rattle.mesa_image_spec.specs.Sound.{StandsFor, wants}
 use Rattle.mesa_commit.specs.declared.trash.Hold.{Hold}
 use Rattle.mesa_invariant_spec.specs.Books.{pinned_books, released_books}
 use Rattle.mesa_invariant_spec.specs.Invariant.{Outset, KeepsInvariant, AllStand}
-use Rattle.mesa_engine_spec.specs.EngineState.{OpenQuery, EngineState, books_of, next_id}
-use Rattle.mesa_engine_spec.specs.Turned.{pin_now, pinned_state, is_held_pin, released_state, queried_state, answered_state, leased_state, shut_state}
-use Rattle.mesa_engine_spec.specs.Vault.{Origin, IsVersioned, IsVault}
-use Rattle.mesa_engine_spec.proofs.Holding.{AreKept, hold_at, holds_stay, seen_more, pin_kept, query_kept, fewer_kept}
-use Rattle.mesa_engine_spec.proofs.Pins.{pinned_as, released_as, counted_more}
-use Rattle.mesa_engine_spec.proofs.Quiet.{kept_holds, quiet_vault}
-use Rattle.mesa_engine_spec.proofs.Recording.{more_given}
-use Rattle.mesa_engine_spec.proofs.Standing.{held_stand, held_there}
+use Rattle.mesa_engine.specs.EngineState.{OpenQuery, EngineState, books_of, next_id}
+use Rattle.mesa_engine.specs.Turned.{pin_now, pinned_state, is_held_pin, released_state, queried_state, answered_state, leased_state, shut_state}
+use Rattle.mesa_engine.specs.Vault.{Origin, IsVersioned, IsVault}
+use Rattle.mesa_engine.proofs.Holding.{AreKept, hold_at, holds_stay, seen_more, pin_kept, query_kept, fewer_kept}
+use Rattle.mesa_engine.proofs.Pins.{pinned_as, released_as, counted_more}
+use Rattle.mesa_engine.proofs.Quiet.{kept_holds, quiet_vault}
+use Rattle.mesa_engine.proofs.RecordedStates.{more_given}
+use Rattle.mesa_engine.proofs.Standing.{held_stand, held_there}
 
 all_stay : {A : Type 0} (xs : List A) → filter (λ x. true) xs ≡ xs
 all_stay [] = refl

@@ -24,11 +24,11 @@ use Rattle.mesa_invariant_spec.specs.mesa_history_spec.Rows.{Rows}
 use Rattle.mesa_invariant_spec.specs.Books.{Books, swapped_books}
 use Rattle.mesa_invariant_spec.specs.Invariant.{Outset}
 use Rattle.mesa_invariant_spec.specs.Works.{Swaps}
-use Rattle.mesa_engine_spec.specs.EngineState.{EngineState, books_of, next_id, projection_of}
-use Rattle.mesa_engine_spec.specs.Recorded.{recorded_state}
-use Rattle.mesa_engine_spec.specs.Vault.{Origin, IsVault}
-use Rattle.mesa_engine_spec.proofs.Agreeing.{same_kept, same_pins}
-use Rattle.mesa_engine_spec.proofs.Sources.{LeavesWritten}
+use Rattle.mesa_engine.specs.EngineState.{EngineState, books_of, next_id, projection_of}
+use Rattle.mesa_engine.specs.Recorded.{recorded_state}
+use Rattle.mesa_engine.specs.Vault.{Origin, IsVault}
+use Rattle.mesa_engine.proofs.Agreeing.{same_kept, same_pins}
+use Rattle.mesa_engine.proofs.Sources.{LeavesWritten}
 
 -- a swap leaves what stands written
 pub swap_leaves : (w : Work) → LeavesWritten (swapped_reply w)

@@ -3,7 +3,7 @@ use Rattle.std.specs.Prelude.{ℕ, List}
 use Rattle.mesa_image_spec.specs.mesa_history_spec.Law.{written_in}
 use Rattle.mesa_image_spec.specs.mesa_history_spec.Run.{State, begins}
 use Rattle.mesa_image_spec.specs.mesa_history_spec.Sources.{Written}
-use Rattle.mesa_engine_spec.specs.Vault.{Origin}
+use Rattle.mesa_engine.specs.Vault.{Origin}
 use Rattle.mesa_image_spec.specs.mesa_model.declared.commands.Script.{Script}
 use Rattle.mesa_image_spec.specs.mesa_model.declared.entries.Entry.{Entry}
 
