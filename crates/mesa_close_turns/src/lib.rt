@@ -9,7 +9,7 @@ mod unmerged;
 pub use checking::check;
 pub use completing::complete;
 pub use mesa_publishing::{Swapped, recast, tables_become};
-pub use mesa_query_turns::{close_query, pin_query};
+pub use mesa_read_turns::{close_query, pin_query};
 pub use mesa_work_turns::{give_back_recast, grant, grant_recast, renew, renew_recast};
 pub use mesa_write_turns::{alter, expire, publish, table, view};
 pub use readying::make_room;

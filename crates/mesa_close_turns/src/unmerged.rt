@@ -25,7 +25,7 @@ use mesa_engine::{Engine, Failure, Metadata, Naming, Who};
 use mesa_io::Sink;
 use mesa_lease::TABLES;
 use mesa_model::{Kind, Refusal, WorkWords};
-use mesa_query_turns::can_be_told;
+use mesa_read_turns::can_be_told;
 use mesa_tasks::{CompactError, Task, retire_task};
 use mesa_work_turns::give_back;
 

@@ -3,8 +3,8 @@ use Rattle.std.proofs.Common.{◌≡◌, ℕ, List, [], ◌∷◌, append-nil, t
 use Rattle.std.specs.Prelude.{IfErr, IfNone, IfSome, Result}
 use Rattle.std.specs.List.{AllByRecursion}
 use Rattle.mesa_session_laws.specs.mesa_answer.Answering.{KeepsSums}
-use Rattle.mesa_recast_turns.specs.mesa_close_turns.mesa_query_turns.Closing.{IsPageOf as IsClosedWith, IsSomePageOf, IsToClose, cause_if}
-use Rattle.mesa_recast_turns.specs.mesa_close_turns.mesa_query_turns.Opening.{IsHeaded}
+use Rattle.mesa_recast_turns.specs.mesa_close_turns.mesa_read_turns.Closing.{IsPageOf as IsClosedWith, IsSomePageOf, IsToClose, cause_if}
+use Rattle.mesa_recast_turns.specs.mesa_close_turns.mesa_read_turns.Opening.{IsHeaded}
 use Rattle.mesa_filter.specs.declared.words.QueryWords.{QueryWords}
 use Rattle.mesa_delta.specs.declared.error.FileError.{FileError}
 use Rattle.mesa_delta.specs.declared.error.FileError.TheVariants as file_error

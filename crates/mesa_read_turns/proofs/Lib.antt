@@ -2,3 +2,10 @@ pub mod Looks
 pub mod Pins
 pub mod Plans
 pub mod Releases
+pub mod Closes
+pub mod Digests
+pub mod Opens
+pub mod Sees
+pub mod States
+pub mod Telling
+pub mod Versions

@@ -1,4 +1,0 @@
-pub use Rattle.mesa_plans.specs as mesa_plans
-pub mod Closing
-pub mod Opening
-pub mod Seeing
