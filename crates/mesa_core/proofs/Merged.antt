@@ -1,7 +1,7 @@
 -- What a work is closed with, as its last turn asks for it.
 use Rattle.std.proofs.Common.{◌≡◌, ℕ, ◌<◌, List, ◌++◌, length, true, false, refl, sym, ap, subst, ◌∙◌, Option, None, Ok}
 use Rattle.mesa_session_laws.specs.mesa_compact.Bounded.{IsBounded}
-use Rattle.mesa_recast_turns.specs.mesa_close_turns.Unmerged.{MergeDiffered, cause_of}
+use Rattle.mesa_recast_turns.specs.mesa_work_turns.Unmerged.{MergeDiffered, cause_of}
 use Rattle.mesa_delta.specs.declared.error.FileError.TheVariants as file_error
 use Rattle.mesa_session_laws.specs.Known.{IsKnownOf, lineage_in}
 use Rattle.mesa_session_laws.proofs.mesa_history_spec.More.{runs-append}

@@ -1,7 +1,7 @@
 -- What a recast is closed with, as its last turn asks for it.
 use Rattle.std.proofs.Common.{◌≡◌, ◌⊎◌, inl, inr, List, ℕ, true, false, refl, sym, ap, subst, Option, None, Ok, Err}
 use Rattle.std.specs.Prelude.{IfErr, IfOk, OnOk, Result}
-use Rattle.mesa_recast_turns.specs.mesa_close_turns.Unmerged.{MergeDiffered, cause_of}
+use Rattle.mesa_recast_turns.specs.mesa_work_turns.Unmerged.{MergeDiffered, cause_of}
 use Rattle.mesa_delta.specs.declared.error.FileError.TheVariants as file_error
 use Rattle.mesa_session_laws.specs.Recasts.{HasRegrouped, IsUnmade}
 use Rattle.mesa_session_laws.specs.mesa_copy.Copying.{IsRecastBounded}

@@ -20,8 +20,8 @@ use Rattle.mesa_recast_turns.specs.Rested.{HasRested}
 use Rattle.mesa_model.specs.mesa_schema.Changes.{columns_of, epoch_of}
 use Rattle.mesa_model.specs.mesa_schema.Lineages.{IsLineage}
 use Rattle.mesa_engine.specs.mesa_history_spec.Rows.{Rows, no_rows}
-use Rattle.mesa_recast_turns.specs.mesa_close_turns.mesa_read_turns.Opening.{IsHeaded}
-use Rattle.mesa_recast_turns.specs.mesa_close_turns.mesa_plans.Told.{TellAnswer}
+use Rattle.mesa_recast_turns.specs.mesa_work_turns.mesa_read_turns.Opening.{IsHeaded}
+use Rattle.mesa_recast_turns.specs.mesa_work_turns.mesa_plans.Told.{TellAnswer}
 use Rattle.mesa_session_laws.specs.Pins.{KnownPin}
 use Rattle.mesa_session_laws.specs.mesa_copy.Copying.{KnownRange}
 use Rattle.mesa_session_laws.specs.Recasts.{KnownRecast, known_recast}

@@ -1,6 +1,6 @@
 // The one turn of a command that is no load, no query, no work and no recast.
 ghost use Rattle.std.specs.Prelude.{◌<◌, length};
-ghost use Rattle.mesa_recast_turns.specs.mesa_close_turns.mesa_write_turns.Writing.{KeepsFiles};
+ghost use Rattle.mesa_recast_turns.specs.mesa_work_turns.mesa_write_turns.Writing.{KeepsFiles};
 ghost use Rattle.mesa_disk.specs.Story.{Steps};
 ghost use Rattle.mesa_session_laws.specs.mesa_history_spec.Run.{Finished, First};
 ghost use Rattle.mesa_model.specs.declared.entries.Kind.TheVariants as kind;

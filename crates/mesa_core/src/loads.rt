@@ -1,7 +1,7 @@
 // The turns of a load.
 ghost use Rattle.std.specs.Prelude.{◌≡◌, ◌<◌, List, true, Err, Some, IfOk, OnOk, length};
 ghost use Rattle.mesa_batch.specs.declared.words.RowWords.{RowWords as AnyWords};
-ghost use Rattle.mesa_recast_turns.specs.mesa_close_turns.mesa_write_turns.Writing.{KeepsFiles};
+ghost use Rattle.mesa_recast_turns.specs.mesa_work_turns.mesa_write_turns.Writing.{KeepsFiles};
 ghost use Rattle.mesa_disk.specs.Story.{Steps};
 ghost use Rattle.mesa_session_laws.specs.mesa_history_spec.Run.{Finished, First, Looked, command_at};
 ghost use Rattle.mesa_model.specs.declared.commands.Command.TheVariants as command;

@@ -1,7 +1,7 @@
 // The turns of a query.
 ghost use Rattle.std.specs.Prelude.{◌≡◌, ◌<◌, ◌++◌, ◌∷◌, [], true, length, IfSome, Some};
-ghost use Rattle.mesa_recast_turns.specs.mesa_close_turns.mesa_read_turns.Closing.{closing_entry, closing_text};
-ghost use Rattle.mesa_recast_turns.specs.mesa_close_turns.mesa_read_turns.Opening.{HasItsFiles};
+ghost use Rattle.mesa_recast_turns.specs.mesa_work_turns.mesa_read_turns.Closing.{closing_entry, closing_text};
+ghost use Rattle.mesa_recast_turns.specs.mesa_work_turns.mesa_read_turns.Opening.{HasItsFiles};
 ghost use Rattle.mesa_core.specs.Handing.{Tells};
 ghost use Rattle.mesa_session_laws.specs.mesa_history_spec.Legal.{is_query};
 ghost use Rattle.mesa_filter.specs.declared.words.QueryWords.{QueryWords};

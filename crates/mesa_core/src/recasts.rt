@@ -1,7 +1,7 @@
 // The turns of a recast, and what it does between its renewal and its close.
 ghost use Rattle.std.specs.Prelude.{◌≡◌, ◌⊎◌, ◌<◌, ◌++◌, ◌∷◌, [], Bool, true, Ok, Err, IfErr, IfOk, IfSome, OnSome, OnOk, None, Some, length};
-ghost use Rattle.mesa_recast_turns.specs.mesa_close_turns.Swept.{ClaimHolds, HasStood, IsSwept};
-ghost use Rattle.mesa_recast_turns.specs.mesa_close_turns.Unmerged.{closing_cause};
+ghost use Rattle.mesa_recast_turns.specs.mesa_work_turns.Swept.{ClaimHolds, HasStood, IsSwept};
+ghost use Rattle.mesa_recast_turns.specs.mesa_work_turns.Unmerged.{closing_cause};
 ghost use Rattle.mesa_core.specs.Handing.{AllAreRested, IsRecastGranted, IsRecastHeld, rested};
 ghost use Rattle.mesa_delta.specs.declared.error.FileError.TheVariants as file_error;
 ghost use Rattle.mesa_session_laws.specs.Recasts.{CanBeRegrouped, HasRegrouped, known_recast};

@@ -17,14 +17,14 @@ use Rattle.mesa_tasks.specs.declared.recasting.RecastedRange.{RecastedRange}
 use Rattle.mesa_engine.specs.mesa_invariant_spec.Turns.{SomeRose, faults_of}
 use Rattle.mesa_engine.specs.mesa_invariant_spec.Invariant.{HasCounted}
 use Rattle.mesa_engine.proofs.Lists.{all_joined, all_so}
-use Rattle.mesa_close_turns.specs.mesa_copy.Copying.{AreRangesBounded, known_range, known_ranges}
-use Rattle.mesa_close_turns.specs.mesa_publishing.mesa_compact.Bounded.{AreBounded}
-use Rattle.mesa_close_turns.specs.mesa_publishing.mesa_compact.mesa_merge.Inputs.{knowns_of}
-use Rattle.mesa_close_turns.specs.mesa_publishing.Grown.{HasSameColumns}
-use Rattle.mesa_close_turns.specs.mesa_publishing.Recasts.{HasItsRange, sources_at}
-use Rattle.mesa_close_turns.proofs.mesa_publishing.Rewriting.{same_columns, same_range}
-use Rattle.mesa_close_turns.proofs.mesa_copy.Rewriting.{rewritten_front}
-use Rattle.mesa_close_turns.proofs.mesa_work_turns.Grants.{fault_counts}
+use Rattle.mesa_work_turns.specs.mesa_copy.Copying.{AreRangesBounded, known_range, known_ranges}
+use Rattle.mesa_work_turns.specs.mesa_publishing.mesa_compact.Bounded.{AreBounded}
+use Rattle.mesa_work_turns.specs.mesa_publishing.mesa_compact.mesa_merge.Inputs.{knowns_of}
+use Rattle.mesa_work_turns.specs.mesa_publishing.Grown.{HasSameColumns}
+use Rattle.mesa_work_turns.specs.mesa_publishing.Recasts.{HasItsRange, sources_at}
+use Rattle.mesa_work_turns.proofs.mesa_publishing.Rewriting.{same_columns, same_range}
+use Rattle.mesa_work_turns.proofs.mesa_copy.Rewriting.{rewritten_front}
+use Rattle.mesa_work_turns.proofs.Grants.{fault_counts}
 use Rattle.mesa_recast_turns.specs.Rested.{HasFurther}
 
 -- ---- none

@@ -1,5 +1,5 @@
-pub use Rattle.mesa_close_turns.proofs as mesa_close_turns
-pub use Rattle.mesa_close_turns.proofs.mesa_write_turns as mesa_write_turns
+pub use Rattle.mesa_work_turns.proofs as mesa_work_turns
+pub use Rattle.mesa_work_turns.proofs.mesa_write_turns as mesa_write_turns
 pub mod Unfits
 pub mod Checks
 pub mod Dues

@@ -7,8 +7,8 @@ use Rattle.mesa_engine.specs.EngineState.{EngineState, books_of}
 use Rattle.mesa_engine.specs.Vault.{Origin, IsVault}
 use Rattle.mesa_engine.specs.mesa_invariant_spec.Invariant.{Counts, HasCounted, HoldsInvariant, Outset, faults_in}
 use Rattle.mesa_model.specs.declared.entries.Entry.{Entry}
-use Rattle.mesa_close_turns.specs.Unmerged.{closing_cause}
-use Rattle.mesa_close_turns.proofs.Closings.{IsPaid, paid_back}
+use Rattle.mesa_work_turns.specs.Unmerged.{closing_cause}
+use Rattle.mesa_work_turns.proofs.Closings.{IsPaid, paid_back}
 use Rattle.mesa_delta.specs.declared.error.FileError.TheVariants as file_error
 use Rattle.mesa_delta.specs.declared.input.Input.{Input}
 use Rattle.mesa_engine.specs.mesa_history_spec.Counting.{answers_disk}

@@ -14,8 +14,8 @@ use Rattle.mesa_model.specs.declared.entries.Outcome.TheVariants as outcome
 use Rattle.mesa_engine.specs.mesa_history_spec.Machine.{claim_checked, still_checked}
 use Rattle.mesa_engine.specs.mesa_history_spec.Run.{Renewed}
 use Rattle.mesa_engine.specs.mesa_history_spec.Turns.{IsDue}
-use Rattle.mesa_close_turns.specs.mesa_record.Reading.{record_at}
-use Rattle.mesa_close_turns.specs.mesa_record.Rules.{IsTyped}
+use Rattle.mesa_work_turns.specs.mesa_record.Reading.{record_at}
+use Rattle.mesa_work_turns.specs.mesa_record.Rules.{IsTyped}
 use Rattle.mesa_engine.specs.mesa_image_spec.Catalog.{applied}
 use Rattle.mesa_engine.specs.mesa_image_spec.Ids.{dropped_ids}
 use Rattle.mesa_engine.specs.mesa_catalog.Lookups.{generation_of, turns_generation}
@@ -34,10 +34,10 @@ use Rattle.mesa_engine.specs.Printing.{PrintsBlock}
 use Rattle.mesa_engine.specs.Memory.{Memory}
 use Rattle.mesa_engine.specs.Engine.{IsEngine}
 use Rattle.mesa_engine.proofs.Turning.{told_engine}
-use Rattle.mesa_close_turns.specs.mesa_publishing.Published.{AllTell}
-use Rattle.mesa_close_turns.specs.mesa_publishing.Recasts.{HasItsRanges, IsRecastIn, stock_of_recast}
-use Rattle.mesa_close_turns.specs.mesa_publishing.declared.swapping.Swapped.{Swapped}
-use Rattle.mesa_close_turns.proofs.mesa_write_turns.Written.{IsWhole, IsWorked, absent_yet}
+use Rattle.mesa_work_turns.specs.mesa_publishing.Published.{AllTell}
+use Rattle.mesa_work_turns.specs.mesa_publishing.Recasts.{HasItsRanges, IsRecastIn, stock_of_recast}
+use Rattle.mesa_work_turns.specs.mesa_publishing.declared.swapping.Swapped.{Swapped}
+use Rattle.mesa_work_turns.proofs.mesa_write_turns.Written.{IsWhole, IsWorked, absent_yet}
 use Rattle.mesa_recast_turns.proofs.Regroups.{recast_ends, recast_fails, told_of}
 
 module _ {K : Type 0} (held : K → Option (List ℕ)) (faults : K → ℕ) (n : Starts) (turns sinks : ℕ) (m : Memory) (story : Story) (log : Log K) (v : IsEngine held faults n turns sinks m story log)

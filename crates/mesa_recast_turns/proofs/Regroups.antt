@@ -24,11 +24,11 @@ use Rattle.mesa_engine.specs.mesa_history_spec.Machine.{Claim, claim_checked, st
 use Rattle.mesa_engine.specs.mesa_history_spec.Run.{Renewed}
 use Rattle.mesa_engine.specs.mesa_history_spec.Sources.{Written}
 use Rattle.mesa_engine.specs.mesa_history_spec.Turns.{IsDue}
-use Rattle.mesa_close_turns.specs.mesa_record.Reading.{record_at}
-use Rattle.mesa_close_turns.specs.mesa_record.Rules.{IsTyped, keeps_rules}
-use Rattle.mesa_close_turns.specs.mesa_record.declared.record.Record.{Record}
-use Rattle.mesa_close_turns.specs.mesa_record.declared.record.Record.TheVariants as record_of
-use Rattle.mesa_close_turns.specs.mesa_record.declared.recasting.Recasting.{Recasting}
+use Rattle.mesa_work_turns.specs.mesa_record.Reading.{record_at}
+use Rattle.mesa_work_turns.specs.mesa_record.Rules.{IsTyped, keeps_rules}
+use Rattle.mesa_work_turns.specs.mesa_record.declared.record.Record.{Record}
+use Rattle.mesa_work_turns.specs.mesa_record.declared.record.Record.TheVariants as record_of
+use Rattle.mesa_work_turns.specs.mesa_record.declared.recasting.Recasting.{Recasting}
 use Rattle.mesa_engine.specs.mesa_image_spec.Catalog.{Catalog, applied, no_stock, stock_at}
 use Rattle.mesa_engine.specs.mesa_image_spec.Contents.{kept_of}
 use Rattle.mesa_engine.specs.mesa_image_spec.Fitting.{brought, fits, kind_fits, shelved}
@@ -53,9 +53,9 @@ use Rattle.mesa_engine.specs.mesa_catalog.Lookups.{generation_of, turns_generati
 use Rattle.mesa_store.specs.Store.{Writes as IsWritten}
 use Rattle.mesa_engine.specs.mesa_history_spec.Output.{block}
 use Rattle.mesa_engine.specs.mesa_history_spec.Rows.{Rows, no_rows}
-use Rattle.mesa_close_turns.proofs.mesa_commit.Filing.{freed_unnamed}
-use Rattle.mesa_close_turns.specs.mesa_commit.Filed.{Renames}
-use Rattle.mesa_close_turns.specs.mesa_commit.Holding.{Among, freed, ids_of}
+use Rattle.mesa_work_turns.proofs.mesa_commit.Filing.{freed_unnamed}
+use Rattle.mesa_work_turns.specs.mesa_commit.Filed.{Renames}
+use Rattle.mesa_work_turns.specs.mesa_commit.Holding.{Among, freed, ids_of}
 use Rattle.mesa_tasks.specs.Recasts.{claim_of_recast, recast_in, recast_table}
 use Rattle.mesa_tasks.specs.declared.recasting.Recast.{Recast}
 use Rattle.mesa_engine.specs.mesa_invariant_spec.Causes.{Unwritten, reply_of, told_at}
@@ -74,12 +74,12 @@ use Rattle.mesa_engine.proofs.RecordedStates.{Clears, clears_freed}
 use Rattle.mesa_engine.proofs.Renaming.{record_brings, record_renames}
 use Rattle.mesa_engine.proofs.Sources.{recast_sources}
 use Rattle.mesa_engine.proofs.Writing.{recast_vault, unrecast_vault}
-use Rattle.mesa_close_turns.specs.mesa_publishing.Published.{AllTell, rows_with}
-use Rattle.mesa_close_turns.specs.mesa_publishing.Grown.{HasSameColumns}
-use Rattle.mesa_close_turns.specs.mesa_publishing.Recasts.{HasItsRanges, IsRecastIn, stock_of_recast}
-use Rattle.mesa_close_turns.specs.mesa_publishing.declared.swapping.Swapped.{Swapped}
-use Rattle.mesa_close_turns.proofs.Swaps.{all_among, not_among}
-use Rattle.mesa_close_turns.proofs.mesa_write_turns.Written.{IsWhole, IsWorked}
+use Rattle.mesa_work_turns.specs.mesa_publishing.Published.{AllTell, rows_with}
+use Rattle.mesa_work_turns.specs.mesa_publishing.Grown.{HasSameColumns}
+use Rattle.mesa_work_turns.specs.mesa_publishing.Recasts.{HasItsRanges, IsRecastIn, stock_of_recast}
+use Rattle.mesa_work_turns.specs.mesa_publishing.declared.swapping.Swapped.{Swapped}
+use Rattle.mesa_work_turns.proofs.Swaps.{all_among, not_among}
+use Rattle.mesa_work_turns.proofs.mesa_write_turns.Written.{IsWhole, IsWorked}
 
 -- the table of a number as the books have it
 pub table_is : (l : EngineState) (table : ℕ) → table_at (books_of no_rows l).bare.store table ≡ projection_of (stock_at l.catalogue table)

@@ -11,12 +11,12 @@ use Rattle.mesa_engine.specs.mesa_invariant_spec.Turns.{Faults, Shown}
 use Rattle.mesa_model.specs.declared.commands.Script.{Script}
 use Rattle.mesa_plans.specs.mesa_schema.Changes.{Lineage, columns_of, epoch_of}
 use Rattle.mesa_engine.specs.mesa_history_spec.Rows.{Rows}
-use Rattle.mesa_close_turns.specs.mesa_publishing.Grown.{HasBecome}
-use Rattle.mesa_close_turns.specs.mesa_publishing.Recasts.{HasItsRange, stock_of_recast}
+use Rattle.mesa_work_turns.specs.mesa_publishing.Grown.{HasBecome}
+use Rattle.mesa_work_turns.specs.mesa_publishing.Recasts.{HasItsRange, stock_of_recast}
 use Rattle.mesa_tasks.specs.Recasts.{AreRangesOf, IsRecastTask, recast_table}
 use Rattle.mesa_tasks.specs.declared.recasting.Recast.{Recast}
 use Rattle.mesa_tasks.specs.declared.recasting.RecastRange.{RecastRange}
-use Rattle.mesa_close_turns.specs.mesa_copy.Copying.{AreRangesBounded, KnownRange, known_ranges}
+use Rattle.mesa_work_turns.specs.mesa_copy.Copying.{AreRangesBounded, KnownRange, known_ranges}
 
 -- ---- what a recast stays
 

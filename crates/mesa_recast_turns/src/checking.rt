@@ -8,7 +8,7 @@ ghost use Rattle.mesa_tasks.specs.Recasts.{claim_of_recast, recast_in};
 ghost use Rattle.mesa_recast_turns.specs.Unfit.{HasNotRecast, unfit_of};
 
 use mesa_binding::{Failure, recast_failure};
-use mesa_close_turns::check;
+use mesa_work_turns::check;
 use mesa_engine::Metadata;
 use mesa_lease::TABLES;
 use mesa_model::Refusal;

@@ -7,7 +7,7 @@ mod recasting;
 mod resting;
 mod unmade;
 
-pub use mesa_close_turns::{
+pub use mesa_work_turns::{
     alter, close_query, complete, expire, give_up, grant, grant_recast, pin_query, publish, renew,
     renew_recast, table, tables_become, view,
 };

@@ -1,6 +1,6 @@
 // The ranges that came while a table was being rewritten.
 ghost use Rattle.std.specs.Prelude.{◌≡◌, ◌≢◌, ◌⊎◌, ◌↔◌, ◌<◌, true, None, Ok, Err, IfErr, IfOk, IfSome, IsTrue, OnOk, length};
-ghost use Rattle.mesa_close_turns.specs.mesa_copy.Copying.{IsRecastBounded};
+ghost use Rattle.mesa_work_turns.specs.mesa_copy.Copying.{IsRecastBounded};
 ghost use Rattle.mesa_delta.specs.declared.error.FileError.TheVariants as file_error;
 ghost use Rattle.mesa_plans.specs.Ranges.{HoldsAll};
 ghost use Rattle.mesa_engine.specs.mesa_image_spec.Catalog.{stock_at};
@@ -8,8 +8,8 @@ ghost use Rattle.mesa_engine.specs.Written.{written_at};
 ghost use Rattle.mesa_engine.specs.mesa_invariant_spec.Turns.{NoneFell, SomeRose};
 ghost use Rattle.mesa_plans.specs.mesa_schema.Changes.{epoch_of};
 ghost use Rattle.mesa_engine.specs.mesa_history_spec.Rows.{Rows};
-ghost use Rattle.mesa_close_turns.specs.mesa_publishing.Grown.{HasBecome};
-ghost use Rattle.mesa_close_turns.specs.mesa_publishing.Recasts.{HasItsRanges, stock_of_recast};
+ghost use Rattle.mesa_work_turns.specs.mesa_publishing.Grown.{HasBecome};
+ghost use Rattle.mesa_work_turns.specs.mesa_publishing.Recasts.{HasItsRanges, stock_of_recast};
 ghost use Rattle.mesa_tasks.specs.Recasts.{IsRecastTask, IsRecasted, IsRecastedSoFar, recast_table};
 ghost use Rattle.mesa_tasks.specs.declared.opening.Unopened.TheVariants as un;
 ghost use Rattle.mesa_tasks.specs.declared.recasting.Recasted.{Recasted as AnyRecasted};

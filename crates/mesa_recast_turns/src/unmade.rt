@@ -18,10 +18,10 @@ ghost use Rattle.mesa_engine.specs.mesa_invariant_spec.Turns.{AnswersDisk, Answe
 ghost use Rattle.mesa_engine.specs.mesa_invariant_spec.Undamaged.{is_damaged};
 ghost use Rattle.mesa_engine.specs.mesa_invariant_spec.Invariant.{run_at};
 ghost use Rattle.mesa_engine.specs.mesa_invariant_spec.Works.{closing_stage};
-ghost use Rattle.mesa_close_turns.specs.Unmerged.{MergeDiffered, cause_of, closing_cause, closing_state};
+ghost use Rattle.mesa_work_turns.specs.Unmerged.{MergeDiffered, cause_of, closing_cause, closing_state};
 ghost use Rattle.mesa_recast_turns.specs.Rested.{HasUnpaid};
 
-use mesa_close_turns::{fall, may_be_told};
+use mesa_work_turns::{fall, may_be_told};
 use mesa_disk::{Disk, Made};
 use mesa_engine::{Engine, Naming, Who};
 use mesa_io::Sink;

@@ -1,3 +1,8 @@
+pub use Rattle.mesa_publishing.proofs.mesa_copy as mesa_copy
+pub use Rattle.mesa_publishing.proofs as mesa_publishing
+pub use Rattle.mesa_record.proofs as mesa_record
+pub use Rattle.mesa_publishing.proofs.mesa_commit as mesa_commit
+pub use Rattle.mesa_write_turns.proofs as mesa_write_turns
 pub mod Claims
 pub mod RecastClaims
 pub mod Grants
@@ -8,3 +13,9 @@ pub mod Sound
 pub mod Ranges
 pub mod Bounded
 pub mod RecastRanges
+pub mod Closings
+pub mod ClosingClaims
+pub mod Refusing
+pub mod Swaps
+pub mod SwapEngines
+pub mod Sweeping

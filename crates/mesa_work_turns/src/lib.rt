@@ -1,14 +1,27 @@
 //! The turns of a work and of a recast that write nothing.
+//!
+//! A work's last turn: its range is swapped in, or it is told why it isn't. Passes on the turns of the crates below, so that who has the last turn has all of them.
 #![tactic(auto)]
 
 mod claiming;
+mod completing;
 mod giving_back;
 mod granting;
+mod lease_checking;
+mod readying;
 mod recast_claiming;
 mod recast_granting;
 mod renewing;
+mod unmerged;
 
 pub use giving_back::{give_back, give_back_recast};
 pub use granting::{failure_of, grant};
 pub use recast_granting::grant_recast;
 pub use renewing::{renew, renew_recast};
+pub use lease_checking::check;
+pub use completing::complete;
+pub use mesa_publishing::{Swapped, recast, tables_become};
+pub use mesa_read_turns::{close_query, pin_query};
+pub use mesa_write_turns::{alter, expire, publish, table, view};
+pub use readying::make_room;
+pub use unmerged::{fall, give_up, may_be_told};

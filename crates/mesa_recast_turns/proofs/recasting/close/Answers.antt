@@ -11,7 +11,7 @@ use Rattle.mesa_engine.specs.mesa_invariant_spec.Invariant.{run_at}
 use Rattle.mesa_engine.specs.Engine.{Standing, starts_of}
 use Rattle.mesa_engine.specs.mesa_history_spec.Rows.{no_rows}
 use Rattle.mesa_tasks.specs.Recasts.{claim_of_recast, recast_in}
-use Rattle.mesa_close_turns.proofs.Sweeping.{stood_as}
+use Rattle.mesa_work_turns.proofs.Sweeping.{stood_as}
 use Rattle.mesa_recast_turns.specs.Unfit.{HasNotRecast, cause_met}
 use Rattle.mesa_recast_turns.proofs.Dues.{recast_is_there}
 use Rattle.mesa_recast_turns.proofs.Regroups.{table_is}

@@ -13,8 +13,8 @@ use Rattle.mesa_engine.specs.mesa_invariant_spec.Works.{closing_stage}
 use Rattle.mesa_engine.proofs.mesa_invariant_spec.Alike.{due_alike}
 use Rattle.mesa_engine.proofs.mesa_invariant_spec.Faulting.{disk_also, rose_still}
 use Rattle.mesa_engine.proofs.mesa_invariant_spec.Working.{close_due}
-use Rattle.mesa_close_turns.specs.Swept.{HasStood, IsSwept}
-use Rattle.mesa_close_turns.proofs.Sweeping.{skipped_stood}
+use Rattle.mesa_work_turns.specs.Swept.{HasStood, IsSwept}
+use Rattle.mesa_work_turns.proofs.Sweeping.{skipped_stood}
 use Rattle.mesa_recast_turns.proofs.Paid.{close_unanswered}
 use Rattle.mesa_recast_turns.proofs.recasting.recast.Goals as goal
 

@@ -14,12 +14,12 @@ use Rattle.mesa_model.specs.declared.commands.Command.TheVariants as command
 use Rattle.mesa_model.specs.declared.entries.Kind.TheVariants as kind
 use Rattle.mesa_model.specs.declared.entries.Outcome.TheVariants as outcome
 use Rattle.mesa_engine.specs.mesa_history_spec.Replay.{no_rows as no_lines}
-use Rattle.mesa_close_turns.proofs.mesa_record.RecordsBoth.{record_found}
+use Rattle.mesa_work_turns.proofs.mesa_record.RecordsBoth.{record_found}
 use Rattle.mesa_engine.specs.mesa_script.Rows.{body_of}
 use Rattle.mesa_engine.specs.mesa_history_spec.Rows.{Rows, no_rows}
 use Rattle.mesa_plans.specs.mesa_schema.Changes.{epoch_of}
-use Rattle.mesa_close_turns.specs.mesa_publishing.Recasts.{HasItsRanges, IsRecastIn, stock_of_recast}
-use Rattle.mesa_close_turns.proofs.mesa_publishing.Becoming.{same_columns}
+use Rattle.mesa_work_turns.specs.mesa_publishing.Recasts.{HasItsRanges, IsRecastIn, stock_of_recast}
+use Rattle.mesa_work_turns.proofs.mesa_publishing.Becoming.{same_columns}
 use Rattle.mesa_engine.specs.mesa_invariant_spec.Causes.{Replies, Unwritten, told_at}
 use Rattle.mesa_engine.specs.mesa_invariant_spec.Turns.{AnswersDisk, AnswersDraft, Shown, SomeRose, Takes, entry, faults_of}
 use Rattle.mesa_engine.specs.mesa_invariant_spec.Invariant.{Counts, run_at}
@@ -37,12 +37,12 @@ use Rattle.mesa_engine.specs.Memory.{Memory}
 use Rattle.mesa_engine.specs.Engine.{IsEngine, Standing, starts_of}
 use Rattle.mesa_engine.proofs.Drafting.{answers_none}
 use Rattle.mesa_tasks.specs.Recasts.{claim_of_recast, recast_in, recast_table}
-use Rattle.mesa_close_turns.specs.mesa_commit.Holding.{kept}
-use Rattle.mesa_close_turns.proofs.mesa_write_turns.Loads.{all_tell}
-use Rattle.mesa_close_turns.proofs.mesa_write_turns.Written.{IsWhole, IsWorked}
+use Rattle.mesa_work_turns.specs.mesa_commit.Holding.{kept}
+use Rattle.mesa_work_turns.proofs.mesa_write_turns.Loads.{all_tell}
+use Rattle.mesa_work_turns.proofs.mesa_write_turns.Written.{IsWhole, IsWorked}
 use Rattle.mesa_engine.specs.Written.{written_at}
-use Rattle.mesa_close_turns.specs.Swept.{HasStood, IsSwept}
-use Rattle.mesa_close_turns.proofs.Sweeping.{stood_as, swept}
+use Rattle.mesa_work_turns.specs.Swept.{HasStood, IsSwept}
+use Rattle.mesa_work_turns.proofs.Sweeping.{stood_as, swept}
 use Rattle.mesa_recast_turns.specs.Rested.{HasRested}
 use Rattle.mesa_recast_turns.proofs.Checks.{still_allowed}
 use Rattle.mesa_recast_turns.proofs.Dues.{epoch_still, recast_is_there}

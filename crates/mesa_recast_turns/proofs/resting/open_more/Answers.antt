@@ -15,8 +15,8 @@ use Rattle.mesa_engine.specs.mesa_invariant_spec.Invariant.{faults_in}
 use Rattle.mesa_engine.proofs.Turning.{unmoved_engine}
 use Rattle.mesa_engine.proofs.Seeing.{ok_also}
 use Rattle.mesa_engine.proofs.Lists.{all_so}
-use Rattle.mesa_close_turns.proofs.mesa_work_turns.Grants.{shaped_at}
-use Rattle.mesa_close_turns.proofs.mesa_work_turns.RecastRanges.{none_damaged, ranges_bounded, ranges_inputs, ranges_sourced}
+use Rattle.mesa_work_turns.proofs.Grants.{shaped_at}
+use Rattle.mesa_work_turns.proofs.RecastRanges.{none_damaged, ranges_bounded, ranges_inputs, ranges_sourced}
 use Rattle.mesa_recast_turns.specs.Rested.{HasFurther}
 use Rattle.mesa_recast_turns.proofs.Further.{counted_rose, still_unpaid}
 use Rattle.mesa_recast_turns.proofs.resting.open_more.Goals as goal

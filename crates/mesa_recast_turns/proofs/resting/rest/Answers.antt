@@ -6,9 +6,9 @@ use Rattle.mesa_tasks.specs.Recasts.{recast_in, recast_table}
 use Rattle.mesa_delta.specs.declared.error.FileError.TheVariants as file_error
 use Rattle.mesa_engine.specs.Engine.{Standing}
 use Rattle.mesa_engine.specs.Written.{written_at}
-use Rattle.mesa_close_turns.specs.mesa_copy.Copying.{known_ranges}
-use Rattle.mesa_close_turns.proofs.mesa_copy.Rewriting.{rewritten_all}
-use Rattle.mesa_close_turns.proofs.mesa_publishing.Becoming.{same_columns as become_same}
+use Rattle.mesa_work_turns.specs.mesa_copy.Copying.{known_ranges}
+use Rattle.mesa_work_turns.proofs.mesa_copy.Rewriting.{rewritten_all}
+use Rattle.mesa_work_turns.proofs.mesa_publishing.Becoming.{same_columns as become_same}
 use Rattle.mesa_recast_turns.specs.Rested.{MayRest}
 use Rattle.mesa_recast_turns.proofs.Further.{further_begun, further_bounded, further_known, further_of, further_sourced, known_none}
 use Rattle.mesa_recast_turns.proofs.resting.rest.Goals as goal

@@ -30,8 +30,8 @@ use Rattle.mesa_tasks.specs.Recasts.{claim_of_recast, recast_inputs}
 use Rattle.mesa_tasks.specs.GivingBack.{SomeFailed}
 use Rattle.mesa_tasks.specs.declared.merging.CompactError.TheVariants as compact
 use Rattle.mesa_delta.specs.declared.error.FileError.TheVariants as file_error
-use Rattle.mesa_close_turns.specs.Unmerged.{cause_of, closing_cause, closing_state}
-use Rattle.mesa_close_turns.proofs.Closings.{given_up_engine, given_up_takes, only_draft}
+use Rattle.mesa_work_turns.specs.Unmerged.{cause_of, closing_cause, closing_state}
+use Rattle.mesa_work_turns.proofs.Closings.{given_up_engine, given_up_takes, only_draft}
 use Rattle.mesa_engine.proofs.mesa_invariant_spec.Working.{close_later}
 use Rattle.mesa_recast_turns.specs.Rested.{HasUnpaid}
 use Rattle.mesa_recast_turns.proofs.Paid.{close_unanswered, only_read, paid}

@@ -3,7 +3,7 @@ use Rattle.std.specs.Prelude.{OnOk, is_ok}
 use Rattle.mesa_session_laws.specs.mesa_history_spec.Run.{Granted, Renewed}
 use Rattle.mesa_model.specs.declared.commands.Command.TheVariants as command
 use Rattle.mesa_session_laws.specs.Works.{HasMerged, WasGranted, known_task}
-use Rattle.mesa_recast_turns.specs.mesa_close_turns.Swept.{ClaimHolds, HasStood, IsSwept}
+use Rattle.mesa_recast_turns.specs.mesa_work_turns.Swept.{ClaimHolds, HasStood, IsSwept}
 use Rattle.mesa_engine.specs.mesa_history_spec.Rows.{no_rows}
 use Rattle.mesa_tasks.specs.Tasks.{claim_in}
 use Rattle.mesa_tasks.specs.declared.merging.CompactError.TheVariants as compact

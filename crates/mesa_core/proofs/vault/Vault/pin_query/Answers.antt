@@ -1,6 +1,6 @@
 use Rattle.std.proofs.Common.{◌≡◌, ◌∙◌, ap, sym, subst, Some}
 use Rattle.std.specs.Prelude.{IfSome}
-use Rattle.mesa_recast_turns.specs.mesa_close_turns.mesa_read_turns.Opening.{HasItsFiles}
+use Rattle.mesa_recast_turns.specs.mesa_work_turns.mesa_read_turns.Opening.{HasItsFiles}
 use Rattle.mesa_filter.specs.declared.words.QueryWords.{QueryWords}
 use Rattle.mesa_session_laws.specs.mesa_history_spec.Legal.{is_query}
 use Rattle.mesa_session_laws.specs.mesa_history_spec.Run.{First, command_at}

@@ -9,8 +9,8 @@ use Rattle.mesa_session_laws.specs.mesa_history_spec.Machine.{still_checked}
 use Rattle.mesa_session_laws.specs.mesa_history_spec.Run.{Renewed}
 use Rattle.mesa_model.specs.declared.commands.Command.TheVariants as command
 use Rattle.mesa_model.specs.declared.entries.Kind.TheVariants as kind
-use Rattle.mesa_recast_turns.specs.mesa_close_turns.Swept.{ClaimHolds, HasStood, IsSwept}
-use Rattle.mesa_recast_turns.specs.mesa_close_turns.Unmerged.{closing_cause}
+use Rattle.mesa_recast_turns.specs.mesa_work_turns.Swept.{ClaimHolds, HasStood, IsSwept}
+use Rattle.mesa_recast_turns.specs.mesa_work_turns.Unmerged.{closing_cause}
 use Rattle.mesa_recast_turns.specs.Rested.{HasUnpaid}
 use Rattle.mesa_model.specs.mesa_schema.Changes.{epoch_of}
 use Rattle.mesa_engine.specs.mesa_history_spec.Rows.{no_rows}

@@ -45,7 +45,7 @@ use Rattle.mesa_publishing.specs.Swapped.{IsSwapped}
 use Rattle.mesa_publishing.specs.declared.swapping.Swapped.{Swapped}
 use Rattle.mesa_tasks.specs.Tasks.{claim_in}
 use Rattle.mesa_write_turns.proofs.Written.{IsWhole, IsWorked, absent_yet}
-use Rattle.mesa_close_turns.proofs.Swaps.{swap_ends, swap_fails}
+use Rattle.mesa_work_turns.proofs.Swaps.{swap_ends, swap_fails}
 
 -- a swap is no refusal, and has no lines behind its head line
 pub swap_told : (work : Work) → is_refusal (swapped_reply work) ≡ false

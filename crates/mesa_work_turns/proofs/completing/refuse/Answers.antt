@@ -19,9 +19,9 @@ use Rattle.mesa_engine.proofs.mesa_invariant_spec.Faulting.{disk_never}
 use Rattle.mesa_engine.specs.Engine.{Standing, IsEngine, starts_of}
 use Rattle.mesa_engine.proofs.Drafting.{answers_none}
 use Rattle.mesa_tasks.specs.Tasks.{claim_in}
-use Rattle.mesa_close_turns.specs.Merged.{HasNotSwapped, cause_met, unswapped_state}
-use Rattle.mesa_close_turns.proofs.Refusing.{closed_takes, no_draft, no_fault, unswapped_engine}
-use Rattle.mesa_close_turns.proofs.completing.refuse.Goals as goal
+use Rattle.mesa_work_turns.specs.Merged.{HasNotSwapped, cause_met, unswapped_state}
+use Rattle.mesa_work_turns.proofs.Refusing.{closed_takes, no_draft, no_fault, unswapped_engine}
+use Rattle.mesa_work_turns.proofs.completing.refuse.Goals as goal
 
 due_at : (g : _) (c : goal.After-fail g)
     → IsDue g.N.Naming.script (run_at g.N.Naming.script (g.N.Naming.start no_rows) c.engine.inside.log.history.items) c.args.who.session c.args.who.command (command.Work c.requires.due.0) (Renewed (claim_in c.args.task.now))

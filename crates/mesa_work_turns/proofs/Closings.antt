@@ -42,7 +42,7 @@ use Rattle.mesa_tasks.specs.declared.merging.CompactError.TheVariants as compact
 use Rattle.mesa_engine.specs.Engine.{IsEngine}
 use Rattle.mesa_engine.proofs.Turning.{told_engine}
 use Rattle.mesa_engine.proofs.Undone.{not_skipped}
-use Rattle.mesa_close_turns.specs.Unmerged.{TellsDamage, cause_of, closing_cause, closing_state, unmerged_state}
+use Rattle.mesa_work_turns.specs.Unmerged.{TellsDamage, cause_of, closing_cause, closing_state, unmerged_state}
 use Rattle.mesa_read_turns.proofs.Closes.{given_counts}
 
 -- ---- the clock

@@ -19,10 +19,10 @@ ghost use Rattle.mesa_engine.specs.mesa_invariant_spec.Turns.{AnswersDisk, Answe
 ghost use Rattle.mesa_engine.specs.mesa_invariant_spec.Invariant.{run_at};
 ghost use Rattle.mesa_tasks.specs.Tasks.{claim_in};
 ghost use Rattle.mesa_engine.specs.Written.{written_at};
-ghost use Rattle.mesa_close_turns.specs.Merged.{HasNotSwapped, cause_met, unswapped_state};
-ghost use Rattle.mesa_close_turns.specs.Swept.{ClaimHolds, HasStood, IsSwept};
+ghost use Rattle.mesa_work_turns.specs.Merged.{HasNotSwapped, cause_met, unswapped_state};
+ghost use Rattle.mesa_work_turns.specs.Swept.{ClaimHolds, HasStood, IsSwept};
 
-use crate::checking::check;
+use crate::lease_checking::check;
 use crate::readying::{Ready, prepare};
 use mesa_disk::{Disk, Made};
 use mesa_engine::{Engine, Failure, Metadata, Naming, Who};
@@ -33,7 +33,7 @@ use mesa_publishing::Swapped;
 use mesa_span::Work;
 use mesa_store::write_record;
 use mesa_tasks::{NewDelta, Task};
-use mesa_work_turns::give_back;
+use crate::give_back;
 use std::alloc::{AllocError, Global};
 
 // Why a range isn't swapped in, before the disk is called.

@@ -28,9 +28,9 @@ use Rattle.mesa_engine.proofs.Drafting.{answers_where}
 use Rattle.mesa_tasks.specs.Tasks.{claim_in}
 use Rattle.mesa_tasks.specs.declared.merging.CompactError.TheVariants as compact
 use Rattle.mesa_read_turns.proofs.Closes.{given_counts}
-use Rattle.mesa_close_turns.specs.Unmerged.{cause_of, closing_cause, closing_state}
-use Rattle.mesa_close_turns.proofs.Closings.{closing_read, given_up_engine, given_up_takes, only_draft, paid_back}
-use Rattle.mesa_close_turns.proofs.unmerged.give_up.Goals as goal
+use Rattle.mesa_work_turns.specs.Unmerged.{cause_of, closing_cause, closing_state}
+use Rattle.mesa_work_turns.proofs.Closings.{closing_read, given_up_engine, given_up_takes, only_draft, paid_back}
+use Rattle.mesa_work_turns.proofs.unmerged.give_up.Goals as goal
 
 abbrev closed_of : EngineState → Option ℕ
 closed_of l = l.closed

@@ -17,7 +17,7 @@ ghost use Rattle.mesa_engine.specs.mesa_invariant_spec.Turns.{AnswersDisk, Answe
 ghost use Rattle.mesa_engine.specs.mesa_invariant_spec.Undamaged.{is_damaged};
 ghost use Rattle.mesa_engine.specs.mesa_invariant_spec.Invariant.{run_at};
 ghost use Rattle.mesa_tasks.specs.Tasks.{claim_in};
-ghost use Rattle.mesa_close_turns.specs.Unmerged.{MergeDiffered, TellsDamage, cause_of, closing_cause, closing_state, unmerged_state};
+ghost use Rattle.mesa_work_turns.specs.Unmerged.{MergeDiffered, TellsDamage, cause_of, closing_cause, closing_state, unmerged_state};
 
 use mesa_delta::FileError;
 use mesa_disk::{Disk, Made};
@@ -27,7 +27,7 @@ use mesa_lease::TABLES;
 use mesa_model::{Kind, Refusal, WorkWords};
 use mesa_read_turns::can_be_told;
 use mesa_tasks::{CompactError, Task, retire_task};
-use mesa_work_turns::give_back;
+use crate::give_back;
 
 // Why a merge failed.
 fn failed(error: &CompactError) -> Failure

@@ -7,8 +7,8 @@ use Rattle.mesa_engine.specs.Turned.{leased_state}
 use Rattle.mesa_model.specs.declared.replies.Reply.TheVariants as reply
 use Rattle.mesa_engine.specs.mesa_invariant_spec.Books.{Books}
 use Rattle.mesa_engine.specs.mesa_invariant_spec.Causes.{Cause, Replies, NoMemory}
-use Rattle.mesa_close_turns.specs.declared.completing.Unswapped.{Unswapped}
-use Rattle.mesa_close_turns.specs.declared.completing.Unswapped.TheVariants as why
+use Rattle.mesa_work_turns.specs.declared.completing.Unswapped.{Unswapped}
+use Rattle.mesa_work_turns.specs.declared.completing.Unswapped.TheVariants as why
 
 -- why a range isn't swapped in
 abbrev pub cause_met : Unswapped → Cause

@@ -40,12 +40,12 @@ use Rattle.mesa_publishing.specs.mesa_commit.Holding.{kept}
 use Rattle.mesa_write_turns.proofs.Loads.{all_tell}
 use Rattle.mesa_write_turns.proofs.Written.{IsWhole, IsWorked}
 use Rattle.mesa_engine.specs.Written.{written_at}
-use Rattle.mesa_close_turns.proofs.Claims.{due_still}
-use Rattle.mesa_close_turns.proofs.Refusing.{closed_takes}
-use Rattle.mesa_close_turns.proofs.SwapEngines.{absent_still, ready_still, swap_prints, swapped_engine, unswapped_engine}
-use Rattle.mesa_close_turns.specs.Swept.{HasStood, IsSwept}
-use Rattle.mesa_close_turns.proofs.Sweeping.{stood_as, swept}
-use Rattle.mesa_close_turns.proofs.completing.swap_in.Goals as goal
+use Rattle.mesa_work_turns.proofs.ClosingClaims.{due_still}
+use Rattle.mesa_work_turns.proofs.Refusing.{closed_takes}
+use Rattle.mesa_work_turns.proofs.SwapEngines.{absent_still, ready_still, swap_prints, swapped_engine, unswapped_engine}
+use Rattle.mesa_work_turns.specs.Swept.{HasStood, IsSwept}
+use Rattle.mesa_work_turns.proofs.Sweeping.{stood_as, swept}
+use Rattle.mesa_work_turns.proofs.completing.swap_in.Goals as goal
 
 -- ---- before memory is taken
 

@@ -6,9 +6,9 @@ use Rattle.mesa_model.specs.declared.replies.Refusal.{Refusal}
 use Rattle.mesa_engine.specs.mesa_history_spec.Rows.{no_rows}
 use Rattle.mesa_tasks.specs.Tasks.{claim_in}
 use Rattle.mesa_work_turns.specs.Claims.{lease_checked}
-use Rattle.mesa_close_turns.specs.Swept.{ClaimHolds}
-use Rattle.mesa_close_turns.proofs.Claims.{checked_live}
-use Rattle.mesa_close_turns.proofs.completing.close.Goals as goal
+use Rattle.mesa_work_turns.specs.Swept.{ClaimHolds}
+use Rattle.mesa_work_turns.proofs.ClosingClaims.{checked_live}
+use Rattle.mesa_work_turns.proofs.completing.close.Goals as goal
 
 -- the lease that its claim has is live
 pub swap_in-requires-clause-finished : goal.swap_in-requires-clause-finished

@@ -20,7 +20,7 @@ use Rattle.mesa_publishing.specs.mesa_commit.declared.trash.Dropped.{Dropped}
 use Rattle.mesa_publishing.specs.mesa_commit.Holding.{Among, IsHad, ids_of, kept}
 use Rattle.mesa_publishing.proofs.mesa_commit.Filing.{kept_had}
 use Rattle.mesa_publishing.proofs.mesa_commit.Waiting.{kept_among, unpicked}
-use Rattle.mesa_close_turns.specs.Swept.{HasStood, IsSwept}
+use Rattle.mesa_work_turns.specs.Swept.{HasStood, IsSwept}
 
 -- ---- turns that stand
 

@@ -7,9 +7,9 @@ use Rattle.mesa_engine.specs.mesa_invariant_spec.Turns.{AnswersDisk, AnswersDraf
 use Rattle.mesa_engine.proofs.mesa_invariant_spec.Alike.{due_alike}
 use Rattle.mesa_engine.proofs.mesa_invariant_spec.Faulting.{disk_also, rose_still}
 use Rattle.mesa_tasks.specs.Tasks.{claim_in}
-use Rattle.mesa_close_turns.specs.Swept.{HasStood, IsSwept}
-use Rattle.mesa_close_turns.proofs.Sweeping.{skipped_stood}
-use Rattle.mesa_close_turns.proofs.completing.complete.Goals as goal
+use Rattle.mesa_work_turns.specs.Swept.{HasStood, IsSwept}
+use Rattle.mesa_work_turns.proofs.Sweeping.{skipped_stood}
+use Rattle.mesa_work_turns.proofs.completing.complete.Goals as goal
 
 pub skip-requires-clause-due : goal.skip-requires-clause-due
 skip-requires-clause-due g c κs within w =

@@ -32,9 +32,9 @@ use Rattle.mesa_engine.proofs.mesa_invariant_spec.Working.{lost_turn, starved_tu
 use Rattle.mesa_engine.specs.Engine.{IsEngine}
 use Rattle.mesa_engine.proofs.Turning.{told_engine}
 use Rattle.mesa_engine.proofs.Undone.{not_skipped}
-use Rattle.mesa_close_turns.specs.Merged.{HasNotSwapped, cause_met, unswapped_state}
-use Rattle.mesa_close_turns.specs.declared.completing.Unswapped.{Unswapped}
-use Rattle.mesa_close_turns.specs.declared.completing.Unswapped.TheVariants as why
+use Rattle.mesa_work_turns.specs.Merged.{HasNotSwapped, cause_met, unswapped_state}
+use Rattle.mesa_work_turns.specs.declared.completing.Unswapped.{Unswapped}
+use Rattle.mesa_work_turns.specs.declared.completing.Unswapped.TheVariants as why
 
 -- ---- the vault behind it
 
