@@ -1,10 +1,10 @@
 -- The command that is asked is due.
 use Rattle.std.proofs.Common.{◌≡◌, ℕ, Bool, sym, ap, ◌∙◌, subst, Option, Some, None}
-use Rattle.mesa_session_laws.specs.mesa_history_spec.Run.{Run, Stage, command_at}
-use Rattle.mesa_session_laws.specs.mesa_history_spec.Turns.{IsDue}
+use Rattle.mesa_core.specs.mesa_history_spec.Run.{Run, Stage, command_at}
+use Rattle.mesa_core.specs.mesa_history_spec.Turns.{IsDue}
 use Rattle.mesa_model.specs.declared.commands.Command.{Command}
 use Rattle.mesa_model.specs.declared.commands.Script.{Script}
-use Rattle.mesa_session_laws.specs.Passes.{HasSort}
+use Rattle.mesa_core.specs.Passes.{HasSort}
 use Rattle.mesa_engine.specs.mesa_invariant_spec.Turns.{Asks}
 
 some_same : {X : Type 0} (x y : X) → Some x ≡ Some y → x ≡ y

@@ -1,5 +1,19 @@
-pub use Rattle.mesa_session_laws.proofs.mesa_history_spec as mesa_history_spec
-pub use Rattle.mesa_session_laws.proofs as mesa_session_laws
+pub use Rattle.mesa_publishing.proofs.mesa_history_spec as mesa_history_spec
+pub use Rattle.mesa_core.proofs.mesa_history_spec as mesa_history_spec
+pub mod Behind
+pub mod Turning
+pub mod Ending
+pub mod Dividing
+pub mod Answering
+pub mod Counting
+pub mod Lasting
+pub mod Known
+pub mod Same
+pub mod SameRecasts
+pub mod MergedTasks
+pub mod Going
+pub mod Later
+pub mod Bounded
 pub mod Rooms
 pub mod Due
 pub mod Sights

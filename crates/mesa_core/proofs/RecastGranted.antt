@@ -1,11 +1,11 @@
 -- What a recast is granted, by the history at the end of its first turn, and what holds of it later.
 use Rattle.std.proofs.Common.{◌≡◌, ℕ, ◌<◌, List, [], ◌∷◌, length, sym, subst, ◌∙◌, Option, None}
 use Rattle.std.specs.List.{AllByRecursion}
-use Rattle.mesa_session_laws.specs.Known.{AllAreBounded, AllHaveRanges}
-use Rattle.mesa_session_laws.specs.Recasts.{known_recast}
-use Rattle.mesa_session_laws.specs.mesa_copy.Copying.{IsRecastBounded, KnownRange, known_ranges}
-use Rattle.mesa_session_laws.specs.mesa_publishing.Recasts.{HasItsRanges}
-use Rattle.mesa_session_laws.specs.mesa_history_spec.Run.{State}
+use Rattle.mesa_core.specs.Known.{AllAreBounded, AllHaveRanges}
+use Rattle.mesa_core.specs.Recasts.{known_recast}
+use Rattle.mesa_core.specs.mesa_copy.Copying.{IsRecastBounded, KnownRange, known_ranges}
+use Rattle.mesa_core.specs.mesa_publishing.Recasts.{HasItsRanges}
+use Rattle.mesa_core.specs.mesa_history_spec.Run.{State}
 use Rattle.mesa_engine.specs.mesa_image_spec.Catalog.{Catalog, stock_at}
 use Rattle.mesa_engine.specs.Vault.{Origin}
 use Rattle.mesa_engine.specs.Written.{written_at}

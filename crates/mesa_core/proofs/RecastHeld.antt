@@ -1,18 +1,18 @@
 -- What holds of a recast's files by a later history.
 use Rattle.std.proofs.Common.{◌≡◌, ℕ, ◌<◌, ◌++◌, List, length, refl, sym, ap, subst, ◌∙◌, Option, None}
 use Rattle.std.specs.List.{AllByRecursion}
-use Rattle.mesa_session_laws.specs.Known.{AllAreBounded, AllHaveRanges, lineage_in}
-use Rattle.mesa_session_laws.specs.mesa_plans.Ranges.{HoldsAll}
-use Rattle.mesa_session_laws.specs.Recasts.{KnownRecast, known_recast}
-use Rattle.mesa_session_laws.specs.Works.{WasGranted}
-use Rattle.mesa_session_laws.specs.mesa_copy.Copying.{IsRecastBounded}
-use Rattle.mesa_session_laws.specs.mesa_publishing.Grown.{HasBecome, HasSameColumns, StaysWithItsEpoch}
-use Rattle.mesa_session_laws.specs.mesa_publishing.Recasts.{HasItsRanges, stock_of_recast}
-use Rattle.mesa_session_laws.proofs.mesa_history_spec.More.{runs-append}
-use Rattle.mesa_session_laws.specs.mesa_history_spec.Law.{begun_at}
-use Rattle.mesa_session_laws.specs.mesa_history_spec.Replay.{runs}
-use Rattle.mesa_session_laws.specs.mesa_history_spec.Run.{Run, State, begins}
-use Rattle.mesa_session_laws.specs.mesa_history_spec.Sources.{Written}
+use Rattle.mesa_core.specs.Known.{AllAreBounded, AllHaveRanges, lineage_in}
+use Rattle.mesa_core.specs.mesa_plans.Ranges.{HoldsAll}
+use Rattle.mesa_core.specs.Recasts.{KnownRecast, known_recast}
+use Rattle.mesa_core.specs.Works.{WasGranted}
+use Rattle.mesa_core.specs.mesa_copy.Copying.{IsRecastBounded}
+use Rattle.mesa_core.specs.mesa_publishing.Grown.{HasBecome, HasSameColumns, StaysWithItsEpoch}
+use Rattle.mesa_core.specs.mesa_publishing.Recasts.{HasItsRanges, stock_of_recast}
+use Rattle.mesa_core.proofs.mesa_history_spec.More.{runs-append}
+use Rattle.mesa_core.specs.mesa_history_spec.Law.{begun_at}
+use Rattle.mesa_core.specs.mesa_history_spec.Replay.{runs}
+use Rattle.mesa_core.specs.mesa_history_spec.Run.{Run, State, begins}
+use Rattle.mesa_core.specs.mesa_history_spec.Sources.{Written}
 use Rattle.mesa_engine.specs.mesa_image_spec.Catalog.{Stock, stock_at}
 use Rattle.mesa_engine.specs.EngineState.{EngineState}
 use Rattle.mesa_engine.specs.Vault.{Origin}

@@ -3,7 +3,7 @@ use Rattle.std.proofs.Common.{◌≡◌, ℕ, ◌+◌, ◌*◌, ◌<◌, List, d
 use Rattle.std.proofs.lemmas.List.Recursion.{is_sum_by}
 use Rattle.std.proofs.lemmas.List.Sums.{sum_by-drop_more}
 use Rattle.mesa_model.specs.declared.commands.Command.{Command}
-use Rattle.mesa_session_laws.specs.Passes.{turns_of}
+use Rattle.mesa_core.specs.Passes.{turns_of}
 
 abbrev turns_for : List Command → ℕ
 turns_for commands = 3 * length commands

@@ -8,8 +8,8 @@ use Rattle.mesa_engine.specs.mesa_catalog.Lookups.{generation_of, known_as}
 use Rattle.mesa_core.specs.Handing.{store_after}
 use Rattle.mesa_core.specs.Standing.{IsCatalogAfter}
 use Rattle.mesa_disk.specs.Story.{Story}
-use Rattle.mesa_session_laws.specs.Known.{lineage_in}
-use Rattle.mesa_session_laws.specs.mesa_history_spec.Run.{State}
+use Rattle.mesa_core.specs.Known.{lineage_in}
+use Rattle.mesa_core.specs.mesa_history_spec.Run.{State}
 use Rattle.mesa_engine.specs.mesa_image_spec.Catalog.{Catalog, no_stock, stock_at}
 use Rattle.mesa_engine.proofs.mesa_catalog.Stocks.{all_at}
 use Rattle.mesa_engine.specs.mesa_image_spec.Shape.{IsShaped}
@@ -18,7 +18,7 @@ use Rattle.mesa_engine.specs.Vault.{Starts, IsVault, IsVaultAt, outset_of}
 use Rattle.mesa_model.specs.declared.commands.Script.{Script}
 use Rattle.mesa_model.specs.declared.entries.Entry.{Entry}
 use Rattle.mesa_model.specs.Warehouse.{Store, Table, Warehouse, no_table}
-use Rattle.mesa_session_laws.specs.Sight.{tables_known}
+use Rattle.mesa_core.specs.Sight.{tables_known}
 use Rattle.mesa_engine.proofs.mesa_history_spec.BareLists.{at_same}
 use Rattle.mesa_engine.specs.mesa_history_spec.Bare.{bare_store}
 use Rattle.mesa_engine.specs.mesa_history_spec.Rows.{Rows, no_rows}

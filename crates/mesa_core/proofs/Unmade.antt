@@ -3,8 +3,8 @@ use Rattle.std.proofs.Common.{◌≡◌, ◌⊎◌, inl, inr, List, ℕ, true, f
 use Rattle.std.specs.Prelude.{IfErr, IfOk, OnOk, Result}
 use Rattle.mesa_recast_turns.specs.mesa_work_turns.Unmerged.{MergeDiffered, cause_of}
 use Rattle.mesa_delta.specs.declared.error.FileError.TheVariants as file_error
-use Rattle.mesa_session_laws.specs.Recasts.{HasRegrouped, IsUnmade}
-use Rattle.mesa_session_laws.specs.mesa_copy.Copying.{IsRecastBounded}
+use Rattle.mesa_core.specs.Recasts.{HasRegrouped, IsUnmade}
+use Rattle.mesa_core.specs.mesa_copy.Copying.{IsRecastBounded}
 use Rattle.mesa_tasks.specs.GivingBack.{SomeFailed}
 use Rattle.mesa_tasks.specs.Recasts.{IsRecasted, recast_inputs}
 use Rattle.mesa_tasks.specs.declared.merging.CompactError.{CompactError}

@@ -1,12 +1,12 @@
 -- What a catalogue is by the history of its run.
 use Rattle.std.specs.Prelude.{◌≡◌, ℕ, ◌<◌, List, length}
 use Rattle.mesa_engine.specs.mesa_catalog.Lookups.{sight_of}
-use Rattle.mesa_session_laws.specs.mesa_history_spec.Run.{State}
+use Rattle.mesa_core.specs.mesa_history_spec.Run.{State}
 use Rattle.mesa_engine.specs.mesa_image_spec.Catalog.{Catalog, stock_at}
 use Rattle.mesa_model.specs.declared.commands.Script.{Script}
 use Rattle.mesa_model.specs.declared.entries.Entry.{Entry}
 use Rattle.mesa_model.specs.mesa_schema.Lineages.{IsLineage}
-use Rattle.mesa_session_laws.specs.Sight.{sight_after}
+use Rattle.mesa_core.specs.Sight.{sight_after}
 use Rattle.mesa_engine.specs.mesa_history_spec.Rows.{Rows, no_rows}
 use Rattle.mesa_engine.specs.mesa_invariant_spec.Invariant.{run_at}
 

@@ -2,7 +2,7 @@
 ghost use Rattle.std.specs.Prelude.{◌<◌, length};
 ghost use Rattle.mesa_recast_turns.specs.mesa_work_turns.mesa_write_turns.Writing.{KeepsFiles};
 ghost use Rattle.mesa_disk.specs.Story.{Steps};
-ghost use Rattle.mesa_session_laws.specs.mesa_history_spec.Run.{Finished, First};
+ghost use Rattle.mesa_core.specs.mesa_history_spec.Run.{Finished, First};
 ghost use Rattle.mesa_model.specs.declared.entries.Kind.TheVariants as kind;
 ghost use Rattle.mesa_engine.specs.mesa_history_spec.Rows.{no_rows};
 ghost use Rattle.mesa_engine.specs.mesa_invariant_spec.Turns.{AnswersDisk, Asks, SomeRose, Takes, is_simple};

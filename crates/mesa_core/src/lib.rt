@@ -1,14 +1,22 @@
 //! The vault: one run over a store, in turns. Each call that is a turn's adds one entry to the history, and is one step of what the run's script asks.
+//!
+//! Definitions and laws of sessions: what one knows of a run by its pass, whatever turns others took meanwhile, and what
+//! becomes of that where passes are split and joined; what a load sees of the tables; what is known of the files that
+//! were handed out to it, and what came of reading them. What is told of the files of a work or a recast where they are
+//! granted stays known of them, however much of them is read.
 #![tactic(auto)]
 
 mod asked;
 mod commands;
 mod loads;
+mod passes;
 mod queries;
 mod recasts;
 mod room;
+mod service;
 mod standing;
 mod starting;
+mod tasks_known;
 mod turned;
 mod vault;
 mod works;
@@ -16,3 +24,9 @@ mod works;
 pub use mesa_engine::Who;
 pub use room::turns_of;
 pub use vault::Vault;
+pub use tasks_known::{
+    bounds_are_known, grants_are_known, leases_hold, merges_are_known, ranges_are_known,
+    ranges_go_on, recasts_are_known, recasts_go_on, tables_go_on,
+};
+pub use passes::{passes_are_divided, sessions_end, turns_go_on};
+pub use service::sights_last;

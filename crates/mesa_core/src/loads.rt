@@ -3,10 +3,10 @@ ghost use Rattle.std.specs.Prelude.{◌≡◌, ◌<◌, List, true, Err, Some, I
 ghost use Rattle.mesa_batch.specs.declared.words.RowWords.{RowWords as AnyWords};
 ghost use Rattle.mesa_recast_turns.specs.mesa_work_turns.mesa_write_turns.Writing.{KeepsFiles};
 ghost use Rattle.mesa_disk.specs.Story.{Steps};
-ghost use Rattle.mesa_session_laws.specs.mesa_history_spec.Run.{Finished, First, Looked, command_at};
+ghost use Rattle.mesa_core.specs.mesa_history_spec.Run.{Finished, First, Looked, command_at};
 ghost use Rattle.mesa_model.specs.declared.commands.Command.TheVariants as command;
 ghost use Rattle.mesa_model.specs.declared.entries.Kind.TheVariants as kind;
-ghost use Rattle.mesa_session_laws.specs.Sight.{sight_after};
+ghost use Rattle.mesa_core.specs.Sight.{sight_after};
 ghost use Rattle.mesa_engine.specs.mesa_history_spec.Rows.{no_rows};
 ghost use Rattle.mesa_tasks.specs.Batches.{HasPrepared};
 ghost use Rattle.mesa_tasks.specs.declared.prepared.LoadError.TheVariants as load;

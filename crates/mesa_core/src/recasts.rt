@@ -4,11 +4,11 @@ ghost use Rattle.mesa_recast_turns.specs.mesa_work_turns.Swept.{ClaimHolds, HasS
 ghost use Rattle.mesa_recast_turns.specs.mesa_work_turns.Unmerged.{closing_cause};
 ghost use Rattle.mesa_core.specs.Handing.{AllAreRested, IsRecastGranted, IsRecastHeld, rested};
 ghost use Rattle.mesa_delta.specs.declared.error.FileError.TheVariants as file_error;
-ghost use Rattle.mesa_session_laws.specs.Recasts.{CanBeRegrouped, HasRegrouped, known_recast};
-ghost use Rattle.mesa_session_laws.specs.Works.{WasGranted};
-ghost use Rattle.mesa_session_laws.specs.mesa_publishing.Recasts.{stock_of_recast};
-ghost use Rattle.mesa_session_laws.specs.mesa_history_spec.Machine.{still_checked};
-ghost use Rattle.mesa_session_laws.specs.mesa_history_spec.Run.{Finished, First, Granted, Renewed};
+ghost use Rattle.mesa_core.specs.Recasts.{CanBeRegrouped, HasRegrouped, known_recast};
+ghost use Rattle.mesa_core.specs.Works.{WasGranted};
+ghost use Rattle.mesa_core.specs.mesa_publishing.Recasts.{stock_of_recast};
+ghost use Rattle.mesa_core.specs.mesa_history_spec.Machine.{still_checked};
+ghost use Rattle.mesa_core.specs.mesa_history_spec.Run.{Finished, First, Granted, Renewed};
 ghost use Rattle.mesa_model.specs.declared.entries.Kind.TheVariants as kind;
 ghost use Rattle.mesa_recast_turns.specs.Rested.{HasUnpaid, IsLonger, MayRest};
 ghost use Rattle.mesa_engine.specs.mesa_history_spec.Rows.{no_rows};
@@ -22,7 +22,7 @@ ghost use Rattle.mesa_engine.specs.mesa_invariant_spec.Turns.{AnswersDisk, Answe
 ghost use Rattle.mesa_engine.specs.mesa_invariant_spec.Invariant.{run_at};
 ghost use Rattle.mesa_engine.specs.mesa_invariant_spec.Works.{closing_stage, stage_if};
 
-use crate::Vault;
+use crate::{Vault, recasts_are_known, recasts_go_on, tables_go_on};
 use crate::asked::recast_of;
 use crate::standing::{allocator, catalogue};
 use mesa_delta::FileError;
@@ -30,7 +30,6 @@ use mesa_disk::{Disk, Made};
 use mesa_engine::{Engine, Naming, Who};
 use mesa_io::Sink;
 use mesa_recast_turns::{grant_recast, recast, renew_recast, rest, tables_become};
-use mesa_session_laws::{recasts_are_known, recasts_go_on, tables_go_on};
 use mesa_tasks::{CompactError, Recast, Recasted};
 
 // What holds of a recast's files between turns, by what was so at its grant.

@@ -1,7 +1,7 @@
 // How many turns a run may have.
 ghost use Rattle.std.specs.Prelude.{◌≡◌, ◌≤◌};
 ghost use Rattle.mesa_engine.specs.Engine.{most_turns};
-ghost use Rattle.mesa_session_laws.specs.Passes.{turns_of as turns_in};
+ghost use Rattle.mesa_core.specs.Passes.{turns_of as turns_in};
 
 use mesa_model::{Script, Session};
 

@@ -3,9 +3,9 @@ ghost use Rattle.std.specs.Prelude.{◌≡◌, ◌<◌, ◌++◌, ◌∷◌, [],
 ghost use Rattle.mesa_recast_turns.specs.mesa_work_turns.Swept.{ClaimHolds, HasStood, IsSwept};
 ghost use Rattle.mesa_recast_turns.specs.mesa_work_turns.Unmerged.{closing_cause};
 ghost use Rattle.mesa_core.specs.Handing.{IsGranted};
-ghost use Rattle.mesa_session_laws.specs.mesa_history_spec.Run.{Finished, First, Granted, Renewed};
+ghost use Rattle.mesa_core.specs.mesa_history_spec.Run.{Finished, First, Granted, Renewed};
 ghost use Rattle.mesa_model.specs.declared.entries.Kind.TheVariants as kind;
-ghost use Rattle.mesa_session_laws.specs.Works.{CanBeMerged, HasMerged, WasGranted, known_task};
+ghost use Rattle.mesa_core.specs.Works.{CanBeMerged, HasMerged, WasGranted, known_task};
 ghost use Rattle.mesa_engine.specs.mesa_history_spec.Rows.{no_rows};
 ghost use Rattle.mesa_engine.specs.mesa_invariant_spec.mesa_history_spec.Output.{block};
 ghost use Rattle.mesa_tasks.specs.Tasks.{claim_in};
@@ -16,16 +16,13 @@ ghost use Rattle.mesa_engine.specs.mesa_invariant_spec.Turns.{AnswersDisk, Answe
 ghost use Rattle.mesa_engine.specs.mesa_invariant_spec.Invariant.{run_at};
 ghost use Rattle.mesa_engine.specs.mesa_invariant_spec.Works.{closing_stage, stage_if};
 
-use crate::Vault;
+use crate::{Vault, bounds_are_known, leases_hold, merges_are_known, ranges_go_on, tables_go_on};
 use crate::asked::work_of;
 use crate::standing::{allocator, catalogue, claims};
 use mesa_disk::{Disk, Made};
 use mesa_engine::{Naming, Who};
 use mesa_io::Sink;
 use mesa_recast_turns::{complete, give_up, grant, renew, tables_become};
-use mesa_session_laws::{
-    bounds_are_known, leases_hold, merges_are_known, ranges_go_on, tables_go_on,
-};
 use mesa_tasks::{CompactError, NewDelta, Task};
 
 impl<'s, N: Naming, M: Made, D: Disk<M>, K: Sink> Vault<'s, N, M, D, K> {

@@ -28,11 +28,11 @@ use Rattle.mesa_engine.specs.mesa_invariant_spec.Invariant.{run_at}
 use Rattle.mesa_tasks.specs.declared.prepared.LoadError.{LoadError}
 use Rattle.mesa_tasks.specs.declared.prepared.Prepared.{Prepared}
 use Rattle.mesa_tasks.specs.declared.querying.Pinned.{Pinned}
-use Rattle.mesa_core.proofs.mesa_session_laws.Behind.{comes_in_time, place_found, whole_found}
-use Rattle.mesa_core.proofs.mesa_session_laws.Turning.{found_history}
+use Rattle.mesa_core.proofs.Behind.{comes_in_time, place_found, whole_found}
+use Rattle.mesa_core.proofs.Turning.{found_history}
 use Rattle.mesa_tasks.specs.Batches.{HasPrepared}
-use Rattle.mesa_session_laws.specs.Pins.{CanBeAnswered, IsOpenQuery, KnownPin, TakesQuery, known_pin}
-use Rattle.mesa_session_laws.specs.Works.{WasGranted}
+use Rattle.mesa_core.specs.Pins.{CanBeAnswered, IsOpenQuery, KnownPin, TakesQuery, known_pin}
+use Rattle.mesa_core.specs.Works.{WasGranted}
 use Rattle.mesa_session.specs.Loads.{StaysPrepared}
 
 module _ (p : Known) (ticket : ℕ) (h : List Entry) (finds : Finds p ticket (numbers_of h)) (short : AllByRecursion IsShort h) where

@@ -24,12 +24,12 @@ use Rattle.mesa_tasks.specs.declared.merging.Task.{Task}
 use Rattle.mesa_tasks.specs.declared.merging.TaskView.{TaskView}
 use Rattle.mesa_compact.specs.Bounded.{AreBounded, AreOwnBounded, IsBounded}
 use Rattle.mesa_compact.specs.Tasks.{IsSameTask, KnownView, known_view, known_views}
-use Rattle.mesa_session_laws.proofs.Known.{cons_none, first_same, merge_stays, none_some, only_stays, rest_same, some_same}
+use Rattle.mesa_core.proofs.Known.{cons_none, first_same, merge_stays, none_some, only_stays, rest_same, some_same}
 use Rattle.mesa_compact.specs.Writing.{HasCauses, IsDraftFault, damaged_by}
 use Rattle.mesa_tasks.specs.Errors.{Differs}
-use Rattle.mesa_core.specs.mesa_session_laws.Answers.{Owes}
-use Rattle.mesa_session_laws.specs.Drafts.{owed_by_work}
-use Rattle.mesa_session_laws.specs.Works.{IsDeltaOf, known_task}
+use Rattle.mesa_core.specs.Answers.{Owes}
+use Rattle.mesa_core.specs.Drafts.{owed_by_work}
+use Rattle.mesa_core.specs.Works.{IsDeltaOf, known_task}
 use Rattle.mesa_session.proofs.Damaged.{rose_failed}
 
 -- ---- what is known

@@ -21,12 +21,12 @@ use Rattle.mesa_tasks.specs.GivingBack.{SomeFailed, pinned_inputs}
 use Rattle.mesa_tasks.specs.Pins.{relation_rows}
 use Rattle.mesa_tasks.specs.declared.querying.Pinned.{Pinned}
 use Rattle.mesa_tasks.specs.declared.querying.PinnedInput.{PinnedInput}
-use Rattle.mesa_session_laws.proofs.Known.{cons_none, first_same, rest_same}
+use Rattle.mesa_core.proofs.Known.{cons_none, first_same, rest_same}
 use Rattle.mesa_query.specs.Files.{IsDamageIn, inputs_in, owns_in}
 use Rattle.mesa_query.specs.Relation.{page_over, parts_pinned, parts_ungrouped, rows_under}
 use Rattle.mesa_query.specs.Sums.{IsSumIn}
-use Rattle.mesa_session_laws.specs.Damages.{IsUnread}
-use Rattle.mesa_session_laws.specs.Pins.{IsAnswer, IsAnswerDamage, IsPageOver, heading_in, known_pin}
+use Rattle.mesa_core.specs.Damages.{IsUnread}
+use Rattle.mesa_core.specs.Pins.{IsAnswer, IsAnswerDamage, IsPageOver, heading_in, known_pin}
 use Rattle.mesa_query.specs.Same.{IsSamePin, readers_in}
 use Rattle.mesa_session.proofs.Damaged.{query_differs, rose_failed}
 

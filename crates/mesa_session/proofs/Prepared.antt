@@ -14,8 +14,8 @@ use Rattle.mesa_tasks.specs.declared.prepared.Prepared.{Prepared}
 use Rattle.mesa_tasks.specs.declared.merging.CompactError.{CompactError}
 use Rattle.mesa_tasks.specs.declared.merging.CompactError.TheVariants as compact
 use Rattle.mesa_load.specs.Preparing.{IsReason}
-use Rattle.mesa_core.specs.mesa_session_laws.Answers.{Owes}
-use Rattle.mesa_session_laws.specs.Drafts.{owed_by_error, owed_by_load, owed_by_work}
+use Rattle.mesa_core.specs.Answers.{Owes}
+use Rattle.mesa_core.specs.Drafts.{owed_by_error, owed_by_load, owed_by_work}
 use Rattle.mesa_session.specs.Loads.{StaysPrepared}
 
 ok_given : {A E : Type 0} (r : Result A E) → IsOk r → (a : A) × (r ≡ Ok a)

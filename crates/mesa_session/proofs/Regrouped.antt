@@ -11,7 +11,7 @@ use Rattle.mesa_delta.specs.declared.error.FileError.TheVariants as file
 use Rattle.mesa_disk.specs.mesa_file.declared.damage.Damage.{Damage}
 use Rattle.mesa_core.specs.mesa_history_spec.Machine.{Recasts}
 use Rattle.mesa_model.specs.mesa_schema.Changes.{Lineage, columns_of}
-use Rattle.mesa_session_laws.specs.Recasts.{CanBeRegrouped, HasRegrouped, IsUnmade, KnownRecast, known_recast}
+use Rattle.mesa_core.specs.Recasts.{CanBeRegrouped, HasRegrouped, IsUnmade, KnownRecast, known_recast}
 use Rattle.mesa_tasks.specs.Errors.{Differs}
 use Rattle.mesa_tasks.specs.Recasts.{IsRecastTask, IsRecasted, claim_of_recast, recast_inputs, recast_table}
 use Rattle.mesa_tasks.specs.declared.merging.CompactError.{CompactError}

@@ -10,7 +10,7 @@ use Rattle.mesa_core.proofs.mesa_history_spec.Ending.{legal_ended}
 use Rattle.mesa_turn.specs.Passes.{Known}
 use Rattle.mesa_engine.specs.mesa_invariant_spec.Turns.{IsSeen, Shown}
 use Rattle.mesa_engine.specs.mesa_invariant_spec.Invariant.{run_at}
-use Rattle.mesa_session_laws.specs.Passes.{HasEnded}
+use Rattle.mesa_core.specs.Passes.{HasEnded}
 
 -- the last pass has seen the whole history
 pub seen_whole : (script : Script) (start : State) (v : Shown) (p : Known) → IsSeen script start v → p.seen ≡ numbers_of v.history → history_of p.seen ≡ v.history

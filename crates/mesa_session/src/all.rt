@@ -6,8 +6,8 @@ ghost use Rattle.mesa_model.specs.Entry.{history_of};
 ghost use Rattle.mesa_engine.specs.mesa_history_spec.Rows.{no_rows};
 ghost use Rattle.mesa_turn.specs.History.{has};
 ghost use Rattle.mesa_turn.specs.Passes.{IsExact, Joins};
-ghost use Rattle.mesa_session_laws.specs.Answers.{HasCounted, HaveCounted, answered};
-ghost use Rattle.mesa_session_laws.specs.Passes.{HasEnded, HaveEnded, Mine, Waits, at_stage, turns_of};
+ghost use Rattle.mesa_core.specs.Answers.{HasCounted, HaveCounted, answered};
+ghost use Rattle.mesa_core.specs.Passes.{HasEnded, HaveEnded, Mine, Waits, at_stage, turns_of};
 
 use crate::{Gate, Vault, run_session};
 use mesa_disk::{Bench, Disk, Made};

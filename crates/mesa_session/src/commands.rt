@@ -6,8 +6,8 @@ ghost use Rattle.mesa_core.specs.mesa_history_spec.Turns.{place_then};
 ghost use Rattle.mesa_model.specs.declared.commands.Command.TheVariants as command;
 ghost use Rattle.mesa_engine.specs.mesa_history_spec.Rows.{no_rows};
 ghost use Rattle.mesa_engine.specs.mesa_invariant_spec.Turns.{is_merge, is_recast};
-ghost use Rattle.mesa_core.specs.mesa_session_laws.Answers.{Answers};
-ghost use Rattle.mesa_core.specs.mesa_session_laws.Passes.{HasSort, Mine, Took, at_stage};
+ghost use Rattle.mesa_core.specs.Answers.{Answers};
+ghost use Rattle.mesa_core.specs.Passes.{HasSort, Mine, Took, at_stage};
 ghost use Rattle.mesa_session.specs.Drafts.{AreOf, GoOn};
 
 use crate::gate::{Gate, Point};

@@ -5,7 +5,7 @@ ghost use Rattle.mesa_key.specs.Spelling.{is_spelling};
 ghost use Rattle.mesa_model.specs.mesa_schema.declared.rows.Row.{Row as AnyRow};
 ghost use Rattle.mesa_filter.specs.Query.{group_kinds as kinds_grouped};
 ghost use Rattle.mesa_script.specs.Rows.{rendered};
-ghost use Rattle.mesa_core.specs.mesa_session_laws.Answers.{Owes};
+ghost use Rattle.mesa_core.specs.Answers.{Owes};
 ghost use Rattle.mesa_tasks.specs.Recasts.{IsRecasted, IsRecastedSoFar, claim_of_recast, recast_ids};
 ghost use Rattle.mesa_tasks.specs.Serials.{AreNext, after_drafts};
 ghost use Rattle.mesa_tasks.specs.declared.merging.CompactError.TheVariants as compact;
@@ -14,10 +14,10 @@ ghost use Rattle.mesa_core.specs.Handing.{AllAreRested, IsRecastGranted, IsRecas
 ghost use Rattle.mesa_core.specs.mesa_recast_turns.Rested.{HasUnpaid};
 ghost use Rattle.mesa_engine.specs.mesa_history_spec.Rows.{no_rows};
 ghost use Rattle.mesa_compact.specs.Tasks.{AreNumbered};
-ghost use Rattle.mesa_session_laws.specs.Drafts.{owed_by_work};
-ghost use Rattle.mesa_session_laws.specs.Pins.{CanBeAnswered, HasAnswered, heading_in, known_pin};
-ghost use Rattle.mesa_session_laws.specs.Recasts.{CanBeRegrouped, HasRegrouped, known_recast};
-ghost use Rattle.mesa_session_laws.specs.Works.{CanBeMerged, HasMerged, WasGranted, known_task};
+ghost use Rattle.mesa_core.specs.Drafts.{owed_by_work};
+ghost use Rattle.mesa_core.specs.Pins.{CanBeAnswered, HasAnswered, heading_in, known_pin};
+ghost use Rattle.mesa_core.specs.Recasts.{CanBeRegrouped, HasRegrouped, known_recast};
+ghost use Rattle.mesa_core.specs.Works.{CanBeMerged, HasMerged, WasGranted, known_task};
 
 use mesa_compact::merge_task;
 use mesa_copy::{regroup_more, regroup_task};

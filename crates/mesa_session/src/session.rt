@@ -2,8 +2,8 @@
 ghost use Rattle.std.specs.Prelude.{◌≡◌, ◌<◌, ◌≤◌, ◌*◌, length};
 ghost use Rattle.mesa_core.specs.mesa_history_spec.Run.{First, commands_of as commands_in};
 ghost use Rattle.mesa_engine.specs.mesa_history_spec.Rows.{no_rows};
-ghost use Rattle.mesa_core.specs.mesa_session_laws.Answers.{Answers};
-ghost use Rattle.mesa_core.specs.mesa_session_laws.Passes.{Gains, HasEnded, Mine, Took, at_stage};
+ghost use Rattle.mesa_core.specs.Answers.{Answers};
+ghost use Rattle.mesa_core.specs.Passes.{Gains, HasEnded, Mine, Took, at_stage};
 
 use crate::commands::run_command;
 use crate::gate::{Gate, Point};

@@ -13,7 +13,7 @@ use Rattle.mesa_check.specs.mesa_history_spec.Replay.{closes, go, runs}
 use Rattle.mesa_check.specs.mesa_history_spec.Run.{Run, State, begins}
 use Rattle.mesa_store_digest.specs.mesa_history_spec.Bare.{bare_run, bare_state}
 use Rattle.mesa_store_digest.proofs.mesa_history_spec.Alike.{go_alike, legal_alike}
-use Rattle.mesa_session.specs.mesa_session_laws.Answers.{AreTimely, HasCounted, HaveCounted}
+use Rattle.mesa_session.specs.mesa_core.Answers.{AreTimely, HasCounted, HaveCounted}
 use Rattle.mesa_engine.specs.mesa_invariant_spec.Printing.{IsPrintedButRows}
 use Rattle.mesa_engine.specs.mesa_invariant_spec.Invariant.{HasCounted as HasCountedFaults}
 use Rattle.mesa_exit.specs.mesa_exit_spec.Counting.{HasBenchCounts}

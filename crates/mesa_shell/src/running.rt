@@ -6,7 +6,7 @@ ghost use Rattle.mesa_session.specs.mesa_engine.Engine.{most_turns, starts_of};
 ghost use Rattle.mesa_check.specs.mesa_history_spec.Refused.{some_refused};
 ghost use Rattle.mesa_check.specs.mesa_history_spec.Run.{begins};
 ghost use Rattle.mesa_store_digest.specs.mesa_history_spec.Rows.{Rows};
-ghost use Rattle.mesa_session.specs.mesa_session_laws.Passes.{turns_of};
+ghost use Rattle.mesa_session.specs.mesa_core.Passes.{turns_of};
 ghost use Rattle.mesa_exit.specs.mesa_exit_spec.Counting.{HasBenchCounts};
 ghost use Rattle.mesa_exit.specs.mesa_exit_spec.Ports.{ports};
 ghost use Rattle.mesa_engine.specs.mesa_invariant_spec.Invariant.{AllFound};

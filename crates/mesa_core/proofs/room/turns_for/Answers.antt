@@ -1,6 +1,6 @@
 use Rattle.std.proofs.Common.{◌*◌, length, arith, ap, sym}
 use Rattle.std.proofs.lemmas.List.{drop_all}
-use Rattle.mesa_session_laws.specs.Passes.{turns_of}
+use Rattle.mesa_core.specs.Passes.{turns_of}
 use Rattle.mesa_core.proofs.Rooms.{turns_more}
 use Rattle.mesa_core.proofs.room.turns_for.Goals as goal
 

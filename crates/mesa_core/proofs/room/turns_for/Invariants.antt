@@ -1,5 +1,5 @@
 use Rattle.std.proofs.Common.{◌≡◌, ◌+◌, drop}
-use Rattle.mesa_session_laws.specs.Passes.{turns_of}
+use Rattle.mesa_core.specs.Passes.{turns_of}
 use Rattle.mesa_core.proofs.room.turns_for.Given as goal
 
 -- those so far and those that are left are all

@@ -1,8 +1,8 @@
 use Rattle.std.proofs.Common.{◌≡◌, not, sym, ap, subst, false}
 use Rattle.mesa_engine.specs.Engine.{Standing, starts_of}
-use Rattle.mesa_session_laws.specs.mesa_history_spec.Claims.{HasClaimAt}
-use Rattle.mesa_session_laws.specs.mesa_history_spec.Machine.{Machine}
-use Rattle.mesa_session_laws.specs.mesa_history_spec.Run.{place_of}
+use Rattle.mesa_core.specs.mesa_history_spec.Claims.{HasClaimAt}
+use Rattle.mesa_core.specs.mesa_history_spec.Machine.{Machine}
+use Rattle.mesa_core.specs.mesa_history_spec.Run.{place_of}
 use Rattle.mesa_engine.proofs.BeforeTurns.{vault_claims}
 use Rattle.mesa_engine.specs.Vault.{Starts, outset_of}
 use Rattle.mesa_engine.specs.mesa_history_spec.Rows.{no_rows}

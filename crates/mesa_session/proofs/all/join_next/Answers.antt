@@ -1,5 +1,5 @@
 use Rattle.mesa_engine.specs.mesa_history_spec.Rows.{no_rows}
-use Rattle.mesa_session_laws.proofs.Dividing.{have_ended}
+use Rattle.mesa_core.proofs.Dividing.{have_ended}
 use Rattle.mesa_session.proofs.all.join_next.Goals as goal
 
 pub returns-clause-ended : goal.returns-clause-ended

@@ -1,8 +1,8 @@
 use Rattle.std.proofs.Common.{arith}
 use Rattle.mesa_engine.specs.mesa_history_spec.Rows.{no_rows}
-use Rattle.mesa_core.proofs.mesa_session_laws.Answering.{answers_at, answers_owed}
-use Rattle.mesa_core.proofs.mesa_session_laws.Turning.{took_both, took_fewer}
-use Rattle.mesa_session_laws.specs.Drafts.{owed_by_load}
+use Rattle.mesa_core.proofs.Answering.{answers_at, answers_owed}
+use Rattle.mesa_core.proofs.Turning.{took_both, took_fewer}
+use Rattle.mesa_core.specs.Drafts.{owed_by_load}
 use Rattle.mesa_session.proofs.Drawing.{drawn_both, taken_on, undrawn}
 use Rattle.mesa_session.proofs.commands.load.Goals as goal
 

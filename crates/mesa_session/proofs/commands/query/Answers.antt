@@ -3,9 +3,9 @@ use Rattle.std.specs.Prelude.{IfSome}
 use Rattle.mesa_core.specs.Handing.{Tells}
 use Rattle.mesa_model.specs.Entry.{history_of}
 use Rattle.mesa_engine.specs.mesa_history_spec.Rows.{no_rows}
-use Rattle.mesa_core.proofs.mesa_session_laws.Answering.{answers_both}
-use Rattle.mesa_core.proofs.mesa_session_laws.Turning.{took_both, took_fewer}
-use Rattle.mesa_session_laws.specs.Pins.{CanBeAnswered, IsOpenQuery, KnownPin, known_pin}
+use Rattle.mesa_core.proofs.Answering.{answers_both}
+use Rattle.mesa_core.proofs.Turning.{took_both, took_fewer}
+use Rattle.mesa_core.specs.Pins.{CanBeAnswered, IsOpenQuery, KnownPin, known_pin}
 use Rattle.mesa_session.proofs.commands.query.Goals as goal
 
 pub close_turn-requires-clause-open : goal.close_turn-requires-clause-open

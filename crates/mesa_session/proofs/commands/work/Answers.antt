@@ -1,7 +1,7 @@
 use Rattle.std.proofs.Common.{arith}
 use Rattle.mesa_engine.specs.mesa_history_spec.Rows.{no_rows}
-use Rattle.mesa_core.proofs.mesa_session_laws.Answering.{answers_at, answers_both, answers_owed, answers_within}
-use Rattle.mesa_core.proofs.mesa_session_laws.Turning.{took_both, took_fewer}
+use Rattle.mesa_core.proofs.Answering.{answers_at, answers_both, answers_owed, answers_within}
+use Rattle.mesa_core.proofs.Turning.{took_both, took_fewer}
 use Rattle.mesa_session.proofs.Drawing.{taken_on, undrawn}
 use Rattle.mesa_session.proofs.commands.work.Goals as goal
 

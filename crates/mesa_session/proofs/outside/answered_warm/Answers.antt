@@ -6,7 +6,7 @@ use Rattle.mesa_model.specs.mesa_schema.declared.rows.Row.{Row}
 use Rattle.mesa_filter.specs.Query.{BuiltQuery, group_kinds}
 use Rattle.mesa_script.specs.Rows.{rendered}
 use Rattle.mesa_tasks.specs.declared.querying.Pinned.{Pinned}
-use Rattle.mesa_session_laws.specs.Pins.{heading_in}
+use Rattle.mesa_core.specs.Pins.{heading_in}
 use Rattle.mesa_session.proofs.Pinned.{answer_along, fault_closes, known_along, known_stays, page_closes}
 use Rattle.mesa_session.proofs.Spelling.{page_spells}
 use Rattle.mesa_session.proofs.outside.answered_warm.Goals as goal

@@ -1,7 +1,7 @@
 use Rattle.std.proofs.Common.{◌≡◌, ◌∙◌, inl, refl, sym, ap, subst, arith, None, true}
 use Rattle.std.proofs.lemmas.Result.{on_ok_weaker}
 use Rattle.mesa_core.specs.Handing.{AllAreRested, IsRecastHeld}
-use Rattle.mesa_session_laws.specs.Recasts.{KnownRecast}
+use Rattle.mesa_core.specs.Recasts.{KnownRecast}
 use Rattle.mesa_session.proofs.Regrouped.{claim_known, claim_longer, rest_closes}
 use Rattle.mesa_session.proofs.outside.regrouped_now.Goals as goal
 

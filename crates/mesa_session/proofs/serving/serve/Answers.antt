@@ -2,7 +2,7 @@ use Rattle.std.proofs.Common.{ℕ, zero, suc, ◌<◌, List, refl, subst, sym, a
 use Rattle.std.specs.Prelude.{IsTrue}
 use Rattle.mesa_engine.specs.mesa_history_spec.Rows.{no_rows}
 use Rattle.mesa_model.specs.declared.entries.Entry.{Entry}
-use Rattle.mesa_session_laws.specs.Answers.{HaveCounted}
+use Rattle.mesa_core.specs.Answers.{HaveCounted}
 use Rattle.mesa_turn.specs.History.{has}
 use Rattle.mesa_turn.specs.Passes.{Known}
 use Rattle.mesa_turn.specs.Rule.{all_names}

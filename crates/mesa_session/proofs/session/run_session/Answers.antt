@@ -4,11 +4,11 @@ use Rattle.mesa_core.specs.mesa_history_spec.Turns.{place_then}
 use Rattle.mesa_core.proofs.mesa_history_spec.Due.{command_there}
 use Rattle.mesa_model.specs.declared.commands.Command.{Command}
 use Rattle.mesa_engine.specs.mesa_history_spec.Rows.{no_rows}
-use Rattle.mesa_core.specs.mesa_session_laws.Passes.{Mine}
-use Rattle.mesa_core.proofs.mesa_session_laws.Answering.{answers_both}
-use Rattle.mesa_core.proofs.mesa_session_laws.Dividing.{gains}
-use Rattle.mesa_core.proofs.mesa_session_laws.Ending.{ended_cut, ended_whole}
-use Rattle.mesa_core.proofs.mesa_session_laws.Turning.{took_both, took_fewer}
+use Rattle.mesa_core.specs.Passes.{Mine}
+use Rattle.mesa_core.proofs.Answering.{answers_both}
+use Rattle.mesa_core.proofs.Dividing.{gains}
+use Rattle.mesa_core.proofs.Ending.{ended_cut, ended_whole}
+use Rattle.mesa_core.proofs.Turning.{took_both, took_fewer}
 use Rattle.mesa_session.proofs.session.run_session.Goals as goal
 
 pub run_command-next-requires-clause-known : goal.run_command-next-requires-clause-known

@@ -7,11 +7,11 @@ use Rattle.mesa_engine.specs.mesa_invariant_spec.Turns.{is_recast}
 use Rattle.mesa_core.specs.mesa_history_spec.Run.{Finished, Granted}
 use Rattle.mesa_model.specs.declared.entries.Kind.TheVariants as kind
 use Rattle.mesa_engine.specs.mesa_history_spec.Rows.{no_rows}
-use Rattle.mesa_core.proofs.mesa_session_laws.Answering.{step_drafts}
-use Rattle.mesa_core.proofs.mesa_session_laws.Turning.{Step, step_took}
+use Rattle.mesa_core.proofs.Answering.{step_drafts}
+use Rattle.mesa_core.proofs.Turning.{Step, step_took}
 use Rattle.mesa_tasks.specs.declared.merging.CompactError.{CompactError}
 use Rattle.mesa_tasks.specs.declared.merging.CompactError.TheVariants as compact
-use Rattle.mesa_session_laws.specs.Drafts.{owed_by_error}
+use Rattle.mesa_core.specs.Drafts.{owed_by_error}
 use Rattle.mesa_tasks.specs.Recasts.{claim_of_recast}
 use Rattle.mesa_session.proofs.Prepared.{owed_error}
 use Rattle.mesa_session.proofs.Found.{granted_found}

@@ -8,10 +8,10 @@ use Rattle.mesa_core.specs.mesa_history_spec.Run.{Finished}
 use Rattle.mesa_model.specs.declared.entries.Kind.TheVariants as kind
 use Rattle.mesa_engine.specs.mesa_history_spec.Rows.{no_rows}
 use Rattle.mesa_engine.specs.mesa_invariant_spec.Works.{closing_stage}
-use Rattle.mesa_core.proofs.mesa_session_laws.Answering.{step_drafts}
-use Rattle.mesa_core.proofs.mesa_session_laws.Turning.{Step, step_took}
+use Rattle.mesa_core.proofs.Answering.{step_drafts}
+use Rattle.mesa_core.proofs.Turning.{Step, step_took}
 use Rattle.mesa_tasks.specs.declared.merging.CompactError.TheVariants as compact
-use Rattle.mesa_session_laws.specs.Drafts.{owed_by_work}
+use Rattle.mesa_core.specs.Drafts.{owed_by_work}
 use Rattle.mesa_tasks.specs.Tasks.{claim_in}
 use Rattle.mesa_session.proofs.Prepared.{owed_merged}
 use Rattle.mesa_session.proofs.Found.{granted_found}

@@ -6,11 +6,11 @@ use Rattle.mesa_engine.specs.mesa_invariant_spec.Turns.{is_merge}
 use Rattle.mesa_core.specs.mesa_history_spec.Run.{First, Granted}
 use Rattle.mesa_model.specs.declared.entries.Kind.TheVariants as kind
 use Rattle.mesa_engine.specs.mesa_history_spec.Rows.{no_rows}
-use Rattle.mesa_core.proofs.mesa_session_laws.Answering.{none_granting, step_none}
-use Rattle.mesa_core.proofs.mesa_session_laws.Turning.{Step, step_took, step_seen}
+use Rattle.mesa_core.proofs.Answering.{none_granting, step_none}
+use Rattle.mesa_core.proofs.Turning.{Step, step_took, step_seen}
 use Rattle.mesa_engine.specs.mesa_invariant_spec.Works.{stage_if}
 use Rattle.mesa_tasks.specs.Tasks.{claim_in}
-use Rattle.mesa_session_laws.specs.Works.{known_task}
+use Rattle.mesa_core.specs.Works.{known_task}
 use Rattle.mesa_session.proofs.Found.{granted_then}
 use Rattle.mesa_session.proofs.Stepping.{Enters, asks, goes_on, one, room_for, step}
 use Rattle.mesa_session.proofs.turns.grant_turn.Goals as goal

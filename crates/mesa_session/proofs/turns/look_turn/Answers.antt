@@ -7,9 +7,9 @@ use Rattle.mesa_model.specs.declared.entries.Entry.{Entry}
 use Rattle.mesa_model.specs.declared.entries.Kind.TheVariants as kind
 use Rattle.mesa_engine.specs.mesa_history_spec.Rows.{no_rows}
 use Rattle.mesa_engine.specs.mesa_invariant_spec.Turns.{is_load}
-use Rattle.mesa_core.proofs.mesa_session_laws.Answering.{none_looking, step_none}
-use Rattle.mesa_core.proofs.mesa_session_laws.Turning.{Step, step_took, step_seen}
-use Rattle.mesa_session_laws.specs.Sight.{sight_after}
+use Rattle.mesa_core.proofs.Answering.{none_looking, step_none}
+use Rattle.mesa_core.proofs.Turning.{Step, step_took, step_seen}
+use Rattle.mesa_core.specs.Sight.{sight_after}
 use Rattle.mesa_session.proofs.Stepping.{Enters, asks, goes_on, one, room_for, step}
 use Rattle.mesa_session.proofs.turns.look_turn.Goals as goal
 use Rattle.mesa_session.proofs.turns.look_turn.Goals.{After-leave}

@@ -7,11 +7,11 @@ use Rattle.mesa_model.specs.declared.commands.Command.TheVariants as command
 use Rattle.mesa_model.specs.declared.entries.Kind.TheVariants as kind
 use Rattle.mesa_engine.specs.mesa_history_spec.Rows.{no_rows}
 use Rattle.mesa_engine.specs.mesa_invariant_spec.Turns.{is_load}
-use Rattle.mesa_core.proofs.mesa_session_laws.Answering.{answers_within, step_drafts}
-use Rattle.mesa_core.proofs.mesa_session_laws.Turning.{Step, step_took}
+use Rattle.mesa_core.proofs.Answering.{answers_within, step_drafts}
+use Rattle.mesa_core.proofs.Turning.{Step, step_took}
 use Rattle.mesa_tasks.specs.declared.prepared.LoadError.TheVariants as load
-use Rattle.mesa_session_laws.specs.Drafts.{owed_by_load}
-use Rattle.mesa_session_laws.specs.Sight.{sight_after}
+use Rattle.mesa_core.specs.Drafts.{owed_by_load}
+use Rattle.mesa_core.specs.Sight.{sight_after}
 use Rattle.mesa_session.proofs.Prepared.{owed_made}
 use Rattle.mesa_session.proofs.Found.{prepared_found}
 use Rattle.mesa_session.proofs.Stepping.{Enters, asks, finds_numbers, goes_on, one, room_for, step}

@@ -7,10 +7,10 @@ use Rattle.mesa_engine.specs.mesa_invariant_spec.Turns.{AnswersDraft, Shown, is_
 use Rattle.mesa_core.specs.mesa_history_spec.Run.{Finished, Renewed}
 use Rattle.mesa_model.specs.declared.entries.Kind.TheVariants as kind
 use Rattle.mesa_engine.specs.mesa_history_spec.Rows.{no_rows}
-use Rattle.mesa_core.proofs.mesa_session_laws.Answering.{answers_within, step_drafts}
-use Rattle.mesa_core.proofs.mesa_session_laws.Turning.{Step, step_took}
+use Rattle.mesa_core.proofs.Answering.{answers_within, step_drafts}
+use Rattle.mesa_core.proofs.Turning.{Step, step_took}
 use Rattle.mesa_tasks.specs.declared.merging.CompactError.TheVariants as compact
-use Rattle.mesa_session_laws.specs.Drafts.{owed_by_work}
+use Rattle.mesa_core.specs.Drafts.{owed_by_work}
 use Rattle.mesa_tasks.specs.Recasts.{claim_of_recast}
 use Rattle.mesa_session.proofs.Prepared.{owed_merged}
 use Rattle.mesa_session.proofs.Found.{granted_found}

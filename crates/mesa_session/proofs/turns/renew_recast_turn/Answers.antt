@@ -6,10 +6,10 @@ use Rattle.mesa_engine.specs.mesa_invariant_spec.Turns.{is_recast}
 use Rattle.mesa_core.specs.mesa_history_spec.Run.{Granted, Renewed}
 use Rattle.mesa_model.specs.declared.entries.Kind.TheVariants as kind
 use Rattle.mesa_engine.specs.mesa_history_spec.Rows.{no_rows}
-use Rattle.mesa_core.proofs.mesa_session_laws.Answering.{none_renewing, step_none}
-use Rattle.mesa_core.proofs.mesa_session_laws.Turning.{Step, step_took}
+use Rattle.mesa_core.proofs.Answering.{none_renewing, step_none}
+use Rattle.mesa_core.proofs.Turning.{Step, step_took}
 use Rattle.mesa_engine.specs.mesa_invariant_spec.Works.{stage_if}
-use Rattle.mesa_session_laws.specs.Recasts.{known_recast}
+use Rattle.mesa_core.specs.Recasts.{known_recast}
 use Rattle.mesa_tasks.specs.Recasts.{claim_of_recast}
 use Rattle.mesa_session.proofs.Found.{granted_found, granted_later}
 use Rattle.mesa_session.proofs.Stepping.{Enters, asks, finds_numbers, goes_on, one, room_for, step}

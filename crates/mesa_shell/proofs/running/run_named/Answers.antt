@@ -2,7 +2,7 @@ use Rattle.std.proofs.Common.{◌≡◌, [], length, true, false, not, refl, sym
 use Rattle.mesa_disk.specs.mesa_io.Causes.{Rose}
 use Rattle.mesa_model.specs.declared.commands.Script.{Script}
 use Rattle.mesa_model.specs.Warehouse.{Warehouse}
-use Rattle.mesa_session.specs.mesa_session_laws.Passes.{turns_of}
+use Rattle.mesa_session.specs.mesa_core.Passes.{turns_of}
 use Rattle.mesa_store_digest.specs.mesa_history_spec.Rows.{no_rows}
 use Rattle.mesa_session.specs.mesa_core.Vault.{Stand}
 use Rattle.mesa_check.specs.mesa_history_spec.Refused.{some_refused}

@@ -2,7 +2,7 @@ use Rattle.std.proofs.Common.{sym, subst}
 use Rattle.mesa_core.specs.Handing.{Tells}
 use Rattle.mesa_core.specs.Vault.{Stand}
 use Rattle.mesa_core.proofs.Handed.{has_differed, has_failed, none_damaged, to_close}
-use Rattle.mesa_session_laws.specs.Pins.{IsOpenQuery, known_pin}
+use Rattle.mesa_core.specs.Pins.{IsOpenQuery, known_pin}
 use Rattle.mesa_engine.specs.mesa_invariant_spec.Turns.{AnswersDisk, SomeRose}
 use Rattle.mesa_engine.specs.mesa_history_spec.Rows.{no_rows}
 use Rattle.mesa_core.proofs.vault.Vault.close_query.Goals as goal

@@ -1,5 +1,5 @@
 use Rattle.std.proofs.Common.{sym, subst}
-use Rattle.mesa_session_laws.specs.mesa_history_spec.Run.{First, place_of}
+use Rattle.mesa_core.specs.mesa_history_spec.Run.{First, place_of}
 use Rattle.mesa_model.specs.declared.commands.Command.TheVariants as command
 use Rattle.mesa_engine.specs.mesa_history_spec.Rows.{no_rows}
 use Rattle.mesa_engine.specs.mesa_invariant_spec.Turns.{AnswersDisk, Asks, SomeRose, is_merge}

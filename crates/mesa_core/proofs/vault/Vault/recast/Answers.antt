@@ -2,11 +2,11 @@ use Rattle.std.proofs.Common.{◌≡◌, ◌⊎◌, ◌++◌, ◌∷◌, [], len
 use Rattle.std.proofs.lemmas.Result.{on_ok_weaker}
 use Rattle.std.specs.Prelude.{IfErr, OnOk}
 use Rattle.mesa_delta.specs.declared.error.FileError.TheVariants as file_error
-use Rattle.mesa_session_laws.specs.Recasts.{HasRegrouped, known_recast}
-use Rattle.mesa_session_laws.specs.Works.{WasGranted}
-use Rattle.mesa_session_laws.specs.mesa_publishing.Recasts.{stock_of_recast}
-use Rattle.mesa_session_laws.specs.mesa_history_spec.Machine.{still_checked}
-use Rattle.mesa_session_laws.specs.mesa_history_spec.Run.{Renewed}
+use Rattle.mesa_core.specs.Recasts.{HasRegrouped, known_recast}
+use Rattle.mesa_core.specs.Works.{WasGranted}
+use Rattle.mesa_core.specs.mesa_publishing.Recasts.{stock_of_recast}
+use Rattle.mesa_core.specs.mesa_history_spec.Machine.{still_checked}
+use Rattle.mesa_core.specs.mesa_history_spec.Run.{Renewed}
 use Rattle.mesa_model.specs.declared.commands.Command.TheVariants as command
 use Rattle.mesa_model.specs.declared.entries.Kind.TheVariants as kind
 use Rattle.mesa_recast_turns.specs.mesa_work_turns.Swept.{ClaimHolds, HasStood, IsSwept}

@@ -1,7 +1,7 @@
 use Rattle.std.proofs.Common.{◌≡◌, ◌<◌, inl, sym, ap, ◌∙◌, subst, true, Ok, Err}
-use Rattle.mesa_session_laws.specs.Recasts.{known_recast}
-use Rattle.mesa_session_laws.specs.Works.{WasGranted}
-use Rattle.mesa_session_laws.specs.mesa_publishing.Grown.{HasBecome}
+use Rattle.mesa_core.specs.Recasts.{known_recast}
+use Rattle.mesa_core.specs.Works.{WasGranted}
+use Rattle.mesa_core.specs.mesa_publishing.Grown.{HasBecome}
 use Rattle.mesa_engine.specs.Engine.{Standing}
 use Rattle.mesa_engine.specs.EngineState.{EngineState}
 use Rattle.mesa_engine.specs.mesa_history_spec.Rows.{no_rows}

@@ -1,0 +1,82 @@
+-- What a task was merged to.
+use Rattle.std.proofs.Common.{◌≡◌, ◌∙◌, ℕ, ◌+◌, List, [], ◌∷◌, length, map, refl, sym, ap, subst, arith, Option, None, Some}
+use Rattle.std.specs.Prelude.{Vec, option_map}
+use Rattle.std.specs.List.{AllByRecursion}
+use Rattle.std.specs.declared.alloc.Global.{Global}
+use Rattle.mesa_publishing.specs.mesa_schema.declared.rows.Row.{Row}
+use Rattle.mesa_publishing.specs.mesa_schema.declared.views.View.{View}
+use Rattle.mesa_publishing.specs.mesa_schema.Changes.{Lineage, columns_of}
+use Rattle.mesa_publishing.specs.mesa_schema.Columns.{Columns}
+use Rattle.mesa_tasks.specs.mesa_delta.declared.input.Input.{Input}
+use Rattle.mesa_publishing.specs.mesa_plans.Gathered.{unread_views}
+use Rattle.mesa_publishing.specs.mesa_copy.mesa_compact.mesa_merge.Inputs.{Known, knowns_of}
+use Rattle.mesa_core.specs.Works.{known_task}
+use Rattle.mesa_publishing.specs.mesa_copy.mesa_compact.Tasks.{KnownView, known_view}
+use Rattle.mesa_tasks.specs.Inputs.{AreInputsOf, IsMergeOf}
+use Rattle.mesa_tasks.specs.Tasks.{AreTaskViews, HasOwn, HaveMerged, IsMerged, IsTask}
+use Rattle.mesa_tasks.specs.declared.made.MadeFiles.{MadeFiles}
+use Rattle.mesa_tasks.specs.declared.merging.NewDelta.{NewDelta}
+use Rattle.mesa_tasks.specs.declared.merging.Task.{Task}
+use Rattle.mesa_tasks.specs.declared.merging.TaskView.{TaskView}
+use Rattle.mesa_core.specs.Known.{IsKnownOf, unread_from}
+use Rattle.mesa_core.proofs.Known.{cons_none, first_same, rest_same}
+
+module _ {R : Type 0} (bytes : R → Option (List ℕ)) where
+  -- ---- what is known of a grant
+
+  tables_known : (was : Lineage) (inputs : List (Input R)) → AreInputsOf bytes was inputs → AllByRecursion (λ (f : Known). f.table ≡ was) (knowns_of bytes inputs)
+  tables_known was [] are = tt
+  tables_known was (i ∷ inputs) are = (are.0.1, tables_known was inputs are.1)
+
+  views_known : (views : List View) (from : ℕ) → map (known_view bytes) (unread_views {R = R} from (length views)) ≡ unread_from from views
+  views_known [] from = refl
+  views_known (v ∷ views) from = ap (λ more. record { view = from; own = None } ∷ more) (views_known views (from + 1))
+
+  pub grant_known : (was : Lineage) (t : Task R) → IsTask bytes was t → t.views.items ≡ unread_views 0 (length was.views) → IsKnownOf was (known_task bytes t)
+  grant_known was t task unread = record { epoch = task.epoch; files = tables_known was t.inputs.items task.inputs; views = ap (map (known_view bytes)) unread ∙ views_known was.views 0 }
+
+  -- ---- a task without files
+
+  none_own : (s : Columns) (own : Option (Vec (Input R) Global)) → option_map (λ inputs. knowns_of bytes inputs.items) own ≡ None → HasOwn bytes s own
+  none_own s None is = tt
+  none_own s (Some inputs) is = absurd cc
+
+  views_task : (s : Columns) (number : ℕ) (views : List View) (ts : List (TaskView R)) → map (known_view bytes) ts ≡ unread_from number views → AreTaskViews bytes s number views ts
+  views_task s number [] [] same = tt
+  views_task s number [] (t ∷ ts) same = absurd (cons_none _ _ same)
+  views_task s number (v ∷ views) [] same = absurd (cons_none _ _ (sym same))
+  views_task s number (v ∷ views) (t ∷ ts) same =
+      let one : known_view bytes t ≡ record { view = number; own = None } = first_same _ _ _ _ same in
+      (ap (λ (k : KnownView). k.view) one, none_own _ t.inputs (ap (λ (k : KnownView). k.own) one), views_task s (number + 1) views ts (rest_same _ _ _ _ same))
+
+  module _ {M : Type 0} (made_bytes : M → Option (List ℕ)) (id_of : M → ℕ) (was l : Lineage) (t : Task R) (d : NewDelta M) (known : IsKnownOf was (known_task bytes t)) (task : IsTask bytes l t) (merged : IsMerged made_bytes id_of bytes l t d) where
+    none_merged : (rows : List Row) → rows ≡ [] → (files : Option (MadeFiles M)) → HaveMerged made_bytes id_of bytes l t rows files → HaveMerged made_bytes id_of bytes was t rows files
+    none_merged rows none None have = none
+    none_merged rows none (Some made) have = absurd (let some = have.0.rows.some in let zero = ap length none in omega (arith, some, zero))
+
+    no_parts : (s : Columns) (rows : List Row) → rows ≡ [] → IsMergeOf bytes s [] rows
+    no_parts s rows none [] told = none
+    no_parts s rows none (part ∷ parts) told = absurd told
+
+    by : (inputs : List (Input R)) → t.inputs.items ≡ inputs → IsTask bytes was t × IsMerged made_bytes id_of bytes was t d
+    by [] is =
+        let none : merged.rows ≡ [] = subst (λ xs. IsMergeOf bytes (columns_of l) xs merged.rows) is merged.merge [] tt in (
+          record {
+            epoch = known.epoch;
+            inputs = subst (AreInputsOf bytes was) (sym is) tt;
+            views = views_task (columns_of was) 0 was.views t.views.items known.views;
+          },
+          record {
+            rows = merged.rows;
+            merge = subst (λ xs. IsMergeOf bytes (columns_of was) xs merged.rows) (sym is) (no_parts (columns_of was) merged.rows none);
+            files = none_merged merged.rows none d.files merged.files;
+          },
+        )
+    by (i ∷ inputs) is =
+        let mine = subst (AreInputsOf bytes l) is task.inputs in
+        let its = subst (λ xs. AllByRecursion (λ (f : Known). f.table ≡ was) (knowns_of bytes xs)) is known.files in
+        let same : l ≡ was = sym mine.0.1 ∙ its.0 in
+        (subst (λ x. IsTask bytes x t) same task, subst (λ x. IsMerged made_bytes id_of bytes x t d) same merged)
+
+    pub merge_known : IsTask bytes was t × IsMerged made_bytes id_of bytes was t d
+    merge_known = by t.inputs.items refl

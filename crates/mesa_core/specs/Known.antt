@@ -1,0 +1,45 @@
+-- What is known of granted tasks.
+use Rattle.std.specs.Prelude.{◌≡◌, ℕ, ◌+◌, List, [], ◌∷◌, Option, None}
+use Rattle.std.specs.List.{AllByRecursion}
+use Rattle.mesa_publishing.specs.mesa_schema.Changes.{Lineage, epoch_of}
+use Rattle.mesa_publishing.specs.mesa_schema.declared.views.View.{View}
+use Rattle.mesa_publishing.specs.mesa_copy.mesa_compact.mesa_merge.Inputs.{Known}
+use Rattle.mesa_publishing.specs.mesa_copy.Copying.{IsRecastBounded}
+use Rattle.mesa_core.specs.Recasts.{KnownRecast, known_recast}
+use Rattle.mesa_publishing.specs.mesa_model.Warehouse.{Store, table_at}
+use Rattle.mesa_core.specs.Works.{KnownTask, known_task}
+use Rattle.mesa_publishing.specs.mesa_copy.mesa_compact.Tasks.{KnownView}
+use Rattle.mesa_publishing.specs.Finished.{HasRange}
+use Rattle.mesa_publishing.specs.Recasts.{HasItsRanges}
+use Rattle.mesa_tasks.specs.mesa_history_spec.Sources.{Written}
+use Rattle.mesa_tasks.specs.declared.recasting.Recast.{Recast}
+use Rattle.mesa_tasks.specs.declared.merging.Task.{Task}
+
+-- the columns and views of the table of a number
+abbrev pub lineage_in : Store → ℕ → Lineage
+lineage_in s number = (table_at s number).lineage
+
+-- Each task of which this is known has its range.
+abbrev pub AllHaveRange : {R : Type 0} → (R → Option (List ℕ)) → Lineage → KnownTask → List Written → Type 0
+AllHaveRange {R = R} read was k written = (t : Task R) → known_task read t ≡ k → HasRange read was t written
+
+-- views with no files of their own, by their numbers from one on
+abbrev pub unread_from : ℕ → List View → List KnownView
+unread_from number [] = []
+unread_from number (v ∷ views) = record { view = number; own = None } ∷ unread_from (number + 1) views
+
+-- A task is one of a table with these columns and views: each file is the table's, and no view has files of its own.
+pub record IsKnownOf (was : Lineage) (k : KnownTask) : Type 0 where
+  pub epoch : k.epoch ≡ epoch_of was
+  pub files : AllByRecursion (λ (f : Known). f.table ≡ was) k.files
+  pub views : k.views ≡ unread_from 0 was.views
+
+-- ---- recasts
+
+-- Each recast of which this is known has its ranges,
+abbrev pub AllHaveRanges : {R : Type 0} → (R → Option (List ℕ)) → KnownRecast → List Written → Type 0
+AllHaveRanges {R = R} read k written = (t : Recast R) → known_recast read t ≡ k → HasItsRanges read t written
+
+-- and no sum over one of them leaves its type.
+abbrev pub AllAreBounded : {R : Type 0} → (R → Option (List ℕ)) → KnownRecast → Type 0
+AllAreBounded {R = R} read k = (t : Recast R) → known_recast read t ≡ k → IsRecastBounded read t

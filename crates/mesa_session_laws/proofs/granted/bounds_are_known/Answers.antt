@@ -1,5 +1,0 @@
-use Rattle.mesa_session_laws.proofs.Bounded.{task_bounded}
-use Rattle.mesa_session_laws.proofs.granted.bounds_are_known.Goals as goal
-
-pub returns : goal.returns
-returns g c was l known task bounded = task_bounded g.R.FileReader.bytes was l c.args.task.now known task bounded

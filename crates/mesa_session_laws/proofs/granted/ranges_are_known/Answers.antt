@@ -1,5 +1,0 @@
-use Rattle.mesa_session_laws.proofs.Same.{range_known}
-use Rattle.mesa_session_laws.proofs.granted.ranges_are_known.Goals as goal
-
-pub returns : goal.returns
-returns g c was written has = range_known g.R.FileReader.bytes was c.args.task.now written has

@@ -1,5 +1,0 @@
-use Rattle.mesa_session_laws.proofs.Later.{range_later}
-use Rattle.mesa_session_laws.proofs.granted.ranges_go_on.Goals as goal
-
-pub returns : goal.returns
-returns g c was script start origin past later below begun has = range_later g.R.FileReader.bytes was c.args.task.now script start origin past later below begun has
