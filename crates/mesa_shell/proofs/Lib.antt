@@ -1,3 +1,5 @@
+pub use Rattle.mesa_exit_spec.proofs as mesa_exit_spec
+pub mod Printing
 pub mod Beginning
 pub mod Digests
 pub mod Forms

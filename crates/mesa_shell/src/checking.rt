@@ -1,17 +1,17 @@
 // Checks of a store.
 ghost use Rattle.std.specs.Prelude.{◌≡◌, ◌≢◌, Err, IfErr, IfOk};
 ghost use Rattle.mesa_disk.specs.Story.{Unmoved};
-ghost use Rattle.mesa_exit.specs.mesa_exit_spec.Ending as spec;
-ghost use Rattle.mesa_exit.specs.mesa_exit_spec.mesa_recover.Opening.{HasReason, ReadsAs};
-ghost use Rattle.mesa_exit.specs.mesa_exit_spec.mesa_recover.declared.error.OpenError.TheVariants as open_error;
-ghost use Rattle.mesa_exit.specs.mesa_exit_spec.mesa_check.Verdict.{IsFirstFault, fault_told};
-ghost use Rattle.mesa_exit.specs.mesa_exit_spec.Ports.{ports};
-ghost use Rattle.mesa_exit.specs.mesa_exit_spec.Unopened.{HasSameCounts};
+ghost use Rattle.mesa_shell.specs.mesa_exit_spec.Ending as spec;
+ghost use Rattle.mesa_shell.specs.mesa_exit_spec.mesa_recover.Opening.{HasReason, ReadsAs};
+ghost use Rattle.mesa_shell.specs.mesa_exit_spec.mesa_recover.declared.error.OpenError.TheVariants as open_error;
+ghost use Rattle.mesa_shell.specs.mesa_exit_spec.mesa_check.Verdict.{IsFirstFault, fault_told};
+ghost use Rattle.mesa_shell.specs.mesa_exit_spec.Ports.{ports};
+ghost use Rattle.mesa_shell.specs.mesa_exit_spec.Unopened.{HasSameCounts};
 ghost use Rattle.mesa_check.specs.mesa_catalog.mesa_image_spec.Catalog.{Catalog};
 
 use mesa_check::{CheckError, Verdict, check};
 use mesa_disk::{Bench, Disk, Made};
-use mesa_exit::{Devices, Done, ended_checked, ended_opening};
+use crate::{Devices, Done, ended_checked, ended_opening};
 use mesa_io::Sink;
 use mesa_recover::{OpenError, Opened, read};
 use std::alloc::Global;

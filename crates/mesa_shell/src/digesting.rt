@@ -1,11 +1,11 @@
 // Digests of a relation.
-ghost use Rattle.mesa_exit.specs.mesa_exit_spec.Ending as spec;
-ghost use Rattle.mesa_exit.specs.mesa_exit_spec.Ports.{ports};
+ghost use Rattle.mesa_shell.specs.mesa_exit_spec.Ending as spec;
+ghost use Rattle.mesa_shell.specs.mesa_exit_spec.Ports.{ports};
 
 use crate::checking::disk_of;
 use mesa_delta::FileError;
 use mesa_disk::{Bench, Disk, Made};
-use mesa_exit::{Devices, Done, ended, ended_digest, ended_opening, statuses};
+use crate::{Devices, Done, ended, ended_digest, ended_opening, statuses};
 use mesa_io::Sink;
 use mesa_recover::{OpenError, read};
 use mesa_store_digest::{LookError, look};

@@ -1,9 +1,9 @@
 // Runs of the script that a seed gives.
 ghost use Rattle.std.specs.Prelude.{◌≡◌, ◌≤◌, ◌++◌, ℕ, List, Ok, false, true, length, if◌then◌else◌};
-ghost use Rattle.mesa_exit.specs.mesa_exit_spec.Ending as spec;
-ghost use Rattle.mesa_exit.specs.mesa_exit_spec.Exits.{gen_line, memory_line, memory_status};
-ghost use Rattle.mesa_exit.specs.mesa_exit_spec.Ports.{ports};
-ghost use Rattle.mesa_exit.specs.mesa_exit_spec.Scripts.{IsSmall};
+ghost use Rattle.mesa_shell.specs.mesa_exit_spec.Ending as spec;
+ghost use Rattle.mesa_shell.specs.mesa_exit_spec.Exits.{gen_line, memory_line, memory_status};
+ghost use Rattle.mesa_shell.specs.mesa_exit_spec.Ports.{ports};
+ghost use Rattle.mesa_shell.specs.mesa_exit_spec.Scripts.{IsSmall};
 ghost use Rattle.mesa_generate.specs.Excerpt.{CutsOut};
 ghost use Rattle.mesa_print.specs.Printed.{Printed};
 ghost use Rattle.mesa_script.specs.Generated.{generated as generated_by};
@@ -12,7 +12,7 @@ ghost use Rattle.mesa_script.specs.Script.{script_of};
 use crate::opening::open;
 use crate::running::{Left, run_begun};
 use mesa_disk::{Bench, Disk, Made};
-use mesa_exit::{
+use crate::{
     Devices, Done, ended_opening, lacks_memory, run_status, scripts_are_small, statuses,
 };
 use mesa_generate::{excerpt, generate};

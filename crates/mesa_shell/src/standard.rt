@@ -3,7 +3,7 @@ ghost use Rattle.std.specs.Prelude.{◌≡◌, IfOk, length};
 
 use crate::shell::mesa;
 use mesa_dir::{DirBench, DirDisk, Host};
-use mesa_exit::{Done, statuses};
+use crate::{Done, statuses};
 use mesa_io::{StdSink, StdSource};
 use mesa_session::OpenGate;
 use std::alloc::{AllocError, Global};

@@ -1,0 +1,10 @@
+use Rattle.mesa_print.proofs.Printing.{printed_then}
+use Rattle.mesa_exit_spec.specs.Ports.{ports}
+use Rattle.mesa_shell.proofs.Printing.{printed_ends}
+use Rattle.mesa_shell.proofs.digest_lines.ended_digest.Goals as goal
+
+pub returns-clause-ended : goal.returns-clause-ended
+returns-clause-ended g c =
+    let w = c.without_run.ensures in
+    let p = printed_then _ _ _ _ _ _ _ (printed_then _ _ _ _ _ _ _ c.put_relation.ensures c.put_pair.ensures) c.put.ensures in
+    printed_ends (ports g.K.Sink.held g.K.Sink.faults g.D.Disk.story g.M.Made.bytes g.B.Bench.faults) c.args.given c.without_run.result _ _ _ p w.status w.out w.benches w.history
