@@ -28,8 +28,8 @@ use Rattle.mesa_session.specs.mesa_engine.Beginning.{IsBegun}
 use Rattle.mesa_session.specs.mesa_engine.Engine.{most_turns, starts_of}
 use Rattle.mesa_check.specs.mesa_catalog.declared.begun.Begun.{Begun}
 use Rattle.mesa_session.specs.mesa_core.Passes.{turns_of}
-use Rattle.mesa_shell.specs.mesa_exit_spec.Scripts.{IsSmall, commands_in}
-use Rattle.mesa_shell.specs.mesa_exit_spec.Start.{start_of}
+use Rattle.mesa_shell.specs.Scripts.{IsSmall, commands_in}
+use Rattle.mesa_shell.specs.StoreStart.{start_of}
 use Rattle.mesa_shell.specs.Begun.{IsReadyToRun, IsSoundBegun}
 use Rattle.mesa_shell.specs.Start.{origin_of}
 

@@ -9,16 +9,16 @@ use Rattle.mesa_store_digest.specs.declared.error.LookError.{LookError}
 use Rattle.mesa_store_digest.specs.declared.error.LookError.TheVariants as look
 use Rattle.mesa_store_digest.specs.Looked.{IsDigestOf}
 use Rattle.mesa_check.specs.mesa_catalog.mesa_image_spec.Catalog.{Catalog}
-use Rattle.mesa_shell.specs.mesa_exit_spec.mesa_recover.declared.error.OpenError.{OpenError}
-use Rattle.mesa_shell.specs.mesa_exit_spec.mesa_recover.declared.error.OpenError.TheVariants as open_error
-use Rattle.mesa_shell.specs.mesa_exit_spec.mesa_recover.Opening.{HasReason, IsRead}
-use Rattle.mesa_shell.specs.mesa_exit_spec.Ports.{Ports}
-use Rattle.mesa_shell.specs.mesa_exit_spec.Exits.{answered_status, digest_line, no_table_line, no_version_line, open_line, open_status, refused_status}
-use Rattle.mesa_shell.specs.mesa_exit_spec.Ending.{Ended, EndsDigest, EndsNamed}
-use Rattle.mesa_shell.specs.mesa_exit_spec.Unopened.{HasSameCounts, IsUnread}
-use Rattle.mesa_shell.specs.mesa_exit_spec.declared.done.Devices.{Devices}
-use Rattle.mesa_shell.specs.mesa_exit_spec.declared.done.Done.{Done}
-use Rattle.mesa_shell.proofs.mesa_exit_spec.Unmoved.{read_before, sound_after}
+use Rattle.mesa_shell.specs.mesa_recover.declared.error.OpenError.{OpenError}
+use Rattle.mesa_shell.specs.mesa_recover.declared.error.OpenError.TheVariants as open_error
+use Rattle.mesa_shell.specs.mesa_recover.Opening.{HasReason, IsRead}
+use Rattle.mesa_shell.specs.Ports.{Ports}
+use Rattle.mesa_shell.specs.Exits.{answered_status, digest_line, no_table_line, no_version_line, open_line, open_status, refused_status}
+use Rattle.mesa_shell.specs.Ending.{Ended, EndsDigest, EndsNamed}
+use Rattle.mesa_shell.specs.Unopened.{HasSameCounts, IsUnread}
+use Rattle.mesa_shell.specs.declared.done.Devices.{Devices}
+use Rattle.mesa_shell.specs.declared.done.Done.{Done}
+use Rattle.mesa_shell.proofs.Unmoved.{read_before, sound_after}
 use Rattle.mesa_shell.proofs.Verdicts.{counts_there, fault_there, nothing_moved}
 
 module _ {K D M B : Type 0} (ports : Ports K D M B) (g : Devices K D B) (done : Done K D B) (name : List ℕ) where

@@ -5,16 +5,16 @@ use Rattle.mesa_parse.specs.declared.forms.Form.TheVariants as form
 use Rattle.mesa_model.specs.declared.commands.Script.{Script}
 use Rattle.mesa_store_digest.specs.mesa_history_spec.Rows.{Rows}
 use Rattle.mesa_check.specs.mesa_catalog.mesa_image_spec.Catalog.{Catalog}
-use Rattle.mesa_shell.specs.mesa_exit_spec.mesa_recover.Opening.{IsSoundStart}
-use Rattle.mesa_shell.specs.mesa_exit_spec.Ports.{Ports}
-use Rattle.mesa_shell.specs.mesa_exit_spec.Completing.{AsksFor, Completes, Decides, HasRoomToRun, IsUndamaged, NoneRose, NothingFailed}
-use Rattle.mesa_shell.specs.mesa_exit_spec.Ending.{Ends, EndsForm}
-use Rattle.mesa_shell.specs.mesa_exit_spec.Statuses.{Tells}
-use Rattle.mesa_shell.specs.mesa_exit_spec.declared.done.Devices.{Devices}
-use Rattle.mesa_shell.specs.mesa_exit_spec.declared.done.Done.{Done}
-use Rattle.mesa_shell.proofs.mesa_exit_spec.Checked.{decides, looks}
-use Rattle.mesa_shell.proofs.mesa_exit_spec.Completing.{completes}
-use Rattle.mesa_shell.proofs.mesa_exit_spec.Telling.{all_tells}
+use Rattle.mesa_shell.specs.mesa_recover.Opening.{IsSoundStart}
+use Rattle.mesa_shell.specs.Ports.{Ports}
+use Rattle.mesa_shell.specs.Completing.{AsksFor, Completes, Decides, HasRoomToRun, IsUndamaged, NoneRose, NothingFailed}
+use Rattle.mesa_shell.specs.Ending.{Ends, EndsForm}
+use Rattle.mesa_shell.specs.Statuses.{Tells}
+use Rattle.mesa_shell.specs.declared.done.Devices.{Devices}
+use Rattle.mesa_shell.specs.declared.done.Done.{Done}
+use Rattle.mesa_shell.proofs.Checked.{decides, looks}
+use Rattle.mesa_shell.proofs.Completing.{completes}
+use Rattle.mesa_shell.proofs.Telling.{all_tells}
 
 module _ {K D M B : Type 0} (ports : Ports K D M B) (given : Devices K D B) (done : Done K D B) (asked : Option Form) (input : Option (List ℕ)) (before now : ℕ) where
   -- how it ends, what its status tells, and what it comes to where nothing failed

@@ -9,11 +9,11 @@ use Rattle.mesa_store_digest.specs.mesa_history_spec.Rows.{Rows}
 use Rattle.mesa_check.specs.mesa_catalog.declared.begun.Begun.{Begun}
 use Rattle.mesa_engine.specs.mesa_invariant_spec.Invariant.{AllFound}
 use Rattle.mesa_engine.specs.Vault.{IsRead}
-use Rattle.mesa_shell.specs.mesa_exit_spec.Counting.{HasBenchCounts}
-use Rattle.mesa_shell.specs.mesa_exit_spec.Ports.{Ports}
-use Rattle.mesa_shell.specs.mesa_exit_spec.Run.{RanAnyhow, RanSoundly, outset_from}
-use Rattle.mesa_shell.specs.mesa_exit_spec.Start.{start_of}
-use Rattle.mesa_shell.specs.mesa_exit_spec.declared.done.Devices.{Devices}
+use Rattle.mesa_shell.specs.Counting.{HasBenchCounts}
+use Rattle.mesa_shell.specs.Ports.{Ports}
+use Rattle.mesa_shell.specs.Run.{RanAnyhow, RanSoundly, outset_from}
+use Rattle.mesa_shell.specs.StoreStart.{start_of}
+use Rattle.mesa_shell.specs.declared.done.Devices.{Devices}
 use Rattle.mesa_shell.specs.Begun.{IsSoundBegun}
 use Rattle.mesa_shell.specs.Ran.{HasNotRun, RanFrom}
 use Rattle.mesa_shell.specs.declared.running.Left.{Left}

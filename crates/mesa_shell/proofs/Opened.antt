@@ -14,16 +14,16 @@ use Rattle.mesa_check.specs.mesa_catalog.mesa_image_spec.Countable.{AreCounted}
 use Rattle.mesa_check.specs.mesa_catalog.mesa_image_spec.Ids.{HasOwnIds, named}
 use Rattle.mesa_check.specs.mesa_catalog.mesa_image_spec.Recordable.{AreRecordable}
 use Rattle.mesa_check.proofs.mesa_catalog.mesa_image_spec.Wholes.{catalog_whole}
-use Rattle.mesa_shell.specs.mesa_exit_spec.mesa_recover.declared.error.OpenError.{OpenError}
-use Rattle.mesa_shell.specs.mesa_exit_spec.mesa_recover.declared.error.OpenError.TheVariants as open_error
-use Rattle.mesa_shell.specs.mesa_exit_spec.mesa_recover.Opening.{HasReason, IsHeldAs, IsSoundStart, Keeps, first_id, most_runs, run_record}
-use Rattle.mesa_shell.proofs.mesa_exit_spec.mesa_recover.Beginnings.{runs_few}
+use Rattle.mesa_shell.specs.mesa_recover.declared.error.OpenError.{OpenError}
+use Rattle.mesa_shell.specs.mesa_recover.declared.error.OpenError.TheVariants as open_error
+use Rattle.mesa_shell.specs.mesa_recover.Opening.{HasReason, IsHeldAs, IsSoundStart, Keeps, first_id, most_runs, run_record}
+use Rattle.mesa_shell.proofs.mesa_recover.Beginnings.{runs_few}
 use Rattle.mesa_engine.specs.Vault.{IsRead}
 use Rattle.mesa_check.specs.mesa_catalog.declared.begun.Begun.{Begun}
 use Rattle.mesa_recover.specs.declared.opened.Opened.{Opened}
 use Rattle.mesa_recover.specs.Opened.{IsOpened}
-use Rattle.mesa_shell.specs.mesa_exit_spec.Unopened.{HasSameCounts, IsUnopened}
-use Rattle.mesa_shell.proofs.mesa_exit_spec.Unmoved.{keeps_before, keeps_unmoved, read_before, reason_before, sound_after}
+use Rattle.mesa_shell.specs.Unopened.{HasSameCounts, IsUnopened}
+use Rattle.mesa_shell.proofs.Unmoved.{keeps_before, keeps_unmoved, read_before, reason_before, sound_after}
 use Rattle.mesa_shell.specs.Begun.{HasBegun}
 
 run_shaped : (c : Catalog) (number : ℕ) → IsCatalog c → IsCatalog (applied c (run_record number))

@@ -16,8 +16,8 @@ use Rattle.mesa_store_digest.proofs.mesa_history_spec.Alike.{go_alike, legal_ali
 use Rattle.mesa_session.specs.mesa_core.Answers.{AreTimely, HasCounted, HaveCounted}
 use Rattle.mesa_engine.specs.mesa_invariant_spec.Printing.{IsPrintedButRows}
 use Rattle.mesa_engine.specs.mesa_invariant_spec.Invariant.{HasCounted as HasCountedFaults}
-use Rattle.mesa_shell.specs.mesa_exit_spec.Counting.{HasBenchCounts}
-use Rattle.mesa_shell.specs.mesa_exit_spec.Run.{RanAnyhow}
+use Rattle.mesa_shell.specs.Counting.{HasBenchCounts}
+use Rattle.mesa_shell.specs.Run.{RanAnyhow}
 use Rattle.mesa_engine.specs.Vault.{IsRead}
 use Rattle.mesa_session.specs.mesa_engine.Ending.{ReadsState}
 

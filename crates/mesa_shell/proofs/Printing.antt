@@ -4,13 +4,13 @@ use Rattle.std.specs.Prelude.{if◌then◌else◌}
 use Rattle.std.specs.Io.KnownBytes.{Appends}
 use Rattle.std.proofs.KnownBytes.{Appends-nil}
 use Rattle.mesa_disk.specs.mesa_io.Causes.{Rose}
-use Rattle.mesa_exit_spec.specs.mesa_filter.Hex.{hex_digit, hex_of}
+use Rattle.mesa_shell.specs.mesa_filter.Hex.{hex_digit, hex_of}
 use Rattle.mesa_print.specs.declared.printer.Printer.{Printer}
 use Rattle.mesa_print.specs.Printed.{Printed}
-use Rattle.mesa_exit_spec.specs.Ports.{Ports}
-use Rattle.mesa_exit_spec.specs.Ending.{Ended, Prints}
-use Rattle.mesa_exit_spec.specs.declared.done.Devices.{Devices}
-use Rattle.mesa_exit_spec.specs.declared.done.Done.{Done}
+use Rattle.mesa_shell.specs.Ports.{Ports}
+use Rattle.mesa_shell.specs.Ending.{Ended, Prints}
+use Rattle.mesa_shell.specs.declared.done.Devices.{Devices}
+use Rattle.mesa_shell.specs.declared.done.Done.{Done}
 
 -- bytes in hexadecimal stand one piece behind the other
 pub hex_append : (a b : List ℕ) → hex_of (a ++ b) ≡ hex_of a ++ hex_of b

@@ -17,21 +17,21 @@ use Rattle.mesa_check.specs.mesa_catalog.mesa_image_spec.Catalog.{Catalog}
 use Rattle.mesa_check.specs.mesa_catalog.mesa_image_spec.Contents.{kept_of}
 use Rattle.mesa_check.specs.mesa_catalog.mesa_image_spec.Sound.{StandsFor}
 use Rattle.mesa_check.proofs.mesa_catalog.mesa_image_spec.Wholes.{catalog_whole}
-use Rattle.mesa_shell.specs.mesa_exit_spec.mesa_recover.Opening.{IsSoundStart, Keeps}
+use Rattle.mesa_shell.specs.mesa_recover.Opening.{IsSoundStart, Keeps}
 use Rattle.mesa_check.specs.mesa_catalog.declared.begun.Begun.{Begun}
-use Rattle.mesa_shell.specs.mesa_exit_spec.Counting.{HasBenchCounts}
-use Rattle.mesa_shell.specs.mesa_exit_spec.Ports.{Ports}
-use Rattle.mesa_shell.specs.mesa_exit_spec.Run.{Ran, RanAnyhow, RanSoundly}
-use Rattle.mesa_shell.specs.mesa_exit_spec.Start.{AreTold, IsSoundStore, start_of}
-use Rattle.mesa_shell.specs.mesa_exit_spec.Unopened.{StaysSound}
-use Rattle.mesa_shell.specs.mesa_exit_spec.Ending.{EndsScript}
-use Rattle.mesa_shell.specs.mesa_exit_spec.declared.done.Devices.{Devices}
-use Rattle.mesa_shell.specs.mesa_exit_spec.declared.done.Done.{Done}
-use Rattle.mesa_shell.proofs.mesa_exit_spec.Alike.{kept_begun, start_begun}
-use Rattle.mesa_shell.proofs.mesa_exit_spec.Alone.{alone_appends}
-use Rattle.mesa_shell.proofs.mesa_exit_spec.Ends.{run_ended}
-use Rattle.mesa_shell.proofs.mesa_exit_spec.Readable.{reads_same}
-use Rattle.mesa_shell.proofs.mesa_exit_spec.WellFormed.{well_formed_start}
+use Rattle.mesa_shell.specs.Counting.{HasBenchCounts}
+use Rattle.mesa_shell.specs.Ports.{Ports}
+use Rattle.mesa_shell.specs.Run.{Ran, RanAnyhow, RanSoundly}
+use Rattle.mesa_shell.specs.StoreStart.{AreTold, IsSoundStore, start_of}
+use Rattle.mesa_shell.specs.Unopened.{StaysSound}
+use Rattle.mesa_shell.specs.Ending.{EndsScript}
+use Rattle.mesa_shell.specs.declared.done.Devices.{Devices}
+use Rattle.mesa_shell.specs.declared.done.Done.{Done}
+use Rattle.mesa_shell.proofs.Alike.{kept_begun, start_begun}
+use Rattle.mesa_shell.proofs.Alone.{alone_appends}
+use Rattle.mesa_shell.proofs.Ends.{run_ended}
+use Rattle.mesa_shell.proofs.Readable.{reads_same}
+use Rattle.mesa_shell.proofs.WellFormed.{well_formed_start}
 use Rattle.mesa_shell.specs.Begun.{HasBegun, IsSoundBegun}
 use Rattle.mesa_shell.specs.Ran.{HasNotRun, RanFrom}
 use Rattle.mesa_shell.specs.declared.running.Left.{Left}

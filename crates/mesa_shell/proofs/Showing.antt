@@ -2,7 +2,7 @@
 use Rattle.std.proofs.Common.{◌≡◌, ℕ, ◌+◌, ◌++◌, List, [], Bool, true, false, refl, sym, ap, subst, inl, inr, Option, Some, Ok}
 use Rattle.std.specs.Prelude.{if◌then◌else◌}
 use Rattle.std.specs.Io.KnownBytes.{Appends}
-use Rattle.mesa_shell.specs.mesa_exit_spec.mesa_history_laws.Alone.{output_alone}
+use Rattle.mesa_shell.specs.mesa_history_laws.Alone.{output_alone}
 use Rattle.mesa_disk.specs.Story.{Story}
 use Rattle.mesa_model.specs.declared.commands.Script.{Script}
 use Rattle.mesa_check.specs.mesa_history_spec.Refused.{some_refused}
@@ -14,14 +14,14 @@ use Rattle.mesa_engine.specs.mesa_invariant_spec.Printing.{HasAll, HasAllButRows
 use Rattle.mesa_engine.specs.mesa_invariant_spec.mesa_history_spec.Output.{IsOutput}
 use Rattle.mesa_check.specs.mesa_catalog.mesa_image_spec.Catalog.{Catalog}
 use Rattle.mesa_generate.specs.Excerpt.{CutsOut, HasPlainNames}
-use Rattle.mesa_shell.specs.mesa_exit_spec.Ports.{ports}
-use Rattle.mesa_shell.specs.mesa_exit_spec.Exits.{gen_line, memory_line, memory_status}
-use Rattle.mesa_shell.specs.mesa_exit_spec.Run.{Ran, RanAnyhow, RanSoundly}
-use Rattle.mesa_shell.specs.mesa_exit_spec.Start.{start_of}
-use Rattle.mesa_shell.specs.mesa_exit_spec.Ending.{EndsShown, HasShown, Prints, RanInMemory, Shows}
-use Rattle.mesa_shell.specs.mesa_exit_spec.declared.done.Devices.{Devices}
-use Rattle.mesa_shell.specs.mesa_exit_spec.declared.done.Done.{Done}
-use Rattle.mesa_shell.proofs.mesa_exit_spec.Named.{start_plain}
+use Rattle.mesa_shell.specs.Ports.{ports}
+use Rattle.mesa_shell.specs.Exits.{gen_line, memory_line, memory_status}
+use Rattle.mesa_shell.specs.Run.{Ran, RanAnyhow, RanSoundly}
+use Rattle.mesa_shell.specs.StoreStart.{start_of}
+use Rattle.mesa_shell.specs.Ending.{EndsShown, HasShown, Prints, RanInMemory, Shows}
+use Rattle.mesa_shell.specs.declared.done.Devices.{Devices}
+use Rattle.mesa_shell.specs.declared.done.Done.{Done}
+use Rattle.mesa_shell.proofs.Named.{start_plain}
 use Rattle.mesa_shell.specs.declared.running.Left.{Left}
 
 module _ {K S D M B : Type 0} (held : K → Option (List ℕ)) (faults : K → ℕ) (kept : S → Option (List ℕ)) (kept_faults : S → ℕ) (story : D → Story) (bytes : M → Option (List ℕ)) (bench_faults : B → ℕ)

@@ -5,19 +5,19 @@ use Rattle.mesa_disk.specs.mesa_io.Causes.{last, Rose}
 use Rattle.mesa_disk.specs.Story.{Story, Unmoved}
 use Rattle.mesa_disk.specs.declared.area.Area.{Area}
 use Rattle.mesa_check.specs.mesa_catalog.mesa_image_spec.Catalog.{Catalog}
-use Rattle.mesa_shell.specs.mesa_exit_spec.mesa_check.Faults.{Fault}
-use Rattle.mesa_shell.specs.mesa_exit_spec.mesa_check.Verdict.{IsFirstFault}
-use Rattle.mesa_shell.specs.mesa_exit_spec.mesa_recover.declared.error.OpenError.{OpenError}
-use Rattle.mesa_shell.specs.mesa_exit_spec.mesa_recover.declared.error.OpenError.TheVariants as open_error
-use Rattle.mesa_shell.specs.mesa_exit_spec.mesa_recover.Opening.{HasReason, IsRead, ReadsAs}
-use Rattle.mesa_shell.proofs.mesa_exit_spec.mesa_recover.Firsts.{unmoved_twice}
-use Rattle.mesa_shell.specs.mesa_exit_spec.Ports.{Ports}
-use Rattle.mesa_shell.specs.mesa_exit_spec.Exits.{open_line, open_status, verdict_line, verdict_status}
-use Rattle.mesa_shell.specs.mesa_exit_spec.Ending.{Ended, EndsCheck}
-use Rattle.mesa_shell.specs.mesa_exit_spec.Unopened.{HasSameCounts, IsUnread}
-use Rattle.mesa_shell.specs.mesa_exit_spec.declared.done.Devices.{Devices}
-use Rattle.mesa_shell.specs.mesa_exit_spec.declared.done.Done.{Done}
-use Rattle.mesa_shell.proofs.mesa_exit_spec.Unmoved.{read_before, reason_before}
+use Rattle.mesa_shell.specs.mesa_check.Faults.{Fault}
+use Rattle.mesa_shell.specs.mesa_check.Verdict.{IsFirstFault}
+use Rattle.mesa_shell.specs.mesa_recover.declared.error.OpenError.{OpenError}
+use Rattle.mesa_shell.specs.mesa_recover.declared.error.OpenError.TheVariants as open_error
+use Rattle.mesa_shell.specs.mesa_recover.Opening.{HasReason, IsRead, ReadsAs}
+use Rattle.mesa_shell.proofs.mesa_recover.Firsts.{unmoved_twice}
+use Rattle.mesa_shell.specs.Ports.{Ports}
+use Rattle.mesa_shell.specs.Exits.{open_line, open_status, verdict_line, verdict_status}
+use Rattle.mesa_shell.specs.Ending.{Ended, EndsCheck}
+use Rattle.mesa_shell.specs.Unopened.{HasSameCounts, IsUnread}
+use Rattle.mesa_shell.specs.declared.done.Devices.{Devices}
+use Rattle.mesa_shell.specs.declared.done.Done.{Done}
+use Rattle.mesa_shell.proofs.Unmoved.{read_before, reason_before}
 
 -- one more than both counts had: one of them rose, or stands at its last value
 pub one_rose : (f r g s : ℕ) → f ≤ g → r ≤ s → (g < last → s < last → f + r + 1 ≤ g + s) → Rose f g ⊎ Rose r s

@@ -13,10 +13,10 @@ use Rattle.mesa_check.specs.mesa_catalog.mesa_image_spec.Sound.{StandsFor}
 use Rattle.mesa_check.specs.mesa_catalog.mesa_image_spec.Countable.{AreCounted}
 use Rattle.mesa_check.specs.mesa_catalog.mesa_image_spec.Ids.{HasOwnIds, named}
 use Rattle.mesa_check.specs.mesa_catalog.mesa_image_spec.Recordable.{AreRecordable}
-use Rattle.mesa_shell.specs.mesa_exit_spec.mesa_recover.Opening.{IsHeldAs, IsSoundStart, Keeps, ReadsAs, first_id, most_runs, run_record}
+use Rattle.mesa_shell.specs.mesa_recover.Opening.{IsHeldAs, IsSoundStart, Keeps, ReadsAs, first_id, most_runs, run_record}
 use Rattle.mesa_engine.specs.Vault.{IsRead}
 use Rattle.mesa_check.specs.mesa_catalog.declared.begun.Begun.{Begun}
-use Rattle.mesa_shell.specs.mesa_exit_spec.Start.{AreTold}
+use Rattle.mesa_shell.specs.StoreStart.{AreTold}
 
 -- What holds on any store on which a run has begun: its catalogue is that of the run, and has the shape and the ids of one, and what its files are to keep; the area in which the journal goes on has room for a body behind its end; the files that are there are those that the catalogue names, and none has an id that the run may give; and the clock isn't before the run's start.
 pub record IsReadyToRun {D : Type 0} (story : D → Story) (b : Begun D) : Type 0 where

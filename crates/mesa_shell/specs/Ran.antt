@@ -6,14 +6,14 @@ use Rattle.mesa_check.specs.mesa_history_spec.Refused.{some_refused}
 use Rattle.mesa_check.specs.mesa_history_spec.Run.{begins}
 use Rattle.mesa_store_digest.specs.mesa_history_spec.Rows.{Rows}
 use Rattle.mesa_check.specs.mesa_catalog.declared.begun.Begun.{Begun}
-use Rattle.mesa_shell.specs.mesa_exit_spec.Counting.{HasBenchCounts}
-use Rattle.mesa_shell.specs.mesa_exit_spec.Ports.{Ports}
+use Rattle.mesa_shell.specs.Counting.{HasBenchCounts}
+use Rattle.mesa_shell.specs.Ports.{Ports}
 use Rattle.mesa_engine.specs.mesa_invariant_spec.Invariant.{AllFound}
 use Rattle.mesa_engine.specs.Vault.{IsRead}
-use Rattle.mesa_shell.specs.mesa_exit_spec.Run.{RanAnyhow, RanSoundly, outset_from}
-use Rattle.mesa_shell.specs.mesa_exit_spec.Start.{start_of}
+use Rattle.mesa_shell.specs.Run.{RanAnyhow, RanSoundly, outset_from}
+use Rattle.mesa_shell.specs.StoreStart.{start_of}
 use Rattle.mesa_shell.specs.Begun.{IsSoundBegun}
-use Rattle.mesa_shell.specs.mesa_exit_spec.declared.done.Devices.{Devices}
+use Rattle.mesa_shell.specs.declared.done.Devices.{Devices}
 use Rattle.mesa_shell.specs.declared.running.Left.{Left}
 
 -- A run of a script from the catalogue of a store that was begun: what holds on any store whatever rows its files have, what holds on a sound one, whether the sink failed, and that as many benches come back as were given.

@@ -1,16 +1,15 @@
 // What a call tells that printed the digests of a relation.
 ghost use Rattle.std.specs.Prelude.{◌≡◌, ◌++◌, codes, decimal};
-ghost use Rattle.mesa_exit_spec.specs.Ending as spec;
-ghost use Rattle.mesa_exit_spec.specs.Exits.{answered_status, digest_line, digests_text};
-ghost use Rattle.mesa_exit_spec.specs.Ports.{ports};
+ghost use Rattle.mesa_shell.specs.Ending as spec;
+ghost use Rattle.mesa_shell.specs.Exits.{answered_status, digest_line, digests_text};
+ghost use Rattle.mesa_shell.specs.Ports.{ports};
 ghost use Rattle.mesa_print.specs.Printed.{Printed};
 
 use crate::ending::without_run;
 use crate::lines::put_hex;
-use crate::statuses;
+use crate::{Devices, Done, statuses};
 use mesa_digest::DigestPair;
 use mesa_disk::{Bench, Disk, Made};
-use mesa_exit_spec::{Devices, Done};
 use mesa_io::Sink;
 use mesa_print::Printer;
 use std::alloc::Global;

@@ -1,6 +1,6 @@
 // Digests of a relation.
-ghost use Rattle.mesa_shell.specs.mesa_exit_spec.Ending as spec;
-ghost use Rattle.mesa_shell.specs.mesa_exit_spec.Ports.{ports};
+ghost use Rattle.mesa_shell.specs.Ending as spec;
+ghost use Rattle.mesa_shell.specs.Ports.{ports};
 
 use crate::checking::disk_of;
 use mesa_delta::FileError;

@@ -1,16 +1,15 @@
 // How a call ends that runs nothing: with a line, and the status of its cause or of its verdict.
 ghost use Rattle.std.specs.Prelude.{◌≡◌, [], codes, if◌then◌else◌};
-ghost use Rattle.mesa_exit_spec.specs.Ending as spec;
-ghost use Rattle.mesa_exit_spec.specs.Exits.{open_line, open_status, script_line, script_status, verdict_line, verdict_status};
-ghost use Rattle.mesa_exit_spec.specs.Ports.{ports};
+ghost use Rattle.mesa_shell.specs.Ending as spec;
+ghost use Rattle.mesa_shell.specs.Exits.{open_line, open_status, script_line, script_status, verdict_line, verdict_status};
+ghost use Rattle.mesa_shell.specs.Ports.{ports};
 ghost use Rattle.mesa_check.specs.Verdict.{fault_told};
 
 use crate::lines::{put_open_error, put_script_error};
-use crate::statuses;
+use crate::{Devices, Done, statuses};
 use crate::verdict_line::put_verdict;
 use mesa_check::Verdict;
 use mesa_disk::{Bench, Disk, Made};
-use mesa_exit_spec::{Devices, Done};
 use mesa_io::Sink;
 use mesa_print::Printer;
 use mesa_recover::OpenError;

@@ -1,9 +1,9 @@
 // Runs of the script that a seed gives.
 ghost use Rattle.std.specs.Prelude.{◌≡◌, ◌≤◌, ◌++◌, ℕ, List, Ok, false, true, length, if◌then◌else◌};
-ghost use Rattle.mesa_shell.specs.mesa_exit_spec.Ending as spec;
-ghost use Rattle.mesa_shell.specs.mesa_exit_spec.Exits.{gen_line, memory_line, memory_status};
-ghost use Rattle.mesa_shell.specs.mesa_exit_spec.Ports.{ports};
-ghost use Rattle.mesa_shell.specs.mesa_exit_spec.Scripts.{IsSmall};
+ghost use Rattle.mesa_shell.specs.Ending as spec;
+ghost use Rattle.mesa_shell.specs.Exits.{gen_line, memory_line, memory_status};
+ghost use Rattle.mesa_shell.specs.Ports.{ports};
+ghost use Rattle.mesa_shell.specs.Scripts.{IsSmall};
 ghost use Rattle.mesa_generate.specs.Excerpt.{CutsOut};
 ghost use Rattle.mesa_print.specs.Printed.{Printed};
 ghost use Rattle.mesa_script.specs.Generated.{generated as generated_by};

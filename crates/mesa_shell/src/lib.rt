@@ -1,17 +1,21 @@
 //! The top call over a store: a script in, answers out, and how a call ends.
 //!
 //! What a call of the program tells: its status, and its line where it runs nothing.
+//!
+//! How a call of the program may end over a store: by its words, its input, the store's opening and the run.
 #![tactic(auto)]
 
 mod checking;
 mod digest_lines;
 mod digesting;
+mod done;
 mod ending;
 mod generating;
 mod lines;
 mod opening;
 mod running;
 mod shell;
+mod small_scripts;
 mod standard;
 pub mod statuses;
 mod verdict_line;
@@ -21,4 +25,9 @@ pub use shell::{MAX_INPUT, mesa};
 pub use standard::program;
 pub use digest_lines::ended_digest;
 pub use ending::{ended, ended_checked, ended_opening, ended_refused, lacks_memory, run_status};
-pub use mesa_exit_spec::{Devices, Done, scripts_are_small};
+pub use done::{Devices, Done};
+pub use small_scripts::{
+    calls_leave_sound_stores, contents_are_folds_of_all_batches, empty_stores_are_sound,
+    lives_are_lists_of_runs, scripts_are_small, stores_start_alike, stores_start_well_formed,
+    unfailed_runs_stand,
+};

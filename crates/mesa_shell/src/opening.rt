@@ -1,6 +1,6 @@
 // Opening a store for a run.
 ghost use Rattle.std.specs.Prelude.{IfErr, IfOk};
-ghost use Rattle.mesa_shell.specs.mesa_exit_spec.Unopened.{IsUnopened};
+ghost use Rattle.mesa_shell.specs.Unopened.{IsUnopened};
 ghost use Rattle.mesa_shell.specs.Begun.{HasBegun};
 
 use mesa_disk::{Disk, Made};

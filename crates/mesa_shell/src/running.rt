@@ -7,13 +7,13 @@ ghost use Rattle.mesa_check.specs.mesa_history_spec.Refused.{some_refused};
 ghost use Rattle.mesa_check.specs.mesa_history_spec.Run.{begins};
 ghost use Rattle.mesa_store_digest.specs.mesa_history_spec.Rows.{Rows};
 ghost use Rattle.mesa_session.specs.mesa_core.Passes.{turns_of};
-ghost use Rattle.mesa_shell.specs.mesa_exit_spec.Counting.{HasBenchCounts};
-ghost use Rattle.mesa_shell.specs.mesa_exit_spec.Ports.{ports};
+ghost use Rattle.mesa_shell.specs.Counting.{HasBenchCounts};
+ghost use Rattle.mesa_shell.specs.Ports.{ports};
 ghost use Rattle.mesa_engine.specs.mesa_invariant_spec.Invariant.{AllFound};
 ghost use Rattle.mesa_engine.specs.Vault.{IsRead};
-ghost use Rattle.mesa_shell.specs.mesa_exit_spec.Run.{RanAnyhow, RanSoundly, outset_from};
-ghost use Rattle.mesa_shell.specs.mesa_exit_spec.Scripts.{IsSmall};
-ghost use Rattle.mesa_shell.specs.mesa_exit_spec.Start.{AreTold};
+ghost use Rattle.mesa_shell.specs.Run.{RanAnyhow, RanSoundly, outset_from};
+ghost use Rattle.mesa_shell.specs.Scripts.{IsSmall};
+ghost use Rattle.mesa_shell.specs.StoreStart.{AreTold};
 ghost use Rattle.mesa_shell.specs.Begun.{IsReadyToRun};
 ghost use Rattle.mesa_shell.specs.Ran.{HasNotRun, RanFrom};
 

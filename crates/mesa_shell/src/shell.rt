@@ -3,12 +3,12 @@ ghost use Rattle.std.specs.Prelude.{◌≡◌, ◌≢◌, ◌≤◌, ℕ, List, 
 ghost use Rattle.mesa_check.specs.mesa_catalog.mesa_image_spec.Catalog.{Catalog as AnyCatalog};
 ghost use Rattle.mesa_model.specs.declared.commands.Script.{Script as AnyScript};
 ghost use Rattle.mesa_store_digest.specs.mesa_history_spec.Rows.{Rows};
-ghost use Rattle.mesa_shell.specs.mesa_exit_spec.Completing.{AsksFor, Completes, Decides, HasRoomToRun, IsUndamaged, NoneRose, NothingFailed};
-ghost use Rattle.mesa_shell.specs.mesa_exit_spec.Ending as spec;
-ghost use Rattle.mesa_shell.specs.mesa_exit_spec.Ports.{ports};
-ghost use Rattle.mesa_shell.specs.mesa_exit_spec.Scripts.{IsSmall};
-ghost use Rattle.mesa_shell.specs.mesa_exit_spec.Statuses.{Tells};
-ghost use Rattle.mesa_shell.specs.mesa_exit_spec.mesa_recover.Opening.{IsSoundStart};
+ghost use Rattle.mesa_shell.specs.Completing.{AsksFor, Completes, Decides, HasRoomToRun, IsUndamaged, NoneRose, NothingFailed};
+ghost use Rattle.mesa_shell.specs.Ending as spec;
+ghost use Rattle.mesa_shell.specs.Ports.{ports};
+ghost use Rattle.mesa_shell.specs.Scripts.{IsSmall};
+ghost use Rattle.mesa_shell.specs.Statuses.{Tells};
+ghost use Rattle.mesa_shell.specs.mesa_recover.Opening.{IsSoundStart};
 ghost use Rattle.mesa_parse.specs.Forms.{form_of};
 ghost use Rattle.mesa_parse.specs.declared.forms.Form.TheVariants as form;
 

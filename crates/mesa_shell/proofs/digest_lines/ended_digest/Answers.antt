@@ -1,5 +1,5 @@
 use Rattle.mesa_print.proofs.Printing.{printed_then}
-use Rattle.mesa_exit_spec.specs.Ports.{ports}
+use Rattle.mesa_shell.specs.Ports.{ports}
 use Rattle.mesa_shell.proofs.Printing.{printed_ends}
 use Rattle.mesa_shell.proofs.digest_lines.ended_digest.Goals as goal
 

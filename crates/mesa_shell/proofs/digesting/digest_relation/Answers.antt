@@ -4,7 +4,7 @@ use Rattle.mesa_delta.specs.declared.error.FileError.TheVariants as file_error
 use Rattle.mesa_store_digest.specs.Latest.{HasLookReason}
 use Rattle.mesa_store_digest.specs.Looked.{IsDigestOf}
 use Rattle.mesa_store_digest.specs.declared.error.LookError.TheVariants as look
-use Rattle.mesa_shell.specs.mesa_exit_spec.Ports.{ports}
+use Rattle.mesa_shell.specs.Ports.{ports}
 use Rattle.mesa_shell.proofs.Digests.{digest_failed, digest_refused, digest_told}
 use Rattle.mesa_shell.proofs.digesting.digest_relation.Goals as goal
 

@@ -1,4 +1,4 @@
-use Rattle.mesa_exit_spec.specs.Ports.{ports}
+use Rattle.mesa_shell.specs.Ports.{ports}
 use Rattle.mesa_shell.proofs.Printing.{printed_ends}
 use Rattle.mesa_shell.proofs.ending.ended.Goals as goal
 

@@ -1,7 +1,7 @@
 use Rattle.std.proofs.Common.{◌∙◌, ap}
 use Rattle.std.specs.Prelude.{if◌then◌else◌}
 use Rattle.mesa_print.proofs.Printing.{printed_then}
-use Rattle.mesa_exit_spec.specs.Ports.{ports}
+use Rattle.mesa_shell.specs.Ports.{ports}
 use Rattle.mesa_shell.proofs.Printing.{printed_ends}
 use Rattle.mesa_shell.proofs.ending.ended_checked.Goals as goal
 

@@ -1,10 +1,10 @@
 use Rattle.std.proofs.Common.{◌≡◌, inl, inr, refl, sym, ap, subst, Some}
 use Rattle.std.specs.Prelude.{if◌then◌else◌}
 use Rattle.mesa_io.specs.Memory.{SinkState}
-use Rattle.mesa_shell.specs.mesa_exit_spec.Ports.{ports}
-use Rattle.mesa_shell.specs.mesa_exit_spec.Ending.{EndsShown}
-use Rattle.mesa_shell.specs.mesa_exit_spec.declared.done.Devices.{Devices}
-use Rattle.mesa_shell.proofs.mesa_exit_spec.Ends.{ended_with, short_of_memory, unopened}
+use Rattle.mesa_shell.specs.Ports.{ports}
+use Rattle.mesa_shell.specs.Ending.{EndsShown}
+use Rattle.mesa_shell.specs.declared.done.Devices.{Devices}
+use Rattle.mesa_shell.proofs.Ends.{ended_with, short_of_memory, unopened}
 use Rattle.mesa_shell.proofs.Ran.{refused_told, unrun_sound, whole_run}
 use Rattle.mesa_shell.proofs.Showing.{shown_ended}
 use Rattle.mesa_shell.proofs.generating.run_in_memory.Goals as goal

@@ -1,7 +1,7 @@
 use Rattle.std.proofs.Common.{◌≡◌, true, false, sym, ap, subst, ◌∙◌}
-use Rattle.mesa_shell.specs.mesa_exit_spec.Exits.{gen_line, memory_line}
-use Rattle.mesa_shell.specs.mesa_exit_spec.Ports.{ports}
-use Rattle.mesa_shell.specs.mesa_exit_spec.declared.done.Done.{Done}
+use Rattle.mesa_shell.specs.Exits.{gen_line, memory_line}
+use Rattle.mesa_shell.specs.Ports.{ports}
+use Rattle.mesa_shell.specs.declared.done.Done.{Done}
 use Rattle.mesa_generate.specs.Excerpt.{CutsOut}
 use Rattle.mesa_shell.proofs.Printing.{printed_prints}
 use Rattle.std.specs.Prelude.{◌++◌, if◌then◌else◌}

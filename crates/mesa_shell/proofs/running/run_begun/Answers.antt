@@ -1,4 +1,4 @@
-use Rattle.mesa_shell.specs.mesa_exit_spec.Ports.{ports}
+use Rattle.mesa_shell.specs.Ports.{ports}
 use Rattle.mesa_shell.proofs.Beginning.{begun_is, few_turns}
 use Rattle.mesa_shell.proofs.Leaving.{has_not_run, ran_from}
 use Rattle.mesa_shell.proofs.running.run_begun.Goals as goal

@@ -1,7 +1,7 @@
 use Rattle.std.specs.Prelude.{◌+◌}
 use Rattle.mesa_store_digest.specs.mesa_history_spec.Rows.{no_rows}
-use Rattle.mesa_shell.specs.mesa_exit_spec.Start.{start_of}
-use Rattle.mesa_shell.proofs.mesa_exit_spec.Alike.{start_alike}
+use Rattle.mesa_shell.specs.StoreStart.{start_of}
+use Rattle.mesa_shell.proofs.Alike.{start_alike}
 use Rattle.mesa_shell.specs.Begun.{IsSoundBegun}
 use Rattle.mesa_session.specs.mesa_core.Passes.{turns_of}
 use Rattle.mesa_shell.specs.Start.{origin_of}

@@ -11,8 +11,8 @@ use Rattle.mesa_engine.specs.mesa_invariant_spec.Printing.{IsPrinted, IsPrintedB
 use Rattle.mesa_engine.specs.mesa_invariant_spec.Invariant.{AllFound}
 use Rattle.mesa_check.specs.mesa_catalog.declared.begun.Begun.{Begun}
 use Rattle.mesa_engine.specs.Vault.{IsRead}
-use Rattle.mesa_shell.specs.mesa_exit_spec.Run.{RanAnyhow, RanSoundly, outset_from}
-use Rattle.mesa_shell.proofs.mesa_exit_spec.Small.{session_small}
+use Rattle.mesa_shell.specs.Run.{RanAnyhow, RanSoundly, outset_from}
+use Rattle.mesa_shell.proofs.Small.{session_small}
 use Rattle.mesa_shell.proofs.Parts.{benches_counted, fits_room, ran_anyhow, read_first, refilled}
 use Rattle.mesa_shell.proofs.running.run_named.Goals as goal
 

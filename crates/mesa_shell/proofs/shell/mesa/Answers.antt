@@ -1,8 +1,8 @@
 use Rattle.std.proofs.Common.{inr, refl, sym, ◌∙◌, ap, subst, Some, None}
 use Rattle.mesa_parse.specs.declared.forms.Form.{Form}
 use Rattle.mesa_parse.specs.declared.forms.Form.TheVariants as form
-use Rattle.mesa_shell.specs.mesa_exit_spec.Ending.{EndsDigest}
-use Rattle.mesa_shell.specs.mesa_exit_spec.Ports.{ports}
+use Rattle.mesa_shell.specs.Ending.{EndsDigest}
+use Rattle.mesa_shell.specs.Ports.{ports}
 use Rattle.mesa_shell.proofs.Forms.{answered, answered_as}
 use Rattle.mesa_shell.proofs.shell.mesa.Goals as goal
 

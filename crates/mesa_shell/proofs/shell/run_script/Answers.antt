@@ -1,5 +1,5 @@
-use Rattle.mesa_shell.specs.mesa_exit_spec.Ports.{ports}
-use Rattle.mesa_shell.proofs.mesa_exit_spec.Ends.{ended_with, lacked, opening_failed}
+use Rattle.mesa_shell.specs.Ports.{ports}
+use Rattle.mesa_shell.proofs.Ends.{ended_with, lacked, opening_failed}
 use Rattle.mesa_shell.proofs.Ran.{script_ran, unrun_sound}
 use Rattle.mesa_shell.proofs.shell.run_script.Goals as goal
 

@@ -1,5 +1,0 @@
-use Rattle.mesa_exit_spec.proofs.Empty.{empty_sound, empty_stands, empty_start}
-use Rattle.mesa_exit_spec.proofs.laws.empty_stores_are_sound.Goals as goal
-
-pub returns : goal.returns
-returns c = record { sound = empty_sound; stands = empty_stands; start = empty_start }

@@ -1,6 +1,0 @@
-use Rattle.mesa_exit_spec.specs.Ports.{ports}
-use Rattle.mesa_exit_spec.proofs.Unfailed.{runs_unfailed}
-use Rattle.mesa_exit_spec.proofs.laws.unfailed_runs_stand.Goals as goal
-
-pub returns : goal.returns
-returns g c held sink_faults bench_faults given done input before now = runs_unfailed (ports held sink_faults g.D.Disk.story g.M.Made.bytes bench_faults) given done input before now

@@ -1,0 +1,72 @@
+-- A sound store is a well-formed warehouse.
+use Rattle.std.proofs.Common.{◌≡◌, ◌⊎◌, ⊎_elim, ◌<◌, ℕ, zero, suc, ◌-◌, List, [], ◌∷◌, ◌++◌, map, flat_map, true, false, Bool, ◌==◌, nat_lt, ◌&&◌, refl, ◌∙◌, ap, arith, is_none, IsTrue}
+use Rattle.std.proofs.lemmas.List.{length-map}
+use Rattle.std.proofs.lemmas.List.FromFn.{length-range_with_len}
+use Rattle.std.proofs.lemmas.Bool.{lt-ltb, or_left, or_right}
+use Rattle.std.specs.List.{AllByRecursion, range_with_len}
+use Rattle.mesa_check.specs.mesa_schema.Names.{repeated}
+use Rattle.mesa_check.specs.mesa_schema.Columns.{aggs_of}
+use Rattle.mesa_check.specs.mesa_schema.Changes.{columns_of}
+use Rattle.mesa_check.proofs.mesa_schema.Forms.{folded_form}
+use Rattle.mesa_check.proofs.mesa_schema.Lists.{all_map}
+use Rattle.mesa_check.proofs.mesa_schema.RisingRows.{folded_rise}
+use Rattle.mesa_model.specs.declared.commands.Script.{Script}
+use Rattle.mesa_model.specs.WellFormed.{IsContent, IsTable, IsWellFormed, is_kept, relation_names}
+use Rattle.mesa_store_digest.specs.mesa_history_spec.Rows.{Rows}
+use Rattle.mesa_check.specs.mesa_image_spec.Catalog.{Stock, Catalog}
+use Rattle.mesa_check.specs.mesa_image_spec.Contents.{present, deltas_to, content, table_of, kept_of}
+use Rattle.mesa_check.specs.mesa_image_spec.Fitting.{deltas_of, delta_shelved, names_in}
+use Rattle.mesa_check.specs.mesa_image_spec.Shape.{IsShaped, IsCatalog}
+use Rattle.mesa_check.specs.mesa_image_spec.Sound.{IsStocked, AreStocked, IsTold}
+use Rattle.mesa_check.proofs.mesa_recover.mesa_image_spec.Formed.{AreFormed, all_formed, rows_formed, up_to}
+use Rattle.mesa_check.proofs.mesa_recover.mesa_image_spec.Lists.{all_unflat}
+use Rattle.mesa_shell.specs.StoreStart.{start_of}
+
+content_is : (rows : Rows) (t : Stock) (floor next : ℕ) → IsShaped floor next t → IsStocked rows t → (version : ℕ) → IsContent (columns_of t.lineage) (content rows t version)
+content_is rows t floor next shape stocked version =
+    let formed : AreFormed rows t.lineage (deltas_of t) = all_formed rows t.lineage (deltas_of t) shape.lineage (all_unflat (IsTold rows) (delta_shelved t.lineage) (deltas_of t) stocked.files) in
+    record {
+      forms = folded_form (columns_of t.lineage) (map (present rows t.lineage) (deltas_to t version)) (rows_formed rows t.lineage (deltas_to t version) (up_to _ t version formed));
+      order = folded_rise (aggs_of (columns_of t.lineage)) (map (present rows t.lineage) (deltas_to t version));
+    }
+
+all_each : {A : Type 0} (P : A → Type 0) (xs : List A) → ((x : A) → P x) → AllByRecursion P xs
+all_each P [] each = tt
+all_each P (x ∷ xs) each = (each x, all_each P xs each)
+
+same_zero : (n : ℕ) → n ≡ 0 → (n == 0) ≡ true
+same_zero zero is = refl
+same_zero (suc n) is = absurd (omega (arith, is))
+
+both_true : (a b : Bool) → a ≡ true → b ≡ true → (a && b) ≡ true
+both_true true b x y = y
+both_true false b x y = x
+
+kept : (next version : ℕ) → (version < next) ⊎ ((version ≡ 0) × (next ≡ 0)) → IsTrue (is_kept next version)
+kept next version is = ⊎_elim (λ lt. or_left (nat_lt version next) _ (lt-ltb version next lt)) (λ none. or_right (nat_lt version next) _ (both_true _ _ (same_zero version none.0) (same_zero next none.1))) is
+
+table_is : (script : Script) (rows : Rows) (c : Catalog) (t : Stock) → IsShaped c.floor c.next t → IsStocked rows t → IsTable (start_of script c rows).warehouse (table_of rows c.next t)
+unfolding kept_of
+table_is script rows c t shape stocked = record {
+  lineage = shape.lineage;
+  above = shape.above;
+  oldest = kept c.next t.oldest shape.oldest;
+  versions = length-map (range_with_len t.oldest (c.next - t.oldest)) (content rows t) ∙ length-range_with_len t.oldest (c.next - t.oldest);
+  contents = all_map (IsContent (columns_of t.lineage)) (content rows t) (range_with_len t.oldest (c.next - t.oldest)) (all_each _ (range_with_len t.oldest (c.next - t.oldest)) (content_is rows t c.floor c.next shape stocked));
+}
+
+tables_are : (script : Script) (rows : Rows) (c : Catalog) (ts : List Stock) → AllByRecursion (IsShaped c.floor c.next) ts → AllByRecursion (IsStocked rows) ts → AllByRecursion (IsTable (start_of script c rows).warehouse) (map (table_of rows c.next) ts)
+tables_are script rows c [] shapes stocked = tt
+tables_are script rows c (t ∷ ts) shapes stocked = (table_is script rows c t shapes.0 stocked.0, tables_are script rows c ts shapes.1 stocked.1)
+
+names_same : (rows : Rows) (c : Catalog) (ts : List Stock) → relation_names (record { tables = map (table_of rows c.next) ts; floor = c.floor }) ≡ flat_map names_in ts
+names_same rows c [] = refl
+names_same rows c (t ∷ ts) = ap (λ (ns : List (List ℕ)). names_in t ++ ns) (names_same rows c ts)
+
+pub well_formed_start : (script : Script) (c : Catalog) (rows : Rows) → IsCatalog c → AreStocked rows c → IsWellFormed (start_of script c rows).warehouse
+unfolding kept_of
+well_formed_start script c rows is stocked = record {
+  tables = tables_are script rows c c.tables is.tables stocked;
+  names = ap (λ names. is_none (repeated names)) (names_same rows c c.tables) ∙ is.names;
+  floor = kept c.next c.floor is.floor;
+}
