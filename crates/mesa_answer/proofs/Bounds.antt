@@ -12,7 +12,7 @@ use Rattle.mesa_schema.specs.Columns.{Columns, aggs_of, chosen}
 use Rattle.mesa_schema.specs.Folded.{folded, grouped, regrouped}
 use Rattle.mesa_schema.specs.Laws.{AreFull}
 use Rattle.mesa_schema.specs.Rows.{AreRowsOf}
-use Rattle.mesa_model.specs.mesa_batch.Totals.{abs_total, sum_bound}
+use Rattle.mesa_batch.specs.Totals.{abs_total, sum_bound}
 use Rattle.mesa_batch.specs.Bound.{KeepsBound}
 use Rattle.mesa_batch.proofs.Merged.{folds_totals}
 use Rattle.mesa_filter.specs.Query.{are_places}

@@ -5,7 +5,7 @@ use Rattle.mesa_schema.specs.declared.rows.Row.{Row}
 use Rattle.mesa_schema.specs.Columns.{Columns, aggs_of, chosen}
 use Rattle.mesa_schema.specs.Folded.{folded, grouped, rows_of}
 use Rattle.mesa_schema.specs.Rows.{AreRowsOf}
-use Rattle.mesa_model.specs.mesa_batch.Totals.{abs_total, sum_bound}
+use Rattle.mesa_batch.specs.Totals.{abs_total, sum_bound}
 use Rattle.mesa_filter.specs.Filter.{filtered}
 use Rattle.mesa_filter.specs.Query.{BuiltQuery, IsQueryOf}
 use Rattle.mesa_model.specs.Query.{answer_rows}

@@ -1,9 +1,9 @@
 -- Values combined column by column.
 use Rattle.std.proofs.Common.{◌≡◌, ◌<◌, ◌≤◌, ◌+◌, ℕ, zero, suc, ℤ, pos, List, [], ◌∷◌, ◌++◌, length, get_or, take, drop, set, sym, subst, refl, ap, arith, drop-cons, add-one, append_assoc}
 use Rattle.std.proofs.lemmas.List.{drop_all}
-use Rattle.mesa_value.specs.declared.Agg.{Agg}
-use Rattle.mesa_value.specs.declared.Agg.TheVariants.{Sum}
-use Rattle.mesa_value.specs.Agg.{Combines, combined}
+use Rattle.mesa_schema.specs.mesa_value.declared.Agg.{Agg}
+use Rattle.mesa_schema.specs.mesa_value.declared.Agg.TheVariants.{Sum}
+use Rattle.mesa_schema.specs.mesa_value.Agg.{Combines, combined}
 use Rattle.mesa_schema.specs.Folded.{AllCombine, row_combined}
 
 -- the values from a column on

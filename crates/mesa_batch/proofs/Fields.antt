@@ -7,12 +7,12 @@ use Rattle.std.proofs.lemmas.List.{append-nil, get_or-map, get_or_default, lengt
 use Rattle.std.proofs.lemmas.Option.{slice_get_cases}
 use Rattle.std.proofs.Math.Seq.{drop-cons}
 use Rattle.mesa_list.specs.Checks.{◌>>=◌}
-use Rattle.mesa_value.specs.declared.Agg.{Agg}
-use Rattle.mesa_key.specs.declared.KeyType.{KeyType}
+use Rattle.mesa_schema.specs.mesa_value.declared.Agg.{Agg}
+use Rattle.mesa_schema.specs.mesa_key.declared.KeyType.{KeyType}
 use Rattle.mesa_schema.specs.declared.columns.KeyColumn.{KeyColumn}
 use Rattle.mesa_schema.specs.declared.columns.ValueColumn.{ValueColumn}
-use Rattle.mesa_key.specs.declared.KeyValue.{KeyValue}
-use Rattle.mesa_key.specs.Spelling.{value_spelling, key_spelling}
+use Rattle.mesa_schema.specs.mesa_key.declared.KeyValue.{KeyValue}
+use Rattle.mesa_schema.specs.mesa_key.Spelling.{value_spelling, key_spelling}
 use Rattle.mesa_schema.specs.Numbers.{amount_of, key_value_of}
 use Rattle.mesa_schema.specs.Columns.{Columns}
 use Rattle.mesa_batch.specs.Batch.{key_from, row_of, values_from}

@@ -16,9 +16,9 @@ use Rattle.std.proofs.lemmas.List.Elements.{All-append, All-cons, All-nil}
 use Rattle.std.proofs.lemmas.Nat.{be_bytes_8}
 use Rattle.std.proofs.Math.Seq.{drop-nil}
 use Rattle.mesa_list.specs.Bytes.{same_bytes}
-use Rattle.mesa_key.specs.Order.{byte_cmp}
-use Rattle.mesa_key.proofs.IntOrder.{bytes_order}
-use Rattle.mesa_key.proofs.KeyOrder.{byte_cmp-long, then_assoc}
+use Rattle.mesa_schema.specs.mesa_key.Order.{byte_cmp}
+use Rattle.mesa_schema.proofs.mesa_key.IntOrder.{bytes_order}
+use Rattle.mesa_schema.proofs.mesa_key.KeyOrder.{byte_cmp-long, then_assoc}
 use Rattle.mesa_batch.specs.declared.spots.Spot.{Spot}
 use Rattle.mesa_batch.specs.Batch.{Placed}
 use Rattle.mesa_batch.specs.Flat.{is_twice, placed_at, spot_cmp}

@@ -2,7 +2,7 @@
 use Rattle.std.proofs.Common.{◌≡◌, List, [], ◌∷◌, ◌++◌, sym, ◌∙◌, ap, subst}
 use Rattle.std.specs.Prelude.{T}
 use Rattle.std.proofs.lemmas.List.{append-nil}
-use Rattle.mesa_value.specs.declared.Agg.{Agg}
+use Rattle.mesa_schema.specs.mesa_value.declared.Agg.{Agg}
 use Rattle.mesa_schema.specs.declared.rows.Row.{Row}
 use Rattle.mesa_schema.specs.Folded.{folded, keys_of}
 use Rattle.mesa_schema.specs.Put.{put_row, put_rows}

@@ -1,4 +1,4 @@
-pub use Rattle.mesa_schema.proofs as mesa_schema
+pub use Rattle.mesa_list.proofs as mesa_list
 pub mod Fields
 pub mod Finished
 pub mod Flats

@@ -11,7 +11,7 @@ use Rattle.std.specs.Cmp.Lexicographic.{texts_ties}
 use Rattle.std.specs.FinMap.{slice_cmp-IsAntisymmetric, nat_cmp-IsAntisymmetric}
 use Rattle.std.specs.BTreeMap.{insert_entry}
 use Rattle.std.proofs.lemmas.Iterator.Adapters.{position_from-zero}
-use Rattle.mesa_key.specs.Order.{byte_cmp}
+use Rattle.mesa_schema.specs.mesa_key.Order.{byte_cmp}
 use Rattle.mesa_list.specs.Bytes.{same_bytes}
 use Rattle.mesa_schema.proofs.Folds.{is_equal}
 use Rattle.std.proofs.lemmas.List.{get_or-map, length-map, length-take-le}

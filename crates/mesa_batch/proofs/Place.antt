@@ -10,7 +10,7 @@ use Rattle.std.specs.declared.cmp.Ordering.TheVariants.{Less, Equal, Greater}
 use Rattle.std.specs.Cmp.Lexicographic.{nat_list_cmp_total}
 use Rattle.std.specs.FinMap.{slice_cmp-IsAntisymmetric, nat_cmp-IsAntisymmetric}
 use Rattle.std.specs.FinMap.Entries.{by_order, below_all}
-use Rattle.mesa_value.specs.declared.Agg.{Agg}
+use Rattle.mesa_schema.specs.mesa_value.declared.Agg.{Agg}
 use Rattle.mesa_schema.specs.mesa_key.Order.{byte_cmp}
 use Rattle.mesa_schema.specs.declared.rows.Row.{Row}
 use Rattle.mesa_schema.specs.Folded.{row_combined}

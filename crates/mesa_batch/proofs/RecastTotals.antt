@@ -5,8 +5,8 @@ use Rattle.std.specs.List.{AllByRecursion, cons_option, list_all}
 use Rattle.std.proofs.lemmas.Bool.{ltb-true}
 use Rattle.std.proofs.lemmas.List.{append-nil, length-map}
 use Rattle.std.proofs.lemmas.List.Sums.{sum_by-append, sum_by-cons}
-use Rattle.mesa_value.specs.declared.Agg.{Agg}
-use Rattle.mesa_value.specs.declared.Agg.TheVariants.{Sum, Min, Max, Replace}
+use Rattle.mesa_schema.specs.mesa_value.declared.Agg.{Agg}
+use Rattle.mesa_schema.specs.mesa_value.declared.Agg.TheVariants.{Sum, Min, Max, Replace}
 use Rattle.mesa_schema.specs.declared.columns.ValueColumn.{ValueColumn}
 use Rattle.mesa_schema.specs.declared.rows.Row.{Row}
 use Rattle.mesa_schema.specs.declared.views.ViewError.TheVariants.{NoValue}

@@ -8,19 +8,19 @@ use Rattle.std.specs.List.{AllByRecursion}
 use Rattle.std.specs.Option.{ok_or}
 use Rattle.std.proofs.lemmas.Bool.Decides.{nat_tests}
 use Rattle.mesa_list.specs.Checks.{◌>>=◌, ◌>>◌, refused_as}
-use Rattle.mesa_value.specs.declared.Agg.{Agg}
-use Rattle.mesa_value.specs.declared.Agg.TheVariants as agg
-use Rattle.mesa_value.specs.Agg.{IsOf}
-use Rattle.mesa_key.specs.declared.KeyType.{KeyType}
-use Rattle.mesa_key.specs.declared.KeyType.TheVariants as kind
-use Rattle.mesa_key.specs.declared.KeyValue.{KeyValue}
-use Rattle.mesa_key.specs.Spelling.{IsKey, IsValue, is_key_text, key_of, key_spelling}
+use Rattle.mesa_schema.specs.mesa_value.declared.Agg.{Agg}
+use Rattle.mesa_schema.specs.mesa_value.declared.Agg.TheVariants as agg
+use Rattle.mesa_schema.specs.mesa_value.Agg.{IsOf}
+use Rattle.mesa_schema.specs.mesa_key.declared.KeyType.{KeyType}
+use Rattle.mesa_schema.specs.mesa_key.declared.KeyType.TheVariants as kind
+use Rattle.mesa_schema.specs.mesa_key.declared.KeyValue.{KeyValue}
+use Rattle.mesa_schema.specs.mesa_key.Spelling.{IsKey, IsValue, is_key_text, key_of, key_spelling}
 use Rattle.mesa_schema.specs.declared.rows.Row.{Row}
 use Rattle.mesa_schema.specs.Columns.{Columns, aggs_of, kinds_of, place_of}
 use Rattle.mesa_schema.specs.Numbers.{amount_of, any_signed, is_i64, key_value_of, signed_of}
 use Rattle.mesa_schema.specs.Rows.{AreOf, AreRowsOf, IsRowOf}
 use Rattle.mesa_schema.proofs.Forms.{folded_form}
-use Rattle.mesa_key.proofs.Keys.{key_again}
+use Rattle.mesa_schema.proofs.mesa_key.Keys.{key_again}
 use Rattle.mesa_schema.proofs.NumberWords.{is_i64-fits}
 use Rattle.mesa_batch.specs.declared.words.RowWords.{RowWords}
 use Rattle.mesa_batch.specs.declared.words.BatchError.{BatchError}

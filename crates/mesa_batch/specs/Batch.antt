@@ -3,10 +3,10 @@ use Rattle.std.specs.Prelude.{ℕ, ◌+◌, ℤ, List, [], ◌∷◌, ◌++◌, 
 use Rattle.std.specs.Option.{ok_or}
 use Rattle.mesa_list.specs.Bytes.{same_bytes}
 use Rattle.mesa_list.specs.Checks.{◌>>=◌, ◌>>◌, refused_as}
-use Rattle.mesa_value.specs.declared.Agg.{Agg}
-use Rattle.mesa_key.specs.declared.KeyType.{KeyType}
-use Rattle.mesa_key.specs.declared.KeyValue.{KeyValue}
-use Rattle.mesa_key.specs.Spelling.{key_spelling}
+use Rattle.mesa_schema.specs.mesa_value.declared.Agg.{Agg}
+use Rattle.mesa_schema.specs.mesa_key.declared.KeyType.{KeyType}
+use Rattle.mesa_schema.specs.mesa_key.declared.KeyValue.{KeyValue}
+use Rattle.mesa_schema.specs.mesa_key.Spelling.{key_spelling}
 use Rattle.mesa_schema.specs.declared.rows.Row.{Row}
 use Rattle.mesa_schema.specs.Columns.{Columns, kinds_of, aggs_of, place_of}
 use Rattle.mesa_schema.specs.Numbers.{amount_of, key_value_of}

@@ -3,7 +3,7 @@ use Rattle.std.specs.Prelude.{◌≡◌, ◌<◌, ℕ, zero, suc, List, [], ◌�
 use Rattle.std.specs.Int.{from_be_bytes, w64}
 use Rattle.std.specs.Ordering.{nat_cmp, ordering_then}
 use Rattle.std.specs.declared.cmp.Ordering.{Ordering}
-use Rattle.mesa_key.specs.Order.{byte_cmp}
+use Rattle.mesa_schema.specs.mesa_key.Order.{byte_cmp}
 use Rattle.mesa_batch.specs.Batch.{Placed}
 use Rattle.mesa_batch.specs.Flat.{placed_at}
 use Rattle.mesa_batch.specs.declared.spots.Spot.{Spot}

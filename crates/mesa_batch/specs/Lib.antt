@@ -1,6 +1,4 @@
-pub use Rattle.mesa_schema.specs.mesa_key as mesa_key
-pub use Rattle.mesa_schema.specs as mesa_schema
-pub use Rattle.mesa_value.specs as mesa_value
+pub use Rattle.mesa_list.specs as mesa_list
 pub mod Batch
 pub mod Flat
 pub mod Gathered

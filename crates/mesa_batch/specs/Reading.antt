@@ -1,8 +1,8 @@
 -- What reading a row's fields tells.
 use Rattle.std.specs.Prelude.{◌≡◌, ℕ, List, ◌++◌, Result, Ok, Err, ⊤}
 use Rattle.mesa_list.specs.Checks.{◌>>=◌}
-use Rattle.mesa_key.specs.declared.KeyValue.{KeyValue}
-use Rattle.mesa_key.specs.Spelling.{key_spelling}
+use Rattle.mesa_schema.specs.mesa_key.declared.KeyValue.{KeyValue}
+use Rattle.mesa_schema.specs.mesa_key.Spelling.{key_spelling}
 use Rattle.mesa_batch.specs.declared.reading.FieldError.{FieldError}
 use Rattle.mesa_batch.specs.declared.reading.FieldError.TheVariants.{Bad, Memory}
 

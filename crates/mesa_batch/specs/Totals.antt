@@ -1,8 +1,8 @@
 -- Absolute totals: what keeps every sum within its type.
 use Rattle.std.specs.Prelude.{ℕ, ◌+◌, ◌≤◌, min, pos, nat_abs, List, [], ◌∷◌, ◌++◌, map, zip, sum_by, slice_index_or, take, drop, length, nat_le, Bool, true, false, if◌then◌else◌, Option, Some, None, position, slice_get, unwrap_or, ⊤}
-pub use Rattle.mesa_value.specs.Agg.{sum_bound}
-use Rattle.mesa_value.specs.declared.Agg.{Agg}
-use Rattle.mesa_value.specs.declared.Agg.TheVariants as agg
+pub use Rattle.mesa_schema.specs.mesa_value.Agg.{sum_bound}
+use Rattle.mesa_schema.specs.mesa_value.declared.Agg.{Agg}
+use Rattle.mesa_schema.specs.mesa_value.declared.Agg.TheVariants as agg
 use Rattle.mesa_schema.specs.declared.rows.Row.{Row}
 use Rattle.mesa_schema.specs.declared.changes.Change.{Change}
 use Rattle.mesa_schema.specs.declared.changes.Change.TheVariants.{AddKey, AddValue, DropValue}

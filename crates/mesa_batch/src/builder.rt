@@ -1,6 +1,6 @@
 // Gathering a load's rows, one after another.
 ghost use Rattle.std.specs.Prelude.{◌≡◌, ◌≢◌, ◌<◌, ℕ, List, [], ◌∷◌, length, Ok, Err, IfOk, IfErr, IfSome, OnErr, OnOk, None};
-ghost use Rattle.mesa_value.specs.declared.Agg.{Agg as Aggregation};
+ghost use Rattle.mesa_schema.specs.mesa_value.declared.Agg.{Agg as Aggregation};
 ghost use Rattle.mesa_schema.specs.Columns.{Columns};
 ghost use Rattle.mesa_schema.specs.Folded.{folded};
 ghost use Rattle.mesa_batch.specs.Batch.{rows_for};

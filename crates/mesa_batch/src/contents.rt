@@ -9,8 +9,7 @@ ghost use Rattle.mesa_batch.specs.Put.{AreRising, IsFold};
 
 use crate::fold::{combine_into, place_of};
 use mesa_list::TryCopy;
-use mesa_schema::{Row, RowList};
-use mesa_value::Agg;
+use mesa_schema::{Agg, Row, RowList};
 use std::alloc::{AllocError, Global};
 
 /// The fold of a content and a batch that are themselves folds. Both stay as they are, since others may share them: the rows are copied.

@@ -5,8 +5,7 @@ ghost use Rattle.mesa_schema.specs.Lent.{lent};
 ghost use Rattle.mesa_batch.specs.Flat.{placed_at};
 
 use mesa_list::{Fields, TryCopy};
-use mesa_schema::LentRow;
-use mesa_value::Amount;
+use mesa_schema::{Amount, LentRow};
 use std::alloc::{AllocError, Global};
 use std::marker::Model;
 

@@ -9,8 +9,7 @@ ghost use Rattle.mesa_batch.specs.Bound.{AddsAtMost, KeepsBound};
 ghost use Rattle.mesa_schema.specs.Put.{put_row};
 ghost use Rattle.mesa_batch.specs.Put.{IsFold};
 
-use mesa_schema::Row;
-use mesa_value::{Agg, Amount, Values, combine, combines};
+use mesa_schema::{Agg, Amount, Row, Values, combine, combines};
 use std::alloc::AllocError;
 
 /// Whether an older and a newer row's values have one together in each column: a sum may leave its type.

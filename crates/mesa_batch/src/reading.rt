@@ -1,6 +1,6 @@
 // A row's fields, read by its table's columns.
 ghost use Rattle.std.specs.Prelude.{◌≡◌, ◌≤◌, ◌^◌, ◌+◌, ℕ, List, ◌++◌, length, map, true, false, MatchOption, IfOk, IfErr, OnOk, ◌<◌};
-ghost use Rattle.mesa_key.specs.Spelling.{value_spelling};
+ghost use Rattle.mesa_schema.specs.mesa_key.Spelling.{value_spelling};
 ghost use Rattle.mesa_schema.specs.declared.columns.KeyColumn.{KeyColumn as Key};
 ghost use Rattle.mesa_schema.specs.declared.columns.ValueColumn.{ValueColumn as Value};
 ghost use Rattle.mesa_schema.specs.Lent.{lent};
@@ -8,10 +8,8 @@ ghost use Rattle.mesa_schema.specs.Numbers.{key_value_of};
 ghost use Rattle.mesa_batch.specs.Batch.{key_from, row_of, values_from};
 ghost use Rattle.mesa_batch.specs.Reading.{IsRefusal, spelled};
 
-use mesa_key::{KeyText, KeyType, encode_int, encode_text};
+use mesa_schema::{Amount, KeyColumn, KeyText, KeyType, LentRow, Schema, ValueColumn, amount, encode_int, encode_text, signed};
 use mesa_list::FieldsView;
-use mesa_schema::{KeyColumn, LentRow, Schema, ValueColumn, amount, signed};
-use mesa_value::Amount;
 use std::alloc::{AllocError, AllocFailed};
 
 /// Why a row's fields make no row of its table.

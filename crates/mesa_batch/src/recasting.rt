@@ -5,8 +5,7 @@ ghost use Rattle.mesa_schema.specs.Columns.{places_in};
 ghost use Rattle.mesa_batch.specs.Totals.{abs_total, abs_totals, capped, chosen_totals, is_sum as adds, sum_bound, sums_in, with_total};
 
 use crate::totals::{OVER_BOUND, absolute_value};
-use mesa_schema::{Name, Row, Schema, Totals, ValueColumn, place_of};
-use mesa_value::Agg;
+use mesa_schema::{Agg, Name, Row, Schema, Totals, ValueColumn, place_of};
 use std::alloc::{AllocError, Global};
 
 /// The absolute totals of a table of these value columns once it is recast to those of these names: the totals of the sum columns that are kept, in their new order.

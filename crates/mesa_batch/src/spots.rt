@@ -2,12 +2,12 @@
 ghost use Rattle.std.specs.Prelude.{◌≡◌, ◌<◌, ◌≤◌, length, drop, map, slice_index_or, IfOk};
 ghost use Rattle.std.specs.List.{All, range_with_len};
 ghost use Rattle.std.specs.Ordering.{nat_cmp, ordering_then};
-ghost use Rattle.mesa_key.specs.Order.{byte_cmp};
+ghost use Rattle.mesa_schema.specs.mesa_key.Order.{byte_cmp};
 ghost use Rattle.mesa_batch.specs.Flat.{is_twice, placed_at};
 ghost use Rattle.mesa_batch.specs.Heads.{IsSpot, has_same_head, head_of, heads_cmp, place_of, spotted_cmp};
 
 use crate::flat::FlatRows;
-use mesa_key::compare as compare_bytes;
+use mesa_schema::compare as compare_bytes;
 use std::alloc::{AllocError, Global};
 use std::cmp::Ordering;
 

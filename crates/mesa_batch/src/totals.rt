@@ -5,8 +5,7 @@ ghost use Rattle.mesa_batch.specs.Flat.{rows_over};
 ghost use Rattle.mesa_batch.specs.Totals.{abs_total, abs_totals, capped, is_sum, over_bound, sum_bound};
 
 use crate::flat::FlatRows;
-use mesa_schema::{Schema, Totals};
-use mesa_value::{Agg, Amount};
+use mesa_schema::{Agg, Amount, Schema, Totals};
 use std::alloc::{AllocError, Global};
 
 /// A total above 2^127 - 1, the bound of each sum, stands as this.

@@ -4,7 +4,7 @@ use Rattle.std.specs.List.{concat}
 use Rattle.std.specs.Prelude.{Option, Some, None, replicate, nat_lt, ◌==◌, ⊤}
 use Rattle.std.proofs.lemmas.Bool.{eqb-true, ltb-false}
 use Rattle.mesa_list.specs.Checks.{◌>>=◌, ◌>>◌, refuse_if, refuse_unless}
-use Rattle.mesa_key.specs.declared.KeyType.{KeyType}
+use Rattle.mesa_schema.specs.mesa_key.declared.KeyType.{KeyType}
 use Rattle.mesa_schema.specs.declared.rows.Row.{Row}
 use Rattle.mesa_schema.specs.Columns.{kinds_of}
 use Rattle.mesa_block.specs.declared.layout.Width.{Width}

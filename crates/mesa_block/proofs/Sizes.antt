@@ -6,9 +6,9 @@ use Rattle.std.proofs.lemmas.List.{map-append, length-append}
 use Rattle.std.proofs.lemmas.List.Concat.{flat_map-cons}
 use Rattle.std.proofs.lemmas.Bool.{eqb-true, le-leb, lt-leb, leb-true, leb-false, ltb-true, ltb-false}
 use Rattle.mesa_list.proofs.Whole.{each_push}
-use Rattle.mesa_key.specs.declared.KeyType.{KeyType}
-use Rattle.mesa_key.specs.declared.KeyType.TheVariants as kind
-use Rattle.mesa_key.specs.Spelling.{is_spelling}
+use Rattle.mesa_schema.specs.mesa_key.declared.KeyType.{KeyType}
+use Rattle.mesa_schema.specs.mesa_key.declared.KeyType.TheVariants as kind
+use Rattle.mesa_schema.specs.mesa_key.Spelling.{is_spelling}
 use Rattle.mesa_schema.specs.declared.rows.Row.{Row}
 use Rattle.mesa_schema.specs.Columns.{kinds_of}
 use Rattle.mesa_block.specs.declared.layout.Width.{Width}

@@ -2,13 +2,13 @@
 
 ghost use Rattle.std.specs.Prelude.{◌≡◌, ◌==◌, ◌≤◌, ◌<◌, ℕ, [], List, length, replicate, position, not, Option, Some, None};
 ghost use Rattle.std.specs.List.{range_with_len};
-ghost use Rattle.mesa_key.specs.Spelling.{is_key_text};
-ghost use Rattle.mesa_key.specs.Order.{byte_cmp};
+ghost use Rattle.mesa_schema.specs.mesa_key.Spelling.{is_key_text};
+ghost use Rattle.mesa_schema.specs.mesa_key.Order.{byte_cmp};
 ghost use Rattle.mesa_block.specs.Reading.{bad_text, bad_column, is_less, out_of_order};
 
 use crate::column::Column;
 use crate::flat::Block;
-use mesa_key::{KeyText, KeyType, compare};
+use mesa_schema::{KeyText, KeyType, compare};
 use std::cmp::Ordering;
 
 // The first cell that is no text key.

@@ -1,6 +1,6 @@
 pub use Rattle.mesa_batch.proofs as mesa_batch
-pub use Rattle.mesa_table.proofs.mesa_image_spec.mesa_history_spec as mesa_history_spec
 pub use Rattle.mesa_table.proofs.mesa_image_spec as mesa_image_spec
+pub use Rattle.mesa_schema.proofs as mesa_schema
 pub use Rattle.mesa_table.proofs as mesa_table
 pub mod Applies
 pub mod Counted

@@ -8,7 +8,7 @@ use Rattle.mesa_record.specs.declared.checkpoint.Checkpoint.{Checkpoint}
 use Rattle.mesa_table.specs.mesa_image_spec.Checkpoint.{stated, stock_stated}
 use Rattle.mesa_table.specs.mesa_image_spec.CheckpointFits.{counts_fit, ids_fit, oldest_fits}
 use Rattle.mesa_table.specs.mesa_image_spec.Fitting.{max_runs, names_in}
-use Rattle.mesa_table.specs.mesa_image_spec.mesa_model.Warehouse.{max_tables, max_versions}
+use Rattle.mesa_table.specs.mesa_model.Warehouse.{max_tables, max_versions}
 use Rattle.mesa_table.specs.mesa_image_spec.Ids.{named}
 use Rattle.mesa_table.specs.declared.table.Table.{Table}
 use Rattle.mesa_table.specs.Meaning.{IsTable, stock_of}

@@ -14,9 +14,9 @@ use Rattle.mesa_schema.specs.Laws.{AreFull}
 use Rattle.mesa_schema.specs.Rows.{AreRowsOf, IsRowOf}
 use Rattle.mesa_schema.proofs.Folds.{rows_of-append}
 use Rattle.mesa_schema.proofs.Lists.{all_so}
-use Rattle.mesa_plans.proofs.mesa_batch.Merged.{folds_totals}
+use Rattle.mesa_batch.proofs.Merged.{folds_totals}
 use Rattle.mesa_batch.specs.Totals.{AreAtMost, abs_total, abs_totals, sum_bound, sum_places}
-use Rattle.mesa_plans.proofs.mesa_batch.Sums.{abs_total-next}
+use Rattle.mesa_batch.proofs.Sums.{abs_total-next}
 use Rattle.mesa_check.specs.Faults.{are_at_most, keep_bound}
 use Rattle.mesa_check.proofs.KeyLists.{and_true, true_parts}
 

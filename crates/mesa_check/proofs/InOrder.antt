@@ -3,8 +3,8 @@ use Rattle.std.proofs.Common.{◌≡◌, ◌⊎◌, inl, inr, ◌<◌, ℕ, ◌+
 use Rattle.std.proofs.lemmas.Bool.Decides.{nat_tests}
 use Rattle.std.specs.Prelude.{◌||◌, ⊤, option_map}
 use Rattle.mesa_schema.proofs.Lists.{all_so}
-use Rattle.mesa_image_spec.specs.mesa_span.Ranges.{Rise, ends_of_tens, start_behind}
-use Rattle.mesa_image_spec.proofs.mesa_span.Reachable.{reachable_in_order}
+use Rattle.mesa_plans.specs.mesa_span.Ranges.{Rise, ends_of_tens, start_behind}
+use Rattle.mesa_plans.proofs.mesa_span.Reachable.{reachable_in_order}
 use Rattle.mesa_image_spec.specs.Catalog.{Delta, Ending, Stock, end_in, ranges_of, start_in}
 use Rattle.mesa_image_spec.specs.Shape.{IsShaped}
 use Rattle.mesa_check.specs.Laws.{RangesAreOrdered}

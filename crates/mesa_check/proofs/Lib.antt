@@ -1,8 +1,3 @@
-pub use Rattle.mesa_catalog.proofs as mesa_catalog
-pub use Rattle.mesa_delta.proofs as mesa_delta
-pub use Rattle.mesa_image_spec.proofs.mesa_history_spec as mesa_history_spec
-pub use Rattle.mesa_recover.proofs as mesa_recover
-pub use Rattle.mesa_schema.proofs as mesa_schema
 mod KeyLists
 mod Vectors
 mod Silent

@@ -3,7 +3,7 @@ use Rattle.std.proofs.Common.{◌≡◌, ℕ, List, [], map, sym, ◌∙◌, sub
 use Rattle.std.specs.Prelude.{flat_map, Option, None}
 use Rattle.std.specs.List.{AllByRecursion}
 use Rattle.mesa_disk.specs.Image.{Image}
-use Rattle.mesa_plans.specs.mesa_batch.Bound.{KeepsBound}
+use Rattle.mesa_batch.specs.Bound.{KeepsBound}
 use Rattle.mesa_schema.specs.Changes.{Lineage, columns_of}
 use Rattle.mesa_schema.specs.Columns.{aggs_of}
 use Rattle.mesa_schema.specs.Folded.{folded, rows_of}

@@ -3,16 +3,16 @@ use Rattle.std.proofs.Common.{◌≡◌, ℕ, zero, suc, ◌+◌, ◌<◌, List,
 use Rattle.std.specs.Prelude.{flat_map, is_some, nat_lt, slice_get, unwrap_or, Option, None, Some, IfSome}
 use Rattle.std.specs.List.{AllByRecursion, list_all}
 use Rattle.std.proofs.lemmas.Bool.Decides.{nat_tests}
-use Rattle.mesa_schema.specs.mesa_value.declared.Agg.{Agg}
-use Rattle.mesa_schema.specs.mesa_value.declared.Agg.TheVariants as agg
+use Rattle.mesa_plans.specs.mesa_value.declared.Agg.{Agg}
+use Rattle.mesa_plans.specs.mesa_value.declared.Agg.TheVariants as agg
 use Rattle.mesa_schema.specs.declared.rows.Row.{Row}
 use Rattle.mesa_schema.specs.declared.views.View.{View}
 use Rattle.mesa_schema.specs.Changes.{Lineage, columns_at, columns_of, epoch_of, lifted}
 use Rattle.mesa_schema.specs.Columns.{Columns, aggs_of}
 use Rattle.mesa_schema.specs.Folded.{folded, rows_of}
 use Rattle.mesa_schema.specs.Views.{view_rows}
-use Rattle.mesa_plans.specs.mesa_batch.Bound.{KeepsBound}
-use Rattle.mesa_image_spec.specs.mesa_history_spec.mesa_batch.Totals.{abs_total, sum_bound, sum_places}
+use Rattle.mesa_batch.specs.Bound.{KeepsBound}
+use Rattle.mesa_batch.specs.Totals.{abs_total, sum_bound, sum_places}
 use Rattle.mesa_disk.specs.Image.{Image}
 use Rattle.mesa_record.specs.declared.record.Files.{Files}
 use Rattle.mesa_record.specs.declared.record.ViewRef.{ViewRef}

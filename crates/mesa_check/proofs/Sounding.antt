@@ -17,7 +17,7 @@ use Rattle.mesa_schema.proofs.PresentRows.{present_rise}
 use Rattle.mesa_schema.proofs.RisingRows.{folded_rise}
 use Rattle.mesa_batch.specs.Totals.{AreAtMost, abs_totals, sum_places}
 use Rattle.mesa_disk.specs.Image.{Image}
-use Rattle.mesa_delta.specs.mesa_block.Rows.{IsRow}
+use Rattle.mesa_check_file.specs.mesa_block.Rows.{IsRow}
 use Rattle.mesa_delta.specs.Summary.{file_layout}
 use Rattle.mesa_record.specs.declared.record.Files.{Files}
 use Rattle.mesa_record.specs.declared.record.ViewRef.{ViewRef}

@@ -5,7 +5,7 @@ use Rattle.std.specs.List.{AllByRecursion, list_all}
 use Rattle.std.proofs.lemmas.Bool.Decides.{nat_tests}
 use Rattle.std.proofs.lemmas.List.{length-map, map-append}
 use Rattle.std.proofs.lemmas.List.Sums.{sum_by-append}
-use Rattle.mesa_schema.specs.mesa_value.declared.Agg.{Agg}
+use Rattle.mesa_plans.specs.mesa_value.declared.Agg.{Agg}
 use Rattle.mesa_schema.specs.declared.columns.ValueColumn.{ValueColumn}
 use Rattle.mesa_schema.specs.declared.rows.Row.{Row}
 use Rattle.mesa_schema.specs.Changes.{Lineage, columns_at, columns_of, epoch_of, lifted}
@@ -18,19 +18,19 @@ use Rattle.mesa_schema.proofs.Folds.{folded-folded, rows_of-append}
 use Rattle.mesa_schema.proofs.Lists.{all_drop, all_so}
 use Rattle.mesa_schema.proofs.PresentRows.{present_rise}
 use Rattle.mesa_schema.proofs.RisingRows.{folded_rise}
-use Rattle.mesa_plans.specs.mesa_batch.Bound.{KeepsBound}
-use Rattle.mesa_plans.proofs.mesa_batch.Merged.{folds_totals}
+use Rattle.mesa_batch.specs.Bound.{KeepsBound}
+use Rattle.mesa_batch.proofs.Merged.{folds_totals}
 use Rattle.mesa_disk.specs.Image.{Image}
 use Rattle.mesa_delta.specs.Summary.{file_layout}
 use Rattle.mesa_record.specs.declared.record.Files.{Files}
 use Rattle.mesa_check_file.specs.Difference.{first_difference}
 use Rattle.mesa_check_file.proofs.Differences.{same_where_none}
-use Rattle.mesa_image_spec.specs.mesa_history_spec.mesa_batch.Totals.{abs_total, sum_bound, sum_places}
+use Rattle.mesa_batch.specs.Totals.{abs_total, sum_bound, sum_places}
 use Rattle.mesa_image_spec.specs.Catalog.{Delta, Stock, start_in}
 use Rattle.mesa_image_spec.specs.Contents.{Rows, present, rows_if_any}
 use Rattle.mesa_image_spec.specs.Fitting.{delta_shelved, files_shelved}
 use Rattle.mesa_image_spec.specs.Sound.{IsTold}
-use Rattle.mesa_image_spec.specs.mesa_block.Rows.{IsRow}
+use Rattle.mesa_check_file.specs.mesa_block.Rows.{IsRow}
 use Rattle.mesa_image_spec.proofs.Formed.{all_formed, rows_formed}
 use Rattle.mesa_image_spec.proofs.Lists.{all_front, both_true}
 use Rattle.mesa_image_spec.proofs.Rising.{rising}

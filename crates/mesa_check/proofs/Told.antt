@@ -8,7 +8,7 @@ use Rattle.mesa_schema.specs.Changes.{Lineage, columns_of, epoch_of}
 use Rattle.mesa_schema.specs.declared.rows.Row.{Row}
 use Rattle.mesa_schema.specs.Folded.{rows_of}
 use Rattle.mesa_schema.proofs.Lists.{all_both, all_map, all_so}
-use Rattle.mesa_image_spec.specs.mesa_history_spec.mesa_batch.Totals.{abs_totals}
+use Rattle.mesa_batch.specs.Totals.{abs_totals}
 use Rattle.mesa_image_spec.specs.Catalog.{Delta, Stock, empty_delta, start_in}
 use Rattle.mesa_image_spec.specs.Contents.{present}
 use Rattle.mesa_image_spec.specs.Shape.{IsWithinBound}

@@ -10,7 +10,7 @@ use Rattle.mesa_schema.specs.declared.rows.Row.{Row}
 use Rattle.mesa_schema.specs.Changes.{Lineage, columns_of}
 use Rattle.mesa_schema.specs.Columns.{Columns, aggs_of}
 use Rattle.mesa_schema.proofs.Lists.{all_so}
-use Rattle.mesa_image_spec.specs.mesa_history_spec.mesa_batch.Totals.{abs_total, sum_bound, sum_places}
+use Rattle.mesa_batch.specs.Totals.{abs_total, sum_bound, sum_places}
 use Rattle.mesa_image_spec.specs.Contents.{present}
 use Rattle.mesa_image_spec.proofs.Lists.{both_true}
 use Rattle.mesa_table.specs.declared.table.Table.{Table}

@@ -6,7 +6,7 @@ use Rattle.mesa_key.specs.declared.Format.TheVariants as format
 use Rattle.mesa_key.specs.declared.KeyType.TheVariants as kind
 use Rattle.mesa_schema.specs.declared.rows.Row.{Row}
 use Rattle.mesa_schema.specs.Changes.{Lineage}
-use Rattle.mesa_disk.specs.mesa_file.declared.file_ref.FileRef.{FileRef}
+use Rattle.mesa_tasks.specs.mesa_file.declared.file_ref.FileRef.{FileRef}
 use Rattle.mesa_record.specs.declared.record.ViewRef.{ViewRef}
 use Rattle.mesa_image_spec.specs.Catalog.{Catalog, Delta, empty_delta}
 use Rattle.mesa_check.specs.Found.{Found}

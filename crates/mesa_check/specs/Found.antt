@@ -5,7 +5,7 @@ use Rattle.mesa_schema.specs.declared.rows.Row.{Row}
 use Rattle.mesa_disk.specs.Image.{Image, file_of}
 use Rattle.mesa_delta.specs.File.{IsFile, file_bytes}
 use Rattle.mesa_delta.specs.Summary.{IsReferenceOf}
-use Rattle.mesa_image_spec.specs.mesa_commit.Images.{Has}
+use Rattle.mesa_plans.specs.mesa_commit.Images.{Has}
 use Rattle.mesa_image_spec.specs.Catalog.{Catalog}
 use Rattle.mesa_image_spec.specs.Fitting.{Shelved, shelved}
 use Rattle.mesa_image_spec.specs.Contents.{Rows}

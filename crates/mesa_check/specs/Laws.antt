@@ -2,7 +2,7 @@
 use Rattle.std.specs.Prelude.{◌≡◌, IsTrue, None}
 use Rattle.std.specs.List.{AllByRecursion}
 use Rattle.mesa_disk.specs.Image.{Image}
-use Rattle.mesa_image_spec.specs.mesa_commit.Images.{Has}
+use Rattle.mesa_plans.specs.mesa_commit.Images.{Has}
 use Rattle.mesa_image_spec.specs.Catalog.{Catalog, Stock}
 use Rattle.mesa_image_spec.specs.Fitting.{shelved}
 use Rattle.mesa_image_spec.specs.Contents.{Rows}

@@ -4,7 +4,7 @@ use Rattle.std.specs.List.{AllByRecursion}
 use Rattle.mesa_disk.specs.Image.{Image}
 use Rattle.mesa_schema.specs.Changes.{Lineage, columns_of}
 use Rattle.mesa_schema.specs.declared.rows.Row.{Row}
-use Rattle.mesa_image_spec.specs.mesa_history_spec.mesa_batch.Totals.{abs_totals}
+use Rattle.mesa_batch.specs.Totals.{abs_totals}
 use Rattle.mesa_image_spec.specs.Catalog.{Delta}
 use Rattle.mesa_image_spec.specs.Contents.{present}
 use Rattle.mesa_image_spec.specs.Fitting.{Shelved, delta_shelved}

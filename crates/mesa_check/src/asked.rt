@@ -2,7 +2,7 @@
 ghost use Rattle.std.specs.Prelude.{◌≡◌, ◌++◌, ◌&&◌, ◌||◌, not, ℕ, List, map, is_some, IfOk, IfSome};
 ghost use Rattle.std.specs.List.{AllByRecursion};
 ghost use Rattle.mesa_disk.specs.Image.{Image};
-ghost use Rattle.mesa_image_spec.specs.mesa_history_spec.mesa_batch.Totals.{abs_totals};
+ghost use Rattle.mesa_batch.specs.Totals.{abs_totals};
 ghost use Rattle.mesa_image_spec.specs.Contents.{present as present_of};
 ghost use Rattle.mesa_schema.specs.Changes.{Lineage, columns_of};
 ghost use Rattle.mesa_schema.specs.declared.rows.Row.{Row as AnyRow};

@@ -3,7 +3,7 @@ ghost use Rattle.std.specs.Prelude.{◌≡◌, ◌<◌, ◌≤◌, ◌&&◌, ℕ
 ghost use Rattle.std.specs.List.{AllByRecursion, list_all};
 ghost use Rattle.mesa_disk.specs.Image.{Image};
 ghost use Rattle.mesa_disk.specs.Story.{Unmoved};
-ghost use Rattle.mesa_image_spec.specs.mesa_history_spec.mesa_batch.Totals.{sum_bound};
+ghost use Rattle.mesa_batch.specs.Totals.{sum_bound};
 ghost use Rattle.mesa_image_spec.specs.Fitting.{stock_shelved};
 ghost use Rattle.mesa_plans.specs.Lent.{now_if_any};
 ghost use Rattle.mesa_schema.specs.Changes.{epoch_of};

@@ -1,7 +1,7 @@
 // Absolute values added up and compared. A total of 2^128 or more stands as 2^128 - 1, which is more than any total that is recorded, as those are within the bound.
 ghost use Rattle.std.specs.Prelude.{◌≡◌, ◌<◌, ◌+◌, ◌++◌, ◌==◌, ◌&&◌, ℕ, List, [], length, map, min, nat_eq, nat_le, nat_lt, zip, IfOk, IfSome, Some, true, flat_map};
 ghost use Rattle.std.specs.List.{AllByRecursion, list_all};
-ghost use Rattle.mesa_image_spec.specs.mesa_history_spec.mesa_batch.Totals.{abs_totals, sum_bound};
+ghost use Rattle.mesa_batch.specs.Totals.{abs_totals, sum_bound};
 ghost use Rattle.mesa_schema.specs.Changes.{Lineage, columns_of};
 ghost use Rattle.mesa_schema.specs.Columns.{Columns};
 ghost use Rattle.mesa_schema.specs.declared.rows.Row.{Row as AnyRow};

@@ -3,17 +3,17 @@ use Rattle.std.proofs.Common.{◌≡◌, ℕ, List, [], ◌∷◌, length, map, 
 use Rattle.std.specs.Prelude.{Option, None, Some}
 use Rattle.std.specs.List.{AllByRecursion}
 use Rattle.sha2.specs.Sha256.{sha256}
-use Rattle.mesa_schema.specs.mesa_key.Order.{short_key}
+use Rattle.mesa_key.specs.Order.{short_key}
 use Rattle.mesa_schema.specs.declared.rows.Row.{Row}
 use Rattle.mesa_schema.specs.declared.lifting.Lift.{Lift}
 use Rattle.mesa_schema.specs.Changes.{Lineage, columns_at, columns_of, epoch_of, lifted}
 use Rattle.mesa_schema.specs.Columns.{Columns}
 use Rattle.mesa_schema.specs.Lifting.{Lifts, lifted_with}
 use Rattle.mesa_schema.specs.Rows.{AreRowsOf}
-use Rattle.mesa_tasks.specs.mesa_history_spec.mesa_batch.Totals.{abs_totals}
+use Rattle.mesa_tasks.specs.mesa_batch.Totals.{abs_totals}
 use Rattle.mesa_block.specs.Layout.{Layout}
 use Rattle.mesa_block.specs.Rows.{IsRow}
-use Rattle.mesa_disk.specs.mesa_file.declared.file_ref.FileRef.{FileRef}
+use Rattle.mesa_tasks.specs.mesa_file.declared.file_ref.FileRef.{FileRef}
 use Rattle.mesa_disk.specs.Image.{Image, file_of}
 use Rattle.mesa_delta.specs.File.{IsFile, file_bytes, file_tail}
 use Rattle.mesa_delta.specs.Indexed.{Indexed, IsIndex, IsIndexOf, tail_length}

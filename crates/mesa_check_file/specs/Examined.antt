@@ -4,8 +4,8 @@ use Rattle.mesa_schema.specs.declared.rows.Row.{Row}
 use Rattle.mesa_schema.specs.Columns.{Columns}
 use Rattle.mesa_schema.specs.Lifting.{lifted_with}
 use Rattle.mesa_schema.specs.declared.lifting.Lift.{Lift}
-use Rattle.mesa_tasks.specs.mesa_history_spec.mesa_batch.Totals.{abs_totals}
-use Rattle.mesa_disk.specs.mesa_file.declared.file_ref.FileRef.{FileRef}
+use Rattle.mesa_tasks.specs.mesa_batch.Totals.{abs_totals}
+use Rattle.mesa_tasks.specs.mesa_file.declared.file_ref.FileRef.{FileRef}
 use Rattle.mesa_disk.specs.Image.{Image, file_of}
 use Rattle.mesa_delta.specs.File.{IsFile, file_bytes}
 use Rattle.mesa_delta.specs.Summary.{IsReferenceOf}

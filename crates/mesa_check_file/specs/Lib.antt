@@ -1,3 +1,4 @@
+pub use Rattle.mesa_block.specs as mesa_block
 pub mod Aggregates
 pub mod Sums
 pub mod Tallies

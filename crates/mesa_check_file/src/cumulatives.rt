@@ -8,7 +8,7 @@ ghost use Rattle.mesa_schema.specs.declared.rows.Row.{Row as AnyRow};
 ghost use Rattle.mesa_schema.specs.Changes.{columns_of};
 ghost use Rattle.mesa_schema.specs.Columns.{Columns, aggs_of};
 ghost use Rattle.mesa_schema.specs.Folded.{folded, rows_of};
-ghost use Rattle.mesa_batch.specs.Bound.{KeepsBound};
+ghost use Rattle.mesa_tasks.specs.mesa_batch.Bound.{KeepsBound};
 ghost use Rattle.mesa_delta.specs.Reading.{IsIndexed, index_of};
 ghost use Rattle.mesa_scan.specs.Cursors.{IsInput, lift_by, reader_in};
 ghost use Rattle.mesa_merge.specs.Inputs.{AreInputs, AreTold, knowns_of, lifted_parts};

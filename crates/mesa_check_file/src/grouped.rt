@@ -1,12 +1,12 @@
 // A view's file compared with the rows of a table's file, grouped.
 ghost use Rattle.std.specs.Prelude.{◌≡◌, ◌∷◌, [], ◌<◌, ℕ, List, length, map, slice_get, IfErr, IfOk, IfSome, IsTrue, None, Some};
-ghost use Rattle.mesa_disk.specs.mesa_io.Causes.{HasFaultCause};
-ghost use Rattle.mesa_disk.specs.mesa_file.declared.damage.Damage.{Damage as AnyDamage};
+ghost use Rattle.mesa_tasks.specs.mesa_io.Causes.{HasFaultCause};
+ghost use Rattle.mesa_tasks.specs.mesa_file.declared.damage.Damage.{Damage as AnyDamage};
 ghost use Rattle.mesa_schema.specs.declared.rows.Row.{Row as AnyRow};
 ghost use Rattle.mesa_schema.specs.Changes.{columns_of};
 ghost use Rattle.mesa_schema.specs.Rows.{keys_rise};
 ghost use Rattle.mesa_schema.specs.Views.{view_rows};
-ghost use Rattle.mesa_answer.specs.Answering.{KeepsSums};
+ghost use Rattle.mesa_view.specs.mesa_answer.Answering.{KeepsSums};
 ghost use Rattle.mesa_delta.specs.Reading.{IsIndexed, index_of};
 ghost use Rattle.mesa_delta.specs.declared.error.FileError.TheVariants as file_error;
 ghost use Rattle.mesa_scan.specs.Cursors.{HasGiven, IsInput, IsSameInput, lift_by, low_of, reader_in};

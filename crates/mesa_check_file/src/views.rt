@@ -6,7 +6,7 @@ ghost use Rattle.mesa_disk.specs.Story.{Unmoved};
 ghost use Rattle.mesa_schema.specs.declared.rows.Row.{Row as AnyRow};
 ghost use Rattle.mesa_schema.specs.Changes.{columns_of};
 ghost use Rattle.mesa_schema.specs.Views.{view_rows};
-ghost use Rattle.mesa_answer.specs.Answering.{KeepsSums};
+ghost use Rattle.mesa_view.specs.mesa_answer.Answering.{KeepsSums};
 ghost use Rattle.mesa_delta.specs.Reading.{IsIndexed, index_of};
 ghost use Rattle.mesa_scan.specs.Cursors.{IsInput, lift_by, reader_in};
 ghost use Rattle.mesa_tasks.specs.Opening.{Counted, HasEpoch};

@@ -1,9 +1,9 @@
 -- What stays adopted.
 use Rattle.std.proofs.Common.{◌≡◌, ◌≢◌, ◌⊎◌, inl, inr, ⊎_elim, ℕ, zero, suc, ◌<◌, ◌≤◌, List, [], ◌∷◌, Option, None, refl, ◌∙◌, ap, subst, arith}
 use Rattle.std.specs.List.{AllByRecursion}
-use Rattle.mesa_commit.specs.mesa_disk.Image.{Image, file_of}
-use Rattle.mesa_commit.specs.mesa_disk.Story.{Steps}
-use Rattle.mesa_commit.specs.mesa_disk.Files.{HasOtherIds, IsNoneOf}
+use Rattle.mesa_disk.specs.Image.{Image, file_of}
+use Rattle.mesa_disk.specs.Story.{Steps}
+use Rattle.mesa_disk.specs.Files.{HasOtherIds, IsNoneOf}
 use Rattle.mesa_commit.specs.Images.{Has}
 use Rattle.mesa_commit.specs.Turn.{MovesOnly, made_ids}
 use Rattle.mesa_commit.specs.Holding.{Among}

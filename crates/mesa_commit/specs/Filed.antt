@@ -1,9 +1,9 @@
 -- What is kept of the files of a disk while turns name, drop and remove them.
 use Rattle.std.specs.Prelude.{◌≡◌, ◌⊎◌, ℕ, ◌+◌, ◌<◌, ◌≤◌, List, ◌++◌, map, Option, None, Some}
 use Rattle.std.specs.List.{AllByRecursion}
-use Rattle.mesa_commit.specs.mesa_disk.Image.{Image, file_of}
-use Rattle.mesa_commit.specs.mesa_disk.Files.{AreGone}
-use Rattle.mesa_commit.specs.mesa_disk.Story.{Steps}
+use Rattle.mesa_disk.specs.Image.{Image, file_of}
+use Rattle.mesa_disk.specs.Files.{AreGone}
+use Rattle.mesa_disk.specs.Story.{Steps}
 use Rattle.mesa_commit.specs.Images.{Has, ids_of as ids_in}
 use Rattle.mesa_commit.specs.Turn.{MovesOnly, made_ids}
 use Rattle.mesa_commit.specs.declared.trash.Hold.{Hold}

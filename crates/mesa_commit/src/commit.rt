@@ -1,6 +1,6 @@
 ghost use Rattle.std.specs.Prelude.{◌≡◌, ◌+◌, ◌<◌, ◌≤◌, ℕ, List, [], ◌∷◌, ◌++◌, map, length, IfOk, OnOk, Some};
 ghost use Rattle.mesa_disk.specs.mesa_io.Causes.{HasCause, Rose};
-ghost use Rattle.mesa_disk.specs.mesa_key.Spelling.{AreBytes};
+ghost use Rattle.mesa_journal.specs.mesa_key.Spelling.{AreBytes};
 ghost use Rattle.mesa_disk.specs.Image.{Image};
 ghost use Rattle.mesa_disk.specs.Files.{files_of, AreAbsent, AreGone, AreThere, HasDistinctIds};
 ghost use Rattle.mesa_disk.specs.Story.{Spans, Steps};

@@ -1,7 +1,7 @@
 -- Why no file was written, told on.
 use Rattle.std.proofs.Common.{◌≡◌, ℕ, ◌<◌, ◌≤◌, List, [], ◌∷◌, ◌++◌, refl, sym, ◌∙◌, ap, subst, arith, inl, inr}
 use Rattle.std.specs.Prelude.{Result, Ok, Err}
-use Rattle.mesa_io.specs.Causes.{HasFaultCause, Rose}
+use Rattle.mesa_tasks.specs.mesa_io.Causes.{HasFaultCause, Rose}
 use Rattle.mesa_disk.specs.declared.failures.DraftError.{DraftError}
 use Rattle.mesa_disk.specs.declared.failures.DraftError.TheVariants as draft
 use Rattle.mesa_file.specs.declared.damage.Damage.{Damage}

@@ -9,10 +9,10 @@ use Rattle.std.proofs.lemmas.List.Sums.{sum_by-append}
 use Rattle.std.specs.Ordering.{is_lt}
 use Rattle.std.specs.declared.cmp.Ordering.{Ordering}
 use Rattle.std.specs.declared.cmp.Ordering.TheVariants.{Less, Equal, Greater}
-use Rattle.mesa_key.specs.Order.{byte_cmp}
-use Rattle.mesa_value.specs.declared.Agg.{Agg}
-use Rattle.mesa_value.specs.declared.Agg.TheVariants.{Sum, Min, Max, Replace}
-use Rattle.mesa_value.specs.Agg.{Combines}
+use Rattle.mesa_view.specs.mesa_key.Order.{byte_cmp}
+use Rattle.mesa_view.specs.mesa_value.declared.Agg.{Agg}
+use Rattle.mesa_view.specs.mesa_value.declared.Agg.TheVariants.{Sum, Min, Max, Replace}
+use Rattle.mesa_view.specs.mesa_value.Agg.{Combines}
 use Rattle.mesa_schema.specs.declared.rows.Row.{Row}
 use Rattle.mesa_schema.specs.declared.columns.ValueColumn.{ValueColumn}
 use Rattle.mesa_schema.specs.Columns.{Columns, aggs_of}
@@ -20,8 +20,8 @@ use Rattle.mesa_schema.specs.Folded.{row_combined, combined_from, folded, rows_o
 use Rattle.mesa_schema.specs.Rows.{AreRowsOf, IsRowOf, keys_rise}
 use Rattle.mesa_batch.specs.Totals.{abs_total, sum_bound}
 use Rattle.mesa_batch.specs.Bound.{FoldsTotals, KeepsBound}
-use Rattle.mesa_block.specs.Rows.{IsRow, Rise}
-use Rattle.mesa_block.specs.Spelling.{key_of}
+use Rattle.mesa_tasks.specs.mesa_block.Rows.{IsRow, Rise}
+use Rattle.mesa_tasks.specs.mesa_block.Spelling.{key_of}
 use Rattle.mesa_delta.specs.Summary.{all_noted, aggregates, new_layout, values_of, AllCombine}
 use Rattle.mesa_merge.proofs.Bounds.{abs_fronts, full_all}
 use Rattle.mesa_merge.proofs.Combining.{aggs_count}

@@ -1,3 +1,4 @@
+pub use Rattle.mesa_merge.proofs as mesa_merge
 pub mod Following
 pub mod Causing
 pub mod Putting

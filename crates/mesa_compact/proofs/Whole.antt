@@ -5,8 +5,8 @@ use Rattle.std.specs.Prelude.{Option, None, map, Result, Ok, Err, IfErr, IfOk}
 use Rattle.std.specs.FinMap.Entries.{by_order}
 use Rattle.std.specs.declared.cmp.Ordering.{Ordering}
 use Rattle.std.specs.declared.cmp.Ordering.TheVariants.{Less, Equal, Greater}
-use Rattle.mesa_key.specs.Order.{byte_cmp}
-use Rattle.mesa_value.specs.declared.Agg.{Agg}
+use Rattle.mesa_view.specs.mesa_key.Order.{byte_cmp}
+use Rattle.mesa_view.specs.mesa_value.declared.Agg.{Agg}
 use Rattle.mesa_schema.specs.declared.rows.Row.{Row}
 use Rattle.mesa_schema.specs.Columns.{Columns, aggs_of}
 use Rattle.mesa_schema.specs.Folded.{folded, folded_at, keys_of, rows_of, with_key}

@@ -1,7 +1,7 @@
 -- What damage is told where merged rows are grouped by other columns.
 use Rattle.std.specs.Prelude.{◌≡◌, ◌⊎◌, ℕ, ◌≤◌, List, Option, Some, slice_get}
 use Rattle.mesa_file.specs.declared.damage.Damage.{Damage}
-use Rattle.mesa_value.specs.declared.Agg.TheVariants.{Sum}
+use Rattle.mesa_view.specs.mesa_value.declared.Agg.TheVariants.{Sum}
 use Rattle.mesa_schema.specs.declared.rows.Row.{Row}
 use Rattle.mesa_schema.specs.Columns.{Columns, aggs_of}
 use Rattle.mesa_schema.specs.Folded.{folded, grouped}

@@ -3,7 +3,7 @@ use Rattle.std.specs.Prelude.{◌≡◌, ℕ, ◌<◌, List, Vec, length, slice_
 use Rattle.std.specs.declared.alloc.Global.{Global}
 use Rattle.mesa_schema.specs.declared.views.View.{View}
 use Rattle.mesa_schema.specs.Columns.{Columns}
-use Rattle.mesa_filter.specs.Query.{are_places}
+use Rattle.mesa_tasks.specs.mesa_filter.Query.{are_places}
 use Rattle.mesa_delta.specs.declared.input.Input.{Input}
 use Rattle.mesa_answer.specs.Gathering.{Wanted}
 use Rattle.mesa_answer.specs.Regrouping.{PlacesSeen, places_seen}

@@ -1,6 +1,6 @@
 -- What comes of a file that is written from a merge.
 use Rattle.std.specs.Prelude.{◌≡◌, ℕ, List, Result, IfErr}
-use Rattle.mesa_io.specs.Causes.{HasFaultCause}
+use Rattle.mesa_tasks.specs.mesa_io.Causes.{HasFaultCause}
 use Rattle.mesa_file.specs.declared.damage.Damage.{Damage}
 use Rattle.mesa_delta.specs.declared.error.FileError.TheVariants as file
 use Rattle.mesa_merge.specs.Faults.{HaveFaultCause}

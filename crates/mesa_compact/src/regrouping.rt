@@ -7,7 +7,7 @@ ghost use Rattle.mesa_schema.specs.Columns.{aggs_of};
 ghost use Rattle.mesa_schema.specs.Folded.{folded, grouped};
 ghost use Rattle.mesa_schema.specs.Rows.{AreRowsOf, keys_rise};
 ghost use Rattle.mesa_batch.specs.Totals.{abs_totals, sum_bound};
-ghost use Rattle.mesa_filter.specs.Query.{are_places};
+ghost use Rattle.mesa_tasks.specs.mesa_filter.Query.{are_places};
 ghost use Rattle.mesa_answer.specs.Answering.{KeepsSums, grouped_columns};
 ghost use Rattle.mesa_answer.specs.Gathered.{HasPut, wanted_of};
 ghost use Rattle.mesa_tasks.specs.mesa_scan.Cursors.{IsInput};

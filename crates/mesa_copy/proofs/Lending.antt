@@ -9,8 +9,8 @@ use Rattle.mesa_schema.specs.Recasts.{Recast}
 use Rattle.mesa_delta.specs.declared.input.Input.{Input}
 use Rattle.mesa_compact.specs.mesa_answer.Answering.{grouped_columns}
 use Rattle.mesa_file.specs.declared.damage.Damage.{Damage}
-use Rattle.mesa_merge.specs.Faults.{faults_of}
-use Rattle.mesa_merge.specs.Inputs.{known_of, knowns_of}
+use Rattle.mesa_compact.specs.mesa_merge.Faults.{faults_of}
+use Rattle.mesa_compact.specs.mesa_merge.Inputs.{known_of, knowns_of}
 use Rattle.mesa_tasks.specs.Made.{Content}
 use Rattle.mesa_tasks.specs.Recasts.{recast_content}
 use Rattle.mesa_tasks.specs.declared.merging.CompactError.{CompactError}

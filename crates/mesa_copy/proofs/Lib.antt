@@ -1,4 +1,3 @@
-pub use Rattle.mesa_compact.proofs as mesa_compact
 pub mod Numbering
 pub mod Rewriting
 pub mod Counting

@@ -6,7 +6,7 @@ use Rattle.mesa_schema.specs.Columns.{Columns, aggs_of}
 use Rattle.mesa_schema.specs.Folded.{folded}
 use Rattle.mesa_schema.specs.Recasts.{Recast}
 use Rattle.mesa_delta.specs.declared.input.Input.{Input}
-use Rattle.mesa_merge.specs.Inputs.{AreTold, Known, known_of, knowns_of, lifted_parts}
+use Rattle.mesa_compact.specs.mesa_merge.Inputs.{AreTold, Known, known_of, knowns_of, lifted_parts}
 use Rattle.mesa_compact.specs.Bounded.{AreBounded}
 use Rattle.mesa_compact.proofs.Tasking.{known_parts, told_inputs}
 use Rattle.mesa_tasks.specs.Inputs.{IsMergeOf}

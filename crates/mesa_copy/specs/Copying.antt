@@ -5,7 +5,7 @@ use Rattle.mesa_file.specs.declared.damage.Damage.{Damage}
 use Rattle.mesa_schema.specs.Changes.{columns_of}
 use Rattle.mesa_schema.specs.Columns.{Columns}
 use Rattle.mesa_schema.specs.Recasts.{recast_keys, recast_values}
-use Rattle.mesa_merge.specs.Inputs.{Known, known_of, knowns_of}
+use Rattle.mesa_compact.specs.mesa_merge.Inputs.{Known, known_of, knowns_of}
 use Rattle.mesa_tasks.specs.Recasts.{own, recast_in, recast_table}
 use Rattle.mesa_tasks.specs.declared.recasting.Recast.{Recast}
 use Rattle.mesa_tasks.specs.declared.recasting.RecastRange.{RecastRange}

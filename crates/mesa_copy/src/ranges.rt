@@ -2,7 +2,7 @@
 ghost use Rattle.std.specs.Prelude.{◌≡◌, ◌++◌, ℕ, List, flat_map, length, take, IfErr, OnOk};
 ghost use Rattle.mesa_file.specs.declared.damage.Damage.{Damage as AnyDamage};
 ghost use Rattle.mesa_schema.specs.Recasts.{Recast as Asked};
-ghost use Rattle.mesa_merge.specs.Faults.{faults_of};
+ghost use Rattle.mesa_compact.specs.mesa_merge.Faults.{faults_of};
 ghost use Rattle.mesa_tasks.specs.Recasts.{AreRangesOf, AreRewritten, own, recast_ids};
 ghost use Rattle.mesa_tasks.specs.Serials.{AreNext, after_drafts};
 ghost use Rattle.mesa_tasks.specs.declared.recasting.RecastedRange.{RecastedRange as AnyRange};

@@ -3,7 +3,7 @@ ghost use Rattle.std.specs.Prelude.{◌≡◌, ◌++◌, ℕ, List, IfErr, IfOk,
 ghost use Rattle.mesa_file.specs.declared.damage.Damage.{Damage as AnyDamage};
 ghost use Rattle.mesa_schema.specs.Changes.{columns_of};
 ghost use Rattle.mesa_schema.specs.Recasts.{recast_keys, recast_values};
-ghost use Rattle.mesa_merge.specs.Faults.{faults_of};
+ghost use Rattle.mesa_compact.specs.mesa_merge.Faults.{faults_of};
 ghost use Rattle.mesa_tasks.specs.Recasts.{IsRecastTask, IsRecasted, IsRecastedSoFar, recast_in, recast_ids, recast_inputs, recast_table};
 ghost use Rattle.mesa_tasks.specs.Serials.{AreNext, after_drafts};
 ghost use Rattle.mesa_tasks.specs.declared.recasting.RecastedRange.{RecastedRange as AnyRange};

@@ -4,28 +4,28 @@ use Rattle.std.specs.List.{AllByRecursion}
 use Rattle.std.proofs.lemmas.Bool.{and_left, and_parts, and_right, not-true, or_from, or_parts}
 use Rattle.std.proofs.lemmas.List.{map-append}
 use mathlib.Core.List.{IsPrefix}
-use Rattle.mesa_disk.specs.mesa_io.Causes.{last}
+use Rattle.mesa_io.specs.Causes.{last}
 use Rattle.mesa_turn.specs.History.{has}
 use Rattle.mesa_turn.specs.Passes.{Known, Finds, IsExact, Joins}
 use Rattle.mesa_turn.proofs.Laws.{others_first, others_second}
-use Rattle.mesa_publishing.specs.mesa_model.declared.commands.Command.{Command}
-use Rattle.mesa_publishing.specs.mesa_model.declared.commands.Command.TheVariants as command
-use Rattle.mesa_publishing.specs.mesa_model.declared.commands.Script.{Script}
-use Rattle.mesa_publishing.specs.mesa_model.declared.entries.Entry.{Entry}
-use Rattle.mesa_publishing.specs.mesa_model.declared.entries.Kind.{Kind}
-use Rattle.mesa_publishing.specs.mesa_model.declared.entries.Kind.TheVariants as kind
-use Rattle.mesa_publishing.specs.mesa_model.declared.entries.Outcome.{Outcome}
-use Rattle.mesa_publishing.specs.mesa_model.declared.entries.Outcome.TheVariants as outcome
-use Rattle.mesa_publishing.specs.mesa_model.Entry.{entry_of, history_of, numbers_of}
-use Rattle.mesa_publishing.proofs.mesa_model.Numbers.{history_told}
-use Rattle.mesa_publishing.specs.mesa_model.Warehouse.{Store}
-use Rattle.mesa_publishing.specs.mesa_history_spec.Counting.{answers_bench, count_in, is_bench_fault, one_if}
-use Rattle.mesa_publishing.specs.mesa_history_spec.Legal.{AllFit, Fits, builds_files_in, is_query, is_same_moment, is_unwritten, is_work, outcome_fits, outcome_fits_in, same_kind, would_write}
-use Rattle.mesa_publishing.specs.mesa_history_spec.Replay.{closes, go, runs}
-use Rattle.mesa_publishing.specs.mesa_history_spec.Run.{Run, State, begins, command_at, command_of}
-use Rattle.mesa_publishing.proofs.mesa_history_spec.Counting.{count_more}
-use Rattle.mesa_publishing.specs.mesa_invariant_spec.Turns.{AnswersDraft, Shown, entry, is_load, is_simple}
-use Rattle.mesa_publishing.specs.mesa_invariant_spec.Invariant.{run_at}
+use Rattle.mesa_model.specs.declared.commands.Command.{Command}
+use Rattle.mesa_model.specs.declared.commands.Command.TheVariants as command
+use Rattle.mesa_model.specs.declared.commands.Script.{Script}
+use Rattle.mesa_model.specs.declared.entries.Entry.{Entry}
+use Rattle.mesa_model.specs.declared.entries.Kind.{Kind}
+use Rattle.mesa_model.specs.declared.entries.Kind.TheVariants as kind
+use Rattle.mesa_model.specs.declared.entries.Outcome.{Outcome}
+use Rattle.mesa_model.specs.declared.entries.Outcome.TheVariants as outcome
+use Rattle.mesa_model.specs.Entry.{entry_of, history_of, numbers_of}
+use Rattle.mesa_model.proofs.Numbers.{history_told}
+use Rattle.mesa_model.specs.Warehouse.{Store}
+use Rattle.mesa_recast_turns.specs.mesa_history_spec.Counting.{answers_bench, count_in, is_bench_fault, one_if}
+use Rattle.mesa_recast_turns.specs.mesa_history_spec.Legal.{AllFit, Fits, builds_files_in, is_query, is_same_moment, is_unwritten, is_work, outcome_fits, outcome_fits_in, same_kind, would_write}
+use Rattle.mesa_recast_turns.specs.mesa_history_spec.Replay.{closes, go, runs}
+use Rattle.mesa_recast_turns.specs.mesa_history_spec.Run.{Run, State, begins, command_at, command_of}
+use Rattle.mesa_engine.proofs.mesa_history_spec.Counting.{count_more}
+use Rattle.mesa_recast_turns.specs.mesa_invariant_spec.Turns.{AnswersDraft, Shown, entry, is_load, is_simple}
+use Rattle.mesa_recast_turns.specs.mesa_invariant_spec.Invariant.{run_at}
 use Rattle.mesa_core.specs.Answers.{Answers, AreTimely, Owes, answered, answered_in}
 use Rattle.mesa_core.proofs.Behind.{Others, all_behind, found_behind, none_others, within_one}
 use Rattle.mesa_core.proofs.Turning.{Step, step_seen}

@@ -8,13 +8,13 @@ use Rattle.mesa_turn.specs.History.{name_of, has, Within, entries_of}
 use Rattle.mesa_turn.specs.Passes.{Known, Finds, IsExact, Joins}
 use Rattle.mesa_turn.proofs.Names.{has_one}
 use Rattle.mesa_turn.proofs.Laws.{none_behind, others_found, others_first, others_second}
-use Rattle.mesa_publishing.specs.mesa_model.declared.commands.Script.{Script}
-use Rattle.mesa_publishing.specs.mesa_model.declared.entries.Entry.{Entry}
-use Rattle.mesa_publishing.specs.mesa_model.Entry.{entry_of, history_of}
-use Rattle.mesa_publishing.specs.mesa_history_spec.Run.{State, Run, place_of, begins}
-use Rattle.mesa_publishing.specs.mesa_history_spec.Replay.{runs}
-use Rattle.mesa_publishing.proofs.mesa_history_spec.More.{runs-append}
-use Rattle.mesa_publishing.proofs.mesa_history_spec.Places.{others_keep}
+use Rattle.mesa_model.specs.declared.commands.Script.{Script}
+use Rattle.mesa_model.specs.declared.entries.Entry.{Entry}
+use Rattle.mesa_model.specs.Entry.{entry_of, history_of}
+use Rattle.mesa_recast_turns.specs.mesa_history_spec.Run.{State, Run, place_of, begins}
+use Rattle.mesa_recast_turns.specs.mesa_history_spec.Replay.{runs}
+use Rattle.mesa_engine.proofs.mesa_history_spec.More.{runs-append}
+use Rattle.mesa_engine.proofs.mesa_history_spec.Places.{others_keep}
 use Rattle.mesa_core.specs.Passes.{run_seen}
 
 -- no entry of these numbers is a session's

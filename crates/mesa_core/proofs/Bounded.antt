@@ -3,14 +3,14 @@ use Rattle.std.proofs.Common.{◌≡◌, ◌∙◌, ℕ, zero, suc, ◌+◌, Lis
 use Rattle.std.specs.Prelude.{Vec, option_map, slice_get}
 use Rattle.std.specs.List.{AllByRecursion}
 use Rattle.std.specs.declared.alloc.Global.{Global}
-use Rattle.mesa_publishing.specs.mesa_schema.declared.views.View.{View}
-use Rattle.mesa_publishing.specs.mesa_schema.Changes.{Lineage, columns_of}
-use Rattle.mesa_publishing.specs.mesa_schema.Columns.{Columns}
-use Rattle.mesa_publishing.specs.mesa_schema.Views.{view_columns}
-use Rattle.mesa_publishing.specs.mesa_copy.mesa_compact.Bounded.{AreBounded, AreOwnBounded, IsBounded}
-use Rattle.mesa_publishing.specs.mesa_copy.mesa_compact.Tasks.{KnownView, known_view}
-use Rattle.mesa_tasks.specs.mesa_delta.declared.input.Input.{Input}
-use Rattle.mesa_publishing.specs.mesa_copy.mesa_compact.mesa_merge.Inputs.{Known, knowns_of}
+use Rattle.mesa_recast_turns.specs.mesa_schema.declared.views.View.{View}
+use Rattle.mesa_recast_turns.specs.mesa_schema.Changes.{Lineage, columns_of}
+use Rattle.mesa_recast_turns.specs.mesa_schema.Columns.{Columns}
+use Rattle.mesa_recast_turns.specs.mesa_schema.Views.{view_columns}
+use Rattle.mesa_recast_turns.specs.mesa_compact.Bounded.{AreBounded, AreOwnBounded, IsBounded}
+use Rattle.mesa_recast_turns.specs.mesa_compact.Tasks.{KnownView, known_view}
+use Rattle.mesa_delta.specs.declared.input.Input.{Input}
+use Rattle.mesa_recast_turns.specs.mesa_merge.Inputs.{Known, knowns_of}
 use Rattle.mesa_core.specs.Works.{known_task}
 use Rattle.mesa_tasks.specs.Inputs.{AreInputsOf}
 use Rattle.mesa_tasks.specs.Tasks.{IsTask}

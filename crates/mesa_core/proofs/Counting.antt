@@ -2,16 +2,16 @@
 use Rattle.std.proofs.Common.{◌≡◌, ℕ, zero, suc, ◌+◌, ◌<◌, ◌≤◌, ◌==◌, ne_eqb, true, false, List, [], ◌∷◌, length, refl, sym, ap, ◌∙◌, subst, arith, Option, None, Some, ⊎_elim}
 use Rattle.std.specs.List.{AllByRecursion}
 use Rattle.std.proofs.lemmas.Bool.{cases_lt}
-use Rattle.mesa_disk.specs.mesa_io.Causes.{last}
+use Rattle.mesa_io.specs.Causes.{last}
 use Rattle.mesa_turn.specs.History.{has, entries_of}
 use Rattle.mesa_turn.specs.Passes.{Known, Joins}
-use Rattle.mesa_publishing.specs.mesa_model.declared.commands.Script.{Script}
-use Rattle.mesa_publishing.specs.mesa_model.declared.entries.Entry.{Entry}
-use Rattle.mesa_publishing.specs.mesa_model.Entry.{history_of}
-use Rattle.mesa_publishing.specs.mesa_history_spec.Counting.{count_in}
-use Rattle.mesa_publishing.specs.mesa_history_spec.Legal.{AllFit}
-use Rattle.mesa_publishing.specs.mesa_history_spec.Run.{State, begins}
-use Rattle.mesa_publishing.proofs.mesa_history_spec.Due.{fit_below}
+use Rattle.mesa_model.specs.declared.commands.Script.{Script}
+use Rattle.mesa_model.specs.declared.entries.Entry.{Entry}
+use Rattle.mesa_model.specs.Entry.{history_of}
+use Rattle.mesa_recast_turns.specs.mesa_history_spec.Counting.{count_in}
+use Rattle.mesa_recast_turns.specs.mesa_history_spec.Legal.{AllFit}
+use Rattle.mesa_recast_turns.specs.mesa_history_spec.Run.{State, begins}
+use Rattle.mesa_engine.proofs.mesa_history_spec.Due.{fit_below}
 use Rattle.mesa_core.specs.Answers.{Answers, HasCounted, HaveCounted, answered, answered_in}
 use Rattle.mesa_core.specs.Passes.{HaveEnded}
 use Rattle.mesa_core.proofs.Answering.{answered_behind, answered_first, answered_second, none_answered, timely_before}

@@ -7,14 +7,14 @@ use native.Mathlib.Decide.{ℕ_discrete}
 use Rattle.mesa_turn.specs.History.{name_of, has, has_at, entries_of, longer_of}
 use Rattle.mesa_turn.specs.Passes.{Known, IsExact, Joins, HasNone, left_of, part_of}
 use Rattle.mesa_turn.proofs.Names.{has_itself, has_without, has_first, has_second}
-use Rattle.mesa_publishing.specs.mesa_model.declared.commands.Command.{Command}
-use Rattle.mesa_publishing.specs.mesa_model.declared.commands.Script.{Script}
-use Rattle.mesa_publishing.specs.mesa_model.declared.entries.Entry.{Entry}
-use Rattle.mesa_publishing.specs.mesa_model.Entry.{entry_of, history_of}
-use Rattle.mesa_publishing.specs.mesa_history_spec.Run.{State, First, Place, place_of, command_at, begins}
-use Rattle.mesa_publishing.specs.mesa_history_spec.Replay.{runs}
-use Rattle.mesa_publishing.specs.mesa_history_spec.Legal.{AllFit, is_cut_off_at}
-use Rattle.mesa_publishing.proofs.mesa_history_spec.Due.{fit_below}
+use Rattle.mesa_model.specs.declared.commands.Command.{Command}
+use Rattle.mesa_model.specs.declared.commands.Script.{Script}
+use Rattle.mesa_model.specs.declared.entries.Entry.{Entry}
+use Rattle.mesa_model.specs.Entry.{entry_of, history_of}
+use Rattle.mesa_recast_turns.specs.mesa_history_spec.Run.{State, First, Place, place_of, command_at, begins}
+use Rattle.mesa_recast_turns.specs.mesa_history_spec.Replay.{runs}
+use Rattle.mesa_recast_turns.specs.mesa_history_spec.Legal.{AllFit, is_cut_off_at}
+use Rattle.mesa_engine.proofs.mesa_history_spec.Due.{fit_below}
 use Rattle.mesa_core.specs.Passes.{run_seen, at_stage, Mine, Took, Gains, HasEnded, Waits, HaveEnded, turns_of}
 use Rattle.mesa_core.proofs.Behind.{Others, behind_others, place_keeps, place_first, place_second}
 

@@ -1,11 +1,11 @@
 -- The command that is asked is due.
 use Rattle.std.proofs.Common.{◌≡◌, ℕ, Bool, sym, ap, ◌∙◌, subst, Option, Some, None}
-use Rattle.mesa_core.specs.mesa_history_spec.Run.{Run, Stage, command_at}
-use Rattle.mesa_core.specs.mesa_history_spec.Turns.{IsDue}
+use Rattle.mesa_recast_turns.specs.mesa_history_spec.Run.{Run, Stage, command_at}
+use Rattle.mesa_recast_turns.specs.mesa_history_spec.Turns.{IsDue}
 use Rattle.mesa_model.specs.declared.commands.Command.{Command}
 use Rattle.mesa_model.specs.declared.commands.Script.{Script}
 use Rattle.mesa_core.specs.Passes.{HasSort}
-use Rattle.mesa_engine.specs.mesa_invariant_spec.Turns.{Asks}
+use Rattle.mesa_recast_turns.specs.mesa_invariant_spec.Turns.{Asks}
 
 some_same : {X : Type 0} (x y : X) → Some x ≡ Some y → x ≡ y
 some_same {X = X} x y is = ap (λ (o : Option X). elim o [ None ↦ x | Some z ↦ z ]) is

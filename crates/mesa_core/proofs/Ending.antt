@@ -3,11 +3,11 @@ use Rattle.std.proofs.Common.{◌≡◌, ℕ, ◌+◌, ◌≤◌, ◌||◌, true
 use Rattle.std.specs.Prelude.{is_none}
 use Rattle.std.proofs.lemmas.Bool.{or_right}
 use Rattle.mesa_turn.specs.Passes.{Known}
-use Rattle.mesa_publishing.specs.mesa_model.declared.commands.Script.{Script}
-use Rattle.mesa_publishing.specs.mesa_history_spec.Run.{State, First, Finished, Place, command_at, commands_of}
-use Rattle.mesa_publishing.specs.mesa_history_spec.Legal.{is_complete, is_cut_off, is_cut_off_at}
-use Rattle.mesa_publishing.specs.mesa_history_spec.Turns.{place_then}
-use Rattle.mesa_publishing.proofs.mesa_history_spec.Due.{command_behind}
+use Rattle.mesa_model.specs.declared.commands.Script.{Script}
+use Rattle.mesa_recast_turns.specs.mesa_history_spec.Run.{State, First, Finished, Place, command_at, commands_of}
+use Rattle.mesa_recast_turns.specs.mesa_history_spec.Legal.{is_complete, is_cut_off, is_cut_off_at}
+use Rattle.mesa_recast_turns.specs.mesa_history_spec.Turns.{place_then}
+use Rattle.mesa_engine.proofs.mesa_history_spec.Due.{command_behind}
 use Rattle.mesa_core.specs.Passes.{run_seen, at_stage, Mine, HasEnded}
 
 -- a session whose commands are all finished

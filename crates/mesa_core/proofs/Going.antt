@@ -2,27 +2,27 @@
 use Rattle.std.proofs.Common.{◌≡◌, ◌⊎◌, inl, inr, ℕ, zero, suc, ◌+◌, ◌<◌, ◌≤◌, List, [], ◌∷◌, ◌++◌, length, map, true, refl, sym, ap, subst, arith, Result, Ok, Err}
 use Rattle.std.specs.Prelude.{is_ok, slice_index_or, slice_set}
 use Rattle.std.proofs.lemmas.List.{length-append, length-map}
-use Rattle.mesa_publishing.specs.mesa_batch.Batch.{Placed}
-use Rattle.mesa_publishing.specs.mesa_schema.Changes.{Lineage, rule_checked}
-use Rattle.mesa_publishing.specs.mesa_schema.Lineages.{IsLineage}
-use Rattle.mesa_publishing.specs.mesa_schema.Recasts.{recast_checked}
-use Rattle.mesa_publishing.proofs.mesa_schema.LineageChanges.{lineage_changed}
-use Rattle.mesa_publishing.proofs.mesa_schema.LineageRecasts.{lineage_recast}
-use Rattle.mesa_publishing.proofs.mesa_schema.Passing.{passed_first}
-use Rattle.mesa_publishing.specs.mesa_model.declared.commands.Script.{Script}
-use Rattle.mesa_publishing.specs.mesa_model.declared.entries.Entry.{Entry}
-use Rattle.mesa_publishing.specs.mesa_model.Load.{tables_loaded, with_batch}
-use Rattle.mesa_publishing.specs.mesa_model.Tables.{columns_asked, new_table, table_changed, table_recast}
-use Rattle.mesa_publishing.specs.mesa_model.Versions.{store_from, table_from}
-use Rattle.mesa_publishing.specs.mesa_model.Warehouse.{Store, Table, Warehouse, no_table, table_at, with_table, with_tables}
-use Rattle.mesa_publishing.specs.mesa_history_spec.Replay.{go, runs}
-use Rattle.mesa_publishing.specs.mesa_history_spec.Run.{Run}
-use Rattle.mesa_publishing.proofs.mesa_plans.mesa_image_spec.ShapedTables.{length_set}
+use Rattle.mesa_batch.specs.Batch.{Placed}
+use Rattle.mesa_recast_turns.specs.mesa_schema.Changes.{Lineage, rule_checked}
+use Rattle.mesa_recast_turns.specs.mesa_schema.Lineages.{IsLineage}
+use Rattle.mesa_recast_turns.specs.mesa_schema.Recasts.{recast_checked}
+use Rattle.mesa_recast_turns.proofs.mesa_schema.LineageChanges.{lineage_changed}
+use Rattle.mesa_recast_turns.proofs.mesa_schema.LineageRecasts.{lineage_recast}
+use Rattle.mesa_recast_turns.proofs.mesa_schema.Passing.{passed_first}
+use Rattle.mesa_model.specs.declared.commands.Script.{Script}
+use Rattle.mesa_model.specs.declared.entries.Entry.{Entry}
+use Rattle.mesa_model.specs.Load.{tables_loaded, with_batch}
+use Rattle.mesa_model.specs.Tables.{columns_asked, new_table, table_changed, table_recast}
+use Rattle.mesa_model.specs.Versions.{store_from, table_from}
+use Rattle.mesa_model.specs.Warehouse.{Store, Table, Warehouse, no_table, table_at, with_table, with_tables}
+use Rattle.mesa_recast_turns.specs.mesa_history_spec.Replay.{go, runs}
+use Rattle.mesa_recast_turns.specs.mesa_history_spec.Run.{Run}
+use Rattle.mesa_engine.proofs.mesa_image_spec.ShapedTables.{length_set}
 use Rattle.mesa_history_laws.proofs.Lineages.{change_default, lineage_viewed}
 use Rattle.mesa_history_laws.proofs.Moves.{Moves, viewed}
 use Rattle.mesa_history_laws.proofs.Turns.{go_moves}
-use Rattle.mesa_publishing.specs.Grown.{HasBecome}
-use Rattle.mesa_publishing.proofs.Becoming.{become_changed, become_not, become_recast, become_viewed}
+use Rattle.mesa_recast_turns.specs.mesa_publishing.Grown.{HasBecome}
+use Rattle.mesa_recast_turns.proofs.mesa_publishing.Becoming.{become_changed, become_not, become_recast, become_viewed}
 use Rattle.mesa_core.specs.Known.{lineage_in}
 
 -- ---- lists

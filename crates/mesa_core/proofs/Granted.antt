@@ -1,31 +1,31 @@
 -- What a work is granted, by the history at the end of its first turn.
 use Rattle.std.proofs.Common.{◌≡◌, ℕ, ◌<◌, List, length, Bool, true, not, sym, ap, subst, ◌∙◌, Option, None, Some}
 use Rattle.std.specs.Prelude.{IfSome, OnSome}
-use Rattle.mesa_core.specs.mesa_compact.Bounded.{AreBounded, IsBounded}
-use Rattle.mesa_core.specs.mesa_plans.Gathered.{unread_views}
+use Rattle.mesa_recast_turns.specs.mesa_compact.Bounded.{AreBounded, IsBounded}
+use Rattle.mesa_recast_turns.specs.mesa_plans.Gathered.{unread_views}
 use Rattle.mesa_core.proofs.MergedTasks.{grant_known}
 use Rattle.mesa_core.proofs.Same.{range_known}
-use Rattle.mesa_core.specs.mesa_history_spec.Claims.{HasClaim, HasClaimAt}
-use Rattle.mesa_core.specs.mesa_history_spec.Run.{Granted, Place, State}
-use Rattle.mesa_core.specs.mesa_history_spec.Turns.{place_then}
+use Rattle.mesa_recast_turns.specs.mesa_history_spec.Claims.{HasClaim, HasClaimAt}
+use Rattle.mesa_recast_turns.specs.mesa_history_spec.Run.{Granted, Place, State}
+use Rattle.mesa_recast_turns.specs.mesa_history_spec.Turns.{place_then}
 use Rattle.mesa_engine.specs.mesa_image_spec.Catalog.{Catalog, stock_at}
 use Rattle.mesa_engine.specs.mesa_image_spec.Moves.{last_of}
 use Rattle.mesa_engine.specs.Vault.{Origin}
-use Rattle.mesa_core.specs.mesa_merge.Inputs.{knowns_of}
+use Rattle.mesa_recast_turns.specs.mesa_merge.Inputs.{knowns_of}
 use Rattle.mesa_model.specs.declared.commands.Script.{Script}
 use Rattle.mesa_model.specs.declared.entries.Entry.{Entry}
 use Rattle.mesa_model.specs.Warehouse.{max_tables}
-use Rattle.mesa_model.specs.mesa_schema.Changes.{Lineage, columns_of}
-use Rattle.mesa_model.specs.mesa_schema.Lineages.{IsLineage}
+use Rattle.mesa_recast_turns.specs.mesa_schema.Changes.{Lineage, columns_of}
+use Rattle.mesa_recast_turns.specs.mesa_schema.Lineages.{IsLineage}
 use Rattle.mesa_core.specs.Works.{CanBeMerged, known_task}
-use Rattle.mesa_engine.specs.mesa_history_spec.Rows.{Rows, no_rows}
-use Rattle.mesa_core.specs.mesa_publishing.Finished.{HasRange}
+use Rattle.mesa_recast_turns.specs.mesa_history_spec.Rows.{Rows, no_rows}
+use Rattle.mesa_recast_turns.specs.mesa_publishing.Finished.{HasRange}
 use Rattle.mesa_tasks.specs.Errors.{Differs}
 use Rattle.mesa_tasks.specs.Spares.{HasSpares}
 use Rattle.mesa_tasks.specs.Tasks.{IsTask, claim_in}
 use Rattle.mesa_tasks.specs.declared.merging.Task.{Task}
-use Rattle.mesa_engine.specs.mesa_invariant_spec.Invariant.{run_at}
-use Rattle.mesa_engine.specs.mesa_invariant_spec.Works.{stage_if}
+use Rattle.mesa_recast_turns.specs.mesa_invariant_spec.Invariant.{run_at}
+use Rattle.mesa_recast_turns.specs.mesa_invariant_spec.Works.{stage_if}
 use Rattle.mesa_engine.specs.Written.{written_at}
 use Rattle.mesa_core.specs.Handing.{IsGranted, store_after}
 use Rattle.mesa_core.specs.Standing.{IsCatalogAfter}

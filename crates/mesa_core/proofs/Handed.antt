@@ -2,38 +2,38 @@
 use Rattle.std.proofs.Common.{◌≡◌, ℕ, List, [], ◌∷◌, append-nil, true, false, refl, sym, ap, ◌∙◌, subst, Option, None, Some, Ok, Err}
 use Rattle.std.specs.Prelude.{IfErr, IfNone, IfSome, Result}
 use Rattle.std.specs.List.{AllByRecursion}
-use Rattle.mesa_core.specs.mesa_answer.Answering.{KeepsSums}
-use Rattle.mesa_recast_turns.specs.mesa_work_turns.mesa_read_turns.Closing.{IsPageOf as IsClosedWith, IsSomePageOf, IsToClose, cause_if}
-use Rattle.mesa_recast_turns.specs.mesa_work_turns.mesa_read_turns.Opening.{IsHeaded}
+use Rattle.mesa_recast_turns.specs.mesa_answer.Answering.{KeepsSums}
+use Rattle.mesa_recast_turns.specs.mesa_read_turns.Closing.{IsPageOf as IsClosedWith, IsSomePageOf, IsToClose, cause_if}
+use Rattle.mesa_recast_turns.specs.mesa_read_turns.Opening.{IsHeaded}
 use Rattle.mesa_filter.specs.declared.words.QueryWords.{QueryWords}
 use Rattle.mesa_delta.specs.declared.error.FileError.{FileError}
 use Rattle.mesa_delta.specs.declared.error.FileError.TheVariants as file_error
-use Rattle.mesa_core.specs.mesa_history_spec.Run.{State, Finished}
-use Rattle.mesa_core.specs.mesa_merge.Inputs.{Known, knowns_of}
+use Rattle.mesa_recast_turns.specs.mesa_history_spec.Run.{State, Finished}
+use Rattle.mesa_recast_turns.specs.mesa_merge.Inputs.{Known, knowns_of}
 use Rattle.mesa_model.specs.declared.commands.Script.{Script}
 use Rattle.mesa_model.specs.declared.entries.Entry.{Entry}
 use Rattle.mesa_model.specs.declared.entries.Kind.TheVariants as kind
 use Rattle.mesa_model.specs.Query.{Answer}
-use Rattle.mesa_core.specs.mesa_query.Files.{inputs_in, owns_in}
-use Rattle.mesa_recast_turns.specs.mesa_work_turns.mesa_plans.Told.{AreOfRelation, parts_known, parts_under}
-use Rattle.mesa_recast_turns.specs.mesa_work_turns.mesa_plans.Told.{Tells as TellsOf}
-use Rattle.mesa_core.specs.mesa_query.Relation.{page_over, parts_pinned, parts_ungrouped, rows_ungrouped}
-use Rattle.mesa_model.specs.mesa_schema.declared.rows.Row.{Row}
-use Rattle.mesa_model.specs.mesa_schema.Columns.{Columns}
-use Rattle.mesa_model.specs.mesa_schema.Folded.{rows_of}
+use Rattle.mesa_recast_turns.specs.mesa_query.Files.{inputs_in, owns_in}
+use Rattle.mesa_recast_turns.specs.mesa_plans.Told.{AreOfRelation, parts_known, parts_under}
+use Rattle.mesa_recast_turns.specs.mesa_plans.Told.{Tells as TellsOf}
+use Rattle.mesa_recast_turns.specs.mesa_query.Relation.{page_over, parts_pinned, parts_ungrouped, rows_ungrouped}
+use Rattle.mesa_recast_turns.specs.mesa_schema.declared.rows.Row.{Row}
+use Rattle.mesa_recast_turns.specs.mesa_schema.Columns.{Columns}
+use Rattle.mesa_recast_turns.specs.mesa_schema.Folded.{rows_of}
 use Rattle.mesa_script.specs.Rows.{rendered}
 use Rattle.mesa_script.specs.declared.rendered.Rendered.{Rendered}
 use Rattle.mesa_core.specs.Pins.{HasAnswered, IsOpenQuery, TakesQuery, heading_in, known_pin}
-use Rattle.mesa_engine.specs.mesa_history_spec.Rows.{Rows, no_rows}
+use Rattle.mesa_recast_turns.specs.mesa_history_spec.Rows.{Rows, no_rows}
 use Rattle.mesa_tasks.specs.Errors.{HasDiffered}
 use Rattle.mesa_tasks.specs.GivingBack.{SomeFailed, pinned_inputs}
 use Rattle.mesa_tasks.specs.Pins.{IsPinned, IsPinnedInput, rows_pinned}
 use Rattle.mesa_tasks.specs.declared.querying.Pinned.{Pinned}
 use Rattle.mesa_tasks.specs.declared.querying.PinnedInput.{PinnedInput}
-use Rattle.mesa_engine.specs.mesa_invariant_spec.Queries.{IsOpen, closing_fault, closing_outcome}
-use Rattle.mesa_engine.specs.mesa_invariant_spec.Turns.{IsSeen, IsTurn, Shown, Takes}
-use Rattle.mesa_engine.specs.mesa_invariant_spec.Undamaged.{is_damaged}
-use Rattle.mesa_engine.specs.mesa_invariant_spec.Invariant.{run_at}
+use Rattle.mesa_recast_turns.specs.mesa_invariant_spec.Queries.{IsOpen, closing_fault, closing_outcome}
+use Rattle.mesa_recast_turns.specs.mesa_invariant_spec.Turns.{IsSeen, IsTurn, Shown, Takes}
+use Rattle.mesa_recast_turns.specs.mesa_invariant_spec.Undamaged.{is_damaged}
+use Rattle.mesa_recast_turns.specs.mesa_invariant_spec.Invariant.{run_at}
 use Rattle.mesa_core.specs.Handing.{Tells}
 
 -- ---- the close

@@ -1,47 +1,47 @@
 -- What a load sees stays, while no turn says that a table, a view or columns were made or changed.
 use Rattle.std.proofs.Common.{◌≡◌, ℕ, zero, suc, ◌+◌, List, [], ◌∷◌, ◌++◌, false, true, true≢false, refl, ap, ◌∙◌, arith, ok_or, nat_le, is_none, Bool}
 use Rattle.std.specs.Prelude.{Result, Ok, Err, IfOk, Option, None, Some, length, map, slice_index_or, slice_set}
-use Rattle.mesa_publishing.specs.mesa_list.Checks.{◌>>◌, refuse_if, refuse_unless, refused_as}
-use Rattle.mesa_publishing.specs.mesa_schema.Names.{is_name}
-use Rattle.mesa_publishing.specs.mesa_schema.Schema.{schema_checked}
-use Rattle.mesa_publishing.specs.mesa_schema.Changes.{columns_of, change_checked}
-use Rattle.mesa_publishing.specs.mesa_batch.declared.words.RowWords.{RowWords}
-use Rattle.mesa_publishing.specs.mesa_batch.Batch.{Placed, batch_of}
-use Rattle.mesa_publishing.specs.mesa_batch.Glance.{Known}
-use Rattle.mesa_publishing.specs.mesa_filter.declared.words.VersionWord.{VersionWord}
-use Rattle.mesa_publishing.specs.mesa_model.declared.commands.Command.{Command}
-use Rattle.mesa_publishing.specs.mesa_model.declared.commands.Command.TheVariants as command
-use Rattle.mesa_publishing.specs.mesa_model.declared.commands.Script.{Script}
-use Rattle.mesa_publishing.specs.mesa_model.declared.commands.TableWords.{TableWords}
-use Rattle.mesa_publishing.specs.mesa_model.declared.commands.ViewWords.{ViewWords}
-use Rattle.mesa_publishing.specs.mesa_model.declared.commands.AlterWords.{AlterWords}
-use Rattle.mesa_publishing.specs.mesa_model.declared.entries.Entry.{Entry}
-use Rattle.mesa_publishing.specs.mesa_model.declared.entries.Kind.{Kind}
-use Rattle.mesa_publishing.specs.mesa_model.declared.entries.Kind.TheVariants as kind
-use Rattle.mesa_publishing.specs.mesa_model.declared.entries.Outcome.{Outcome}
-use Rattle.mesa_publishing.specs.mesa_model.declared.entries.Outcome.TheVariants as outcome
-use Rattle.mesa_publishing.specs.mesa_model.declared.replies.Reply.{Reply}
-use Rattle.mesa_publishing.specs.mesa_model.declared.replies.Reply.TheVariants as reply
-use Rattle.mesa_publishing.specs.mesa_model.declared.replies.Refusal.{Refusal}
-use Rattle.mesa_publishing.specs.mesa_model.declared.replies.Refusal.TheVariants as no
-use Rattle.mesa_publishing.specs.mesa_model.declared.replies.SchemaFault.TheVariants as fault
-use Rattle.mesa_publishing.specs.mesa_model.Warehouse.{Table, Warehouse, max_tables, max_versions, max_pins, no_table, table_at}
-use Rattle.mesa_publishing.specs.mesa_model.Relations.{table_number, is_taken}
-use Rattle.mesa_publishing.specs.mesa_model.Refusals.{bad_schema, batch_refusal, change_refusal, no_such_table, refuse_closed, schema_refusal}
-use Rattle.mesa_publishing.specs.mesa_model.Tables.{columns_asked, names_are_good, make_table, make_view, view_of_table_checked, change_asked, changed_name, alter_table}
-use Rattle.mesa_publishing.specs.mesa_model.Load.{tables_named, bounds_checked, tables_loaded, load_batch}
-use Rattle.mesa_publishing.specs.mesa_model.Versions.{common_oldest, expire_to, table_from, version_asked, version_checked}
-use Rattle.mesa_publishing.specs.mesa_model.Pins.{make_pin, pin_of, release_pin}
-use Rattle.mesa_publishing.specs.mesa_model.Query.{Answer, query_answer}
-use Rattle.mesa_publishing.specs.mesa_model.Step.{step, done_or_refused, nothing_done}
-use Rattle.mesa_publishing.specs.mesa_history_spec.Counting.{count_in, one_if}
-use Rattle.mesa_publishing.specs.mesa_schema.Recasts.{Recast}
-use Rattle.mesa_publishing.specs.mesa_history_spec.Machine.{Claim, Errand, Merges, Recasts, claim_checked, explained, still_checked}
-use Rattle.mesa_publishing.specs.mesa_history_spec.Run.{State, Stage, First, Looked, Answered, Granted, Renewed, Finished, CutOff, Run, place_of, begins, command_of}
-use Rattle.mesa_publishing.specs.mesa_history_spec.Replay.{Turned, decided, decided_query, decided_explain, decide, grants, claim_asked, renews, renew, completes, does, recasts, close, refused_turn, closed_if, closes, standing, turn_of, turn_as, turned, go, runs}
-use Rattle.mesa_publishing.proofs.mesa_history_spec.Checks.{ok_bind, ok_then}
-use Rattle.mesa_publishing.proofs.mesa_history_spec.More.{runs-append, state_after}
-use Rattle.mesa_publishing.specs.mesa_invariant_spec.Sight.{is_of_schemas, tells_of_schemas, changes_schemas, schema_changes}
+use Rattle.mesa_recast_turns.specs.mesa_list.Checks.{◌>>◌, refuse_if, refuse_unless, refused_as}
+use Rattle.mesa_recast_turns.specs.mesa_schema.Names.{is_name}
+use Rattle.mesa_recast_turns.specs.mesa_schema.Schema.{schema_checked}
+use Rattle.mesa_recast_turns.specs.mesa_schema.Changes.{columns_of, change_checked}
+use Rattle.mesa_batch.specs.declared.words.RowWords.{RowWords}
+use Rattle.mesa_batch.specs.Batch.{Placed, batch_of}
+use Rattle.mesa_batch.specs.Glance.{Known}
+use Rattle.mesa_filter.specs.declared.words.VersionWord.{VersionWord}
+use Rattle.mesa_model.specs.declared.commands.Command.{Command}
+use Rattle.mesa_model.specs.declared.commands.Command.TheVariants as command
+use Rattle.mesa_model.specs.declared.commands.Script.{Script}
+use Rattle.mesa_model.specs.declared.commands.TableWords.{TableWords}
+use Rattle.mesa_model.specs.declared.commands.ViewWords.{ViewWords}
+use Rattle.mesa_model.specs.declared.commands.AlterWords.{AlterWords}
+use Rattle.mesa_model.specs.declared.entries.Entry.{Entry}
+use Rattle.mesa_model.specs.declared.entries.Kind.{Kind}
+use Rattle.mesa_model.specs.declared.entries.Kind.TheVariants as kind
+use Rattle.mesa_model.specs.declared.entries.Outcome.{Outcome}
+use Rattle.mesa_model.specs.declared.entries.Outcome.TheVariants as outcome
+use Rattle.mesa_model.specs.declared.replies.Reply.{Reply}
+use Rattle.mesa_model.specs.declared.replies.Reply.TheVariants as reply
+use Rattle.mesa_model.specs.declared.replies.Refusal.{Refusal}
+use Rattle.mesa_model.specs.declared.replies.Refusal.TheVariants as no
+use Rattle.mesa_model.specs.declared.replies.SchemaFault.TheVariants as fault
+use Rattle.mesa_model.specs.Warehouse.{Table, Warehouse, max_tables, max_versions, max_pins, no_table, table_at}
+use Rattle.mesa_model.specs.Relations.{table_number, is_taken}
+use Rattle.mesa_model.specs.Refusals.{bad_schema, batch_refusal, change_refusal, no_such_table, refuse_closed, schema_refusal}
+use Rattle.mesa_model.specs.Tables.{columns_asked, names_are_good, make_table, make_view, view_of_table_checked, change_asked, changed_name, alter_table}
+use Rattle.mesa_model.specs.Load.{tables_named, bounds_checked, tables_loaded, load_batch}
+use Rattle.mesa_model.specs.Versions.{common_oldest, expire_to, table_from, version_asked, version_checked}
+use Rattle.mesa_model.specs.Pins.{make_pin, pin_of, release_pin}
+use Rattle.mesa_model.specs.Query.{Answer, query_answer}
+use Rattle.mesa_model.specs.Step.{step, done_or_refused, nothing_done}
+use Rattle.mesa_recast_turns.specs.mesa_history_spec.Counting.{count_in, one_if}
+use Rattle.mesa_recast_turns.specs.mesa_schema.Recasts.{Recast}
+use Rattle.mesa_recast_turns.specs.mesa_history_spec.Machine.{Claim, Errand, Merges, Recasts, claim_checked, explained, still_checked}
+use Rattle.mesa_recast_turns.specs.mesa_history_spec.Run.{State, Stage, First, Looked, Answered, Granted, Renewed, Finished, CutOff, Run, place_of, begins, command_of}
+use Rattle.mesa_recast_turns.specs.mesa_history_spec.Replay.{Turned, decided, decided_query, decided_explain, decide, grants, claim_asked, renews, renew, completes, does, recasts, close, refused_turn, closed_if, closes, standing, turn_of, turn_as, turned, go, runs}
+use Rattle.mesa_engine.proofs.mesa_history_spec.Checks.{ok_bind, ok_then}
+use Rattle.mesa_engine.proofs.mesa_history_spec.More.{runs-append, state_after}
+use Rattle.mesa_recast_turns.specs.mesa_invariant_spec.Sight.{is_of_schemas, tells_of_schemas, changes_schemas, schema_changes}
 use Rattle.mesa_core.specs.Sight.{tables_known, SightLasts}
 
 -- what a command did leaves the tables as a load sees them, unless its reply says otherwise

@@ -1,30 +1,30 @@
 -- What stands written of a range stays, while its table isn't recast.
 use Rattle.std.proofs.Common.{◌≡◌, ◌∙◌, ℕ, ◌<◌, ◌≤◌, List, [], ◌∷◌, ◌++◌, true, refl, sym, ap, subst, Option}
 use Rattle.std.specs.List.{AllByRecursion}
-use Rattle.mesa_publishing.specs.mesa_schema.Changes.{Lineage, columns_of, epoch_of}
-use Rattle.mesa_publishing.specs.mesa_model.declared.commands.Script.{Script}
-use Rattle.mesa_publishing.specs.mesa_model.declared.entries.Entry.{Entry}
-use Rattle.mesa_publishing.specs.mesa_history_spec.Claims.{HasClaim, HasRanges, is_live}
-use Rattle.mesa_publishing.specs.mesa_history_spec.Law.{begun_at, writing_by, written_in, written_through}
-use Rattle.mesa_publishing.specs.mesa_history_spec.Machine.{Claim}
-use Rattle.mesa_publishing.specs.mesa_history_spec.Replay.{go, runs}
-use Rattle.mesa_publishing.specs.mesa_history_spec.Run.{Run, State, begins}
-use Rattle.mesa_publishing.specs.mesa_history_spec.Sources.{Source, Written, range_rows, sources_from}
-use Rattle.mesa_publishing.proofs.mesa_history_spec.Claims.{begins_hold, runs_hold}
+use Rattle.mesa_recast_turns.specs.mesa_schema.Changes.{Lineage, columns_of, epoch_of}
+use Rattle.mesa_model.specs.declared.commands.Script.{Script}
+use Rattle.mesa_model.specs.declared.entries.Entry.{Entry}
+use Rattle.mesa_recast_turns.specs.mesa_history_spec.Claims.{HasClaim, HasRanges, is_live}
+use Rattle.mesa_recast_turns.specs.mesa_history_spec.Law.{begun_at, writing_by, written_in, written_through}
+use Rattle.mesa_recast_turns.specs.mesa_history_spec.Machine.{Claim}
+use Rattle.mesa_recast_turns.specs.mesa_history_spec.Replay.{go, runs}
+use Rattle.mesa_recast_turns.specs.mesa_history_spec.Run.{Run, State, begins}
+use Rattle.mesa_recast_turns.specs.mesa_history_spec.Sources.{Source, Written, range_rows, sources_from}
+use Rattle.mesa_engine.proofs.mesa_history_spec.Claims.{begins_hold, runs_hold}
 use Rattle.mesa_history_laws.proofs.Begun.{claims_keep_begun}
-use Rattle.mesa_publishing.proofs.mesa_history_spec.More.{runs-append}
-use Rattle.mesa_publishing.specs.mesa_span.declared.works.Work.{Work}
-use Rattle.mesa_publishing.specs.mesa_plans.mesa_image_spec.Moves.{last_of, first_of}
+use Rattle.mesa_engine.proofs.mesa_history_spec.More.{runs-append}
+use Rattle.mesa_engine.specs.mesa_span.declared.works.Work.{Work}
+use Rattle.mesa_engine.specs.mesa_image_spec.Moves.{last_of, first_of}
 use Rattle.mesa_history_laws.proofs.Ranges.{ranges_hold}
-use Rattle.mesa_publishing.specs.mesa_engine.Vault.{Origin}
-use Rattle.mesa_publishing.specs.Finished.{GroupOnly, HasRange, sources_in}
-use Rattle.mesa_publishing.specs.Recasts.{HasItsRange, HasItsRanges}
+use Rattle.mesa_engine.specs.Vault.{Origin}
+use Rattle.mesa_recast_turns.specs.mesa_publishing.Finished.{GroupOnly, HasRange, sources_in}
+use Rattle.mesa_recast_turns.specs.mesa_publishing.Recasts.{HasItsRange, HasItsRanges}
 use Rattle.mesa_tasks.specs.Recasts.{recast_table}
 use Rattle.mesa_tasks.specs.declared.merging.Task.{Task}
 use Rattle.mesa_tasks.specs.declared.recasting.Recast.{Recast}
 use Rattle.mesa_tasks.specs.declared.recasting.RecastRange.{RecastRange}
-use Rattle.mesa_publishing.specs.mesa_invariant_spec.Invariant.{run_at}
-use Rattle.mesa_publishing.specs.mesa_engine.Written.{written_at}
+use Rattle.mesa_recast_turns.specs.mesa_invariant_spec.Invariant.{run_at}
+use Rattle.mesa_engine.specs.Written.{written_at}
 
 -- ---- what is written behind a history
 

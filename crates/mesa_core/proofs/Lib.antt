@@ -1,5 +1,5 @@
-pub use Rattle.mesa_publishing.proofs.mesa_history_spec as mesa_history_spec
-pub use Rattle.mesa_core.proofs.mesa_history_spec as mesa_history_spec
+pub use Rattle.mesa_history_laws.proofs as mesa_history_laws
+pub use Rattle.mesa_engine.proofs.mesa_history_spec as mesa_history_spec
 pub mod Behind
 pub mod Turning
 pub mod Ending

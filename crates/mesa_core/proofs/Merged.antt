@@ -1,37 +1,37 @@
 -- What a work is closed with, as its last turn asks for it.
 use Rattle.std.proofs.Common.{◌≡◌, ℕ, ◌<◌, List, ◌++◌, length, true, false, refl, sym, ap, subst, ◌∙◌, Option, None, Ok}
-use Rattle.mesa_core.specs.mesa_compact.Bounded.{IsBounded}
+use Rattle.mesa_recast_turns.specs.mesa_compact.Bounded.{IsBounded}
 use Rattle.mesa_recast_turns.specs.mesa_work_turns.Unmerged.{MergeDiffered, cause_of}
 use Rattle.mesa_delta.specs.declared.error.FileError.TheVariants as file_error
 use Rattle.mesa_core.specs.Known.{IsKnownOf, lineage_in}
-use Rattle.mesa_core.proofs.mesa_history_spec.More.{runs-append}
-use Rattle.mesa_core.specs.mesa_history_spec.Claims.{HasClaim, HasRanges, is_live}
-use Rattle.mesa_core.specs.mesa_history_spec.Law.{begun_at}
-use Rattle.mesa_core.specs.mesa_history_spec.Machine.{Claim}
-use Rattle.mesa_core.specs.mesa_history_spec.Replay.{runs}
-use Rattle.mesa_core.specs.mesa_history_spec.Run.{Run, State, begins}
+use Rattle.mesa_engine.proofs.mesa_history_spec.More.{runs-append}
+use Rattle.mesa_recast_turns.specs.mesa_history_spec.Claims.{HasClaim, HasRanges, is_live}
+use Rattle.mesa_recast_turns.specs.mesa_history_spec.Law.{begun_at}
+use Rattle.mesa_recast_turns.specs.mesa_history_spec.Machine.{Claim}
+use Rattle.mesa_recast_turns.specs.mesa_history_spec.Replay.{runs}
+use Rattle.mesa_recast_turns.specs.mesa_history_spec.Run.{Run, State, begins}
 use Rattle.mesa_engine.specs.mesa_image_spec.Catalog.{Catalog, stock_at}
 use Rattle.mesa_engine.specs.mesa_image_spec.Moves.{last_of}
 use Rattle.mesa_engine.specs.Vault.{Origin}
 use Rattle.mesa_model.specs.declared.commands.Script.{Script}
 use Rattle.mesa_model.specs.declared.entries.Entry.{Entry}
-use Rattle.mesa_model.specs.mesa_schema.Changes.{Lineage}
-use Rattle.mesa_model.specs.mesa_schema.Lineages.{IsLineage}
+use Rattle.mesa_recast_turns.specs.mesa_schema.Changes.{Lineage}
+use Rattle.mesa_recast_turns.specs.mesa_schema.Lineages.{IsLineage}
 use Rattle.mesa_core.specs.Works.{HasMerged, IsUnmerged, WasGranted, known_task}
-use Rattle.mesa_engine.specs.mesa_history_spec.Rows.{Rows, no_rows}
-use Rattle.mesa_core.specs.mesa_publishing.Finished.{HasRange, IsFinished}
-use Rattle.mesa_core.specs.mesa_publishing.Grown.{GrowsWhereItBegins, HasBecome}
+use Rattle.mesa_recast_turns.specs.mesa_history_spec.Rows.{Rows, no_rows}
+use Rattle.mesa_recast_turns.specs.mesa_publishing.Finished.{HasRange, IsFinished}
+use Rattle.mesa_recast_turns.specs.mesa_publishing.Grown.{GrowsWhereItBegins, HasBecome}
 use Rattle.mesa_tasks.specs.GivingBack.{SomeFailed, task_inputs}
-use Rattle.mesa_core.specs.mesa_history_spec.mesa_span.declared.works.Work.{Work}
+use Rattle.mesa_engine.specs.mesa_span.declared.works.Work.{Work}
 use Rattle.mesa_tasks.specs.Tasks.{IsMerged, IsTask, claim_in}
 use Rattle.mesa_tasks.specs.declared.merging.CompactError.{CompactError}
 use Rattle.mesa_tasks.specs.declared.merging.CompactError.TheVariants as compact
 use Rattle.mesa_tasks.specs.declared.merging.NewDelta.{NewDelta}
 use Rattle.mesa_tasks.specs.declared.merging.Task.{Task}
-use Rattle.mesa_engine.specs.mesa_invariant_spec.Causes.{is_read_fault, outcome_of}
-use Rattle.mesa_engine.specs.mesa_invariant_spec.Turns.{AnswersDraft, Shown}
-use Rattle.mesa_engine.specs.mesa_invariant_spec.Undamaged.{is_damaged}
-use Rattle.mesa_engine.specs.mesa_invariant_spec.Invariant.{run_at}
+use Rattle.mesa_recast_turns.specs.mesa_invariant_spec.Causes.{is_read_fault, outcome_of}
+use Rattle.mesa_recast_turns.specs.mesa_invariant_spec.Turns.{AnswersDraft, Shown}
+use Rattle.mesa_recast_turns.specs.mesa_invariant_spec.Undamaged.{is_damaged}
+use Rattle.mesa_recast_turns.specs.mesa_invariant_spec.Invariant.{run_at}
 use Rattle.mesa_engine.specs.Written.{written_at}
 use Rattle.mesa_core.specs.Handing.{IsGranted, store_after}
 use Rattle.mesa_core.specs.Standing.{IsCatalogAfter}

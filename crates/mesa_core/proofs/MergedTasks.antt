@@ -3,15 +3,15 @@ use Rattle.std.proofs.Common.{◌≡◌, ◌∙◌, ℕ, ◌+◌, List, [], ◌�
 use Rattle.std.specs.Prelude.{Vec, option_map}
 use Rattle.std.specs.List.{AllByRecursion}
 use Rattle.std.specs.declared.alloc.Global.{Global}
-use Rattle.mesa_publishing.specs.mesa_schema.declared.rows.Row.{Row}
-use Rattle.mesa_publishing.specs.mesa_schema.declared.views.View.{View}
-use Rattle.mesa_publishing.specs.mesa_schema.Changes.{Lineage, columns_of}
-use Rattle.mesa_publishing.specs.mesa_schema.Columns.{Columns}
-use Rattle.mesa_tasks.specs.mesa_delta.declared.input.Input.{Input}
-use Rattle.mesa_publishing.specs.mesa_plans.Gathered.{unread_views}
-use Rattle.mesa_publishing.specs.mesa_copy.mesa_compact.mesa_merge.Inputs.{Known, knowns_of}
+use Rattle.mesa_recast_turns.specs.mesa_schema.declared.rows.Row.{Row}
+use Rattle.mesa_recast_turns.specs.mesa_schema.declared.views.View.{View}
+use Rattle.mesa_recast_turns.specs.mesa_schema.Changes.{Lineage, columns_of}
+use Rattle.mesa_recast_turns.specs.mesa_schema.Columns.{Columns}
+use Rattle.mesa_delta.specs.declared.input.Input.{Input}
+use Rattle.mesa_recast_turns.specs.mesa_plans.Gathered.{unread_views}
+use Rattle.mesa_recast_turns.specs.mesa_merge.Inputs.{Known, knowns_of}
 use Rattle.mesa_core.specs.Works.{known_task}
-use Rattle.mesa_publishing.specs.mesa_copy.mesa_compact.Tasks.{KnownView, known_view}
+use Rattle.mesa_recast_turns.specs.mesa_compact.Tasks.{KnownView, known_view}
 use Rattle.mesa_tasks.specs.Inputs.{AreInputsOf, IsMergeOf}
 use Rattle.mesa_tasks.specs.Tasks.{AreTaskViews, HasOwn, HaveMerged, IsMerged, IsTask}
 use Rattle.mesa_tasks.specs.declared.made.MadeFiles.{MadeFiles}

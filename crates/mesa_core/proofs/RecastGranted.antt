@@ -3,21 +3,21 @@ use Rattle.std.proofs.Common.{◌≡◌, ℕ, ◌<◌, List, [], ◌∷◌, leng
 use Rattle.std.specs.List.{AllByRecursion}
 use Rattle.mesa_core.specs.Known.{AllAreBounded, AllHaveRanges}
 use Rattle.mesa_core.specs.Recasts.{known_recast}
-use Rattle.mesa_core.specs.mesa_copy.Copying.{IsRecastBounded, KnownRange, known_ranges}
-use Rattle.mesa_core.specs.mesa_publishing.Recasts.{HasItsRanges}
-use Rattle.mesa_core.specs.mesa_history_spec.Run.{State}
+use Rattle.mesa_recast_turns.specs.mesa_copy.Copying.{IsRecastBounded, KnownRange, known_ranges}
+use Rattle.mesa_recast_turns.specs.mesa_publishing.Recasts.{HasItsRanges}
+use Rattle.mesa_recast_turns.specs.mesa_history_spec.Run.{State}
 use Rattle.mesa_engine.specs.mesa_image_spec.Catalog.{Catalog, stock_at}
 use Rattle.mesa_engine.specs.Vault.{Origin}
 use Rattle.mesa_engine.specs.Written.{written_at}
 use Rattle.mesa_model.specs.declared.commands.Script.{Script}
 use Rattle.mesa_model.specs.declared.entries.Entry.{Entry}
 use Rattle.mesa_model.specs.Warehouse.{max_tables}
-use Rattle.mesa_model.specs.mesa_schema.Lineages.{IsLineage}
-use Rattle.mesa_engine.specs.mesa_history_spec.Rows.{Rows, no_rows}
+use Rattle.mesa_recast_turns.specs.mesa_schema.Lineages.{IsLineage}
+use Rattle.mesa_recast_turns.specs.mesa_history_spec.Rows.{Rows, no_rows}
 use Rattle.mesa_tasks.specs.Recasts.{recast_table}
 use Rattle.mesa_tasks.specs.declared.recasting.Recast.{Recast}
 use Rattle.mesa_tasks.specs.declared.recasting.RecastRange.{RecastRange}
-use Rattle.mesa_engine.specs.mesa_invariant_spec.Invariant.{run_at}
+use Rattle.mesa_recast_turns.specs.mesa_invariant_spec.Invariant.{run_at}
 use Rattle.mesa_core.specs.Handing.{IsRecastGranted, store_after}
 use Rattle.mesa_core.specs.Standing.{IsCatalogAfter}
 use Rattle.mesa_core.proofs.Sights.{counted_is, lineage_is}

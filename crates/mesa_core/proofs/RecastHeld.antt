@@ -2,17 +2,17 @@
 use Rattle.std.proofs.Common.{◌≡◌, ℕ, ◌<◌, ◌++◌, List, length, refl, sym, ap, subst, ◌∙◌, Option, None}
 use Rattle.std.specs.List.{AllByRecursion}
 use Rattle.mesa_core.specs.Known.{AllAreBounded, AllHaveRanges, lineage_in}
-use Rattle.mesa_core.specs.mesa_plans.Ranges.{HoldsAll}
+use Rattle.mesa_recast_turns.specs.mesa_plans.Ranges.{HoldsAll}
 use Rattle.mesa_core.specs.Recasts.{KnownRecast, known_recast}
 use Rattle.mesa_core.specs.Works.{WasGranted}
-use Rattle.mesa_core.specs.mesa_copy.Copying.{IsRecastBounded}
-use Rattle.mesa_core.specs.mesa_publishing.Grown.{HasBecome, HasSameColumns, StaysWithItsEpoch}
-use Rattle.mesa_core.specs.mesa_publishing.Recasts.{HasItsRanges, stock_of_recast}
-use Rattle.mesa_core.proofs.mesa_history_spec.More.{runs-append}
-use Rattle.mesa_core.specs.mesa_history_spec.Law.{begun_at}
-use Rattle.mesa_core.specs.mesa_history_spec.Replay.{runs}
-use Rattle.mesa_core.specs.mesa_history_spec.Run.{Run, State, begins}
-use Rattle.mesa_core.specs.mesa_history_spec.Sources.{Written}
+use Rattle.mesa_recast_turns.specs.mesa_copy.Copying.{IsRecastBounded}
+use Rattle.mesa_recast_turns.specs.mesa_publishing.Grown.{HasBecome, HasSameColumns, StaysWithItsEpoch}
+use Rattle.mesa_recast_turns.specs.mesa_publishing.Recasts.{HasItsRanges, stock_of_recast}
+use Rattle.mesa_engine.proofs.mesa_history_spec.More.{runs-append}
+use Rattle.mesa_recast_turns.specs.mesa_history_spec.Law.{begun_at}
+use Rattle.mesa_recast_turns.specs.mesa_history_spec.Replay.{runs}
+use Rattle.mesa_recast_turns.specs.mesa_history_spec.Run.{Run, State, begins}
+use Rattle.mesa_recast_turns.specs.mesa_history_spec.Sources.{Written}
 use Rattle.mesa_engine.specs.mesa_image_spec.Catalog.{Stock, stock_at}
 use Rattle.mesa_engine.specs.EngineState.{EngineState}
 use Rattle.mesa_engine.specs.Vault.{Origin}
@@ -21,13 +21,13 @@ use Rattle.mesa_model.specs.Warehouse.{max_tables}
 use Rattle.mesa_model.specs.declared.commands.Script.{Script}
 use Rattle.mesa_model.specs.declared.entries.Entry.{Entry}
 use Rattle.mesa_recast_turns.specs.Rested.{IsLonger}
-use Rattle.mesa_model.specs.mesa_schema.Changes.{Lineage, epoch_of}
-use Rattle.mesa_model.specs.mesa_schema.Lineages.{IsLineage}
-use Rattle.mesa_engine.specs.mesa_history_spec.Rows.{Rows, no_rows}
+use Rattle.mesa_recast_turns.specs.mesa_schema.Changes.{Lineage, epoch_of}
+use Rattle.mesa_recast_turns.specs.mesa_schema.Lineages.{IsLineage}
+use Rattle.mesa_recast_turns.specs.mesa_history_spec.Rows.{Rows, no_rows}
 use Rattle.mesa_tasks.specs.Recasts.{IsRecastTask, recast_table}
 use Rattle.mesa_tasks.specs.declared.recasting.Recast.{Recast}
 use Rattle.mesa_tasks.specs.declared.recasting.RecastRange.{RecastRange}
-use Rattle.mesa_engine.specs.mesa_invariant_spec.Invariant.{run_at}
+use Rattle.mesa_recast_turns.specs.mesa_invariant_spec.Invariant.{run_at}
 use Rattle.mesa_core.proofs.RecastGranted.{ends_known}
 use Rattle.mesa_core.specs.Handing.{AllAreRested, IsRecastGranted, IsRecastHeld, store_after}
 

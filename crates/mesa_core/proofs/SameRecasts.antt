@@ -2,18 +2,18 @@
 use Rattle.std.proofs.Common.{◌≡◌, inl, inr, ◌∙◌, ℕ, ◌≤◌, List, [], ◌∷◌, refl, sym, ap, subst, Option, None, Some}
 use Rattle.std.specs.Prelude.{option_map, option_to_list}
 use Rattle.std.specs.List.{AllByRecursion}
-use Rattle.mesa_publishing.specs.mesa_schema.Changes.{Lineage, columns_of, epoch_of}
-use Rattle.mesa_tasks.specs.mesa_delta.declared.input.Input.{Input}
-use Rattle.mesa_publishing.specs.mesa_plans.Ranges.{HasInput, HoldsAll, HoldsAt, Ranged, ranged}
-use Rattle.mesa_publishing.specs.mesa_plans.mesa_table.mesa_image_spec.Catalog.{Stock}
-use Rattle.mesa_publishing.specs.mesa_plans.mesa_image_spec.mesa_record.declared.record.Files.{Files}
-use Rattle.mesa_publishing.specs.mesa_history_spec.Sources.{Source, Written, range_rows, sources_from}
+use Rattle.mesa_recast_turns.specs.mesa_schema.Changes.{Lineage, columns_of, epoch_of}
+use Rattle.mesa_delta.specs.declared.input.Input.{Input}
+use Rattle.mesa_recast_turns.specs.mesa_plans.Ranges.{HasInput, HoldsAll, HoldsAt, Ranged, ranged}
+use Rattle.mesa_engine.specs.mesa_image_spec.Catalog.{Stock}
+use Rattle.mesa_engine.specs.mesa_record.declared.record.Files.{Files}
+use Rattle.mesa_recast_turns.specs.mesa_history_spec.Sources.{Source, Written, range_rows, sources_from}
 use Rattle.mesa_core.specs.Recasts.{KnownRecast, known_recast}
-use Rattle.mesa_publishing.proofs.mesa_copy.Same.{bounded_same}
-use Rattle.mesa_publishing.specs.mesa_copy.Copying.{AreRangesBounded, IsRecastBounded, KnownRange, known_range, known_ranges}
-use Rattle.mesa_publishing.specs.mesa_copy.mesa_compact.mesa_merge.Inputs.{Known, known_of, knowns_of}
+use Rattle.mesa_recast_turns.proofs.mesa_copy.Same.{bounded_same}
+use Rattle.mesa_recast_turns.specs.mesa_copy.Copying.{AreRangesBounded, IsRecastBounded, KnownRange, known_range, known_ranges}
+use Rattle.mesa_recast_turns.specs.mesa_merge.Inputs.{Known, known_of, knowns_of}
 use Rattle.mesa_core.proofs.Known.{cons_none, first_same, merge_stays, none_some, rest_same, some_same}
-use Rattle.mesa_publishing.specs.Recasts.{HasItsRange, HasItsRanges, sources_at}
+use Rattle.mesa_recast_turns.specs.mesa_publishing.Recasts.{HasItsRange, HasItsRanges, sources_at}
 use Rattle.mesa_tasks.specs.Recasts.{own, recast_table}
 use Rattle.mesa_tasks.specs.declared.recasting.Recast.{Recast}
 use Rattle.mesa_tasks.specs.declared.recasting.RecastRange.{RecastRange}

@@ -9,9 +9,9 @@ use Rattle.mesa_core.specs.Handing.{store_after}
 use Rattle.mesa_core.specs.Standing.{IsCatalogAfter}
 use Rattle.mesa_disk.specs.Story.{Story}
 use Rattle.mesa_core.specs.Known.{lineage_in}
-use Rattle.mesa_core.specs.mesa_history_spec.Run.{State}
+use Rattle.mesa_recast_turns.specs.mesa_history_spec.Run.{State}
 use Rattle.mesa_engine.specs.mesa_image_spec.Catalog.{Catalog, no_stock, stock_at}
-use Rattle.mesa_engine.proofs.mesa_catalog.Stocks.{all_at}
+use Rattle.mesa_recast_turns.proofs.mesa_catalog.Stocks.{all_at}
 use Rattle.mesa_engine.specs.mesa_image_spec.Shape.{IsShaped}
 use Rattle.mesa_engine.specs.EngineState.{EngineState, projections}
 use Rattle.mesa_engine.specs.Vault.{Starts, IsVault, IsVaultAt, outset_of}
@@ -20,9 +20,9 @@ use Rattle.mesa_model.specs.declared.entries.Entry.{Entry}
 use Rattle.mesa_model.specs.Warehouse.{Store, Table, Warehouse, no_table}
 use Rattle.mesa_core.specs.Sight.{tables_known}
 use Rattle.mesa_engine.proofs.mesa_history_spec.BareLists.{at_same}
-use Rattle.mesa_engine.specs.mesa_history_spec.Bare.{bare_store}
-use Rattle.mesa_engine.specs.mesa_history_spec.Rows.{Rows, no_rows}
-use Rattle.mesa_engine.specs.mesa_invariant_spec.Invariant.{run_of}
+use Rattle.mesa_recast_turns.specs.mesa_history_spec.Bare.{bare_store}
+use Rattle.mesa_recast_turns.specs.mesa_history_spec.Rows.{Rows, no_rows}
+use Rattle.mesa_recast_turns.specs.mesa_invariant_spec.Invariant.{run_of}
 
 -- names and columns hang on no rows
 bare_known : (s : Store) → tables_known (bare_store s) ≡ tables_known s

@@ -9,19 +9,19 @@ use Rattle.mesa_turn.specs.History.{name_of, has, entries_of}
 use Rattle.mesa_turn.specs.Passes.{Known, Finds, IsExact, after, during}
 use Rattle.mesa_turn.proofs.Lists.{prefix_self, prefix_more, prefix_trans}
 use Rattle.mesa_turn.proofs.Laws.{entries_append, entries_found}
-use Rattle.mesa_publishing.specs.mesa_model.declared.commands.Command.{Command}
-use Rattle.mesa_publishing.specs.mesa_model.declared.commands.Script.{Script}
-use Rattle.mesa_publishing.specs.mesa_model.declared.entries.Entry.{Entry}
-use Rattle.mesa_publishing.specs.mesa_model.declared.entries.Kind.{Kind}
-use Rattle.mesa_publishing.specs.mesa_model.Entry.{IsShort, entry_of, history_of, number_of, numbers_of}
-use Rattle.mesa_publishing.proofs.mesa_model.Numbers.{session_told, history_told}
-use Rattle.mesa_publishing.specs.mesa_history_spec.Run.{State, Stage, Place, Run, place_of, begins}
-use Rattle.mesa_publishing.specs.mesa_history_spec.Legal.{AllFit}
-use Rattle.mesa_publishing.proofs.mesa_history_spec.Due.{fit_below}
-use Rattle.mesa_publishing.proofs.mesa_history_spec.More.{runs_more}
-use Rattle.mesa_publishing.proofs.mesa_history_spec.Turns.{prologue_is}
-use Rattle.mesa_publishing.specs.mesa_invariant_spec.Turns.{Shown, entry, IsTurn, IsSeen, Asks}
-use Rattle.mesa_publishing.specs.mesa_invariant_spec.Invariant.{run_at}
+use Rattle.mesa_model.specs.declared.commands.Command.{Command}
+use Rattle.mesa_model.specs.declared.commands.Script.{Script}
+use Rattle.mesa_model.specs.declared.entries.Entry.{Entry}
+use Rattle.mesa_model.specs.declared.entries.Kind.{Kind}
+use Rattle.mesa_model.specs.Entry.{IsShort, entry_of, history_of, number_of, numbers_of}
+use Rattle.mesa_model.proofs.Numbers.{session_told, history_told}
+use Rattle.mesa_recast_turns.specs.mesa_history_spec.Run.{State, Stage, Place, Run, place_of, begins}
+use Rattle.mesa_recast_turns.specs.mesa_history_spec.Legal.{AllFit}
+use Rattle.mesa_engine.proofs.mesa_history_spec.Due.{fit_below}
+use Rattle.mesa_engine.proofs.mesa_history_spec.More.{runs_more}
+use Rattle.mesa_engine.proofs.mesa_history_spec.Turns.{prologue_is}
+use Rattle.mesa_recast_turns.specs.mesa_invariant_spec.Turns.{Shown, entry, IsTurn, IsSeen, Asks}
+use Rattle.mesa_recast_turns.specs.mesa_invariant_spec.Invariant.{run_at}
 use Rattle.mesa_core.specs.Passes.{run_seen, at_stage, HasSort, Holds, Mine, Took}
 use Rattle.mesa_core.proofs.Behind.{all_behind, comes_in_time, place_found, whole_found, within_one}
 

@@ -4,15 +4,15 @@ use Rattle.std.specs.Prelude.{IfErr, IfOk, OnOk, Result}
 use Rattle.mesa_recast_turns.specs.mesa_work_turns.Unmerged.{MergeDiffered, cause_of}
 use Rattle.mesa_delta.specs.declared.error.FileError.TheVariants as file_error
 use Rattle.mesa_core.specs.Recasts.{HasRegrouped, IsUnmade}
-use Rattle.mesa_core.specs.mesa_copy.Copying.{IsRecastBounded}
+use Rattle.mesa_recast_turns.specs.mesa_copy.Copying.{IsRecastBounded}
 use Rattle.mesa_tasks.specs.GivingBack.{SomeFailed}
 use Rattle.mesa_tasks.specs.Recasts.{IsRecasted, recast_inputs}
 use Rattle.mesa_tasks.specs.declared.merging.CompactError.{CompactError}
 use Rattle.mesa_tasks.specs.declared.merging.CompactError.TheVariants as compact
 use Rattle.mesa_tasks.specs.declared.recasting.Recast.{Recast}
 use Rattle.mesa_tasks.specs.declared.recasting.Recasted.{Recasted}
-use Rattle.mesa_engine.specs.mesa_invariant_spec.Causes.{is_read_fault, outcome_of}
-use Rattle.mesa_engine.specs.mesa_invariant_spec.Undamaged.{is_damaged}
+use Rattle.mesa_recast_turns.specs.mesa_invariant_spec.Causes.{is_read_fault, outcome_of}
+use Rattle.mesa_recast_turns.specs.mesa_invariant_spec.Undamaged.{is_damaged}
 
 -- ---- why ranges weren't rewritten
 

@@ -1,13 +1,13 @@
 -- Faults of files that sessions were building, and the entries that answer them.
 use Rattle.std.specs.Prelude.{◌≡◌, ◌≤◌, ◌<◌, ◌+◌, ℕ, List, Some, slice_get}
 use Rattle.std.specs.List.{AllByRecursion}
-use Rattle.mesa_disk.specs.mesa_io.Causes.{last}
+use Rattle.mesa_io.specs.Causes.{last}
 use Rattle.mesa_turn.specs.Passes.{Known}
-use Rattle.mesa_publishing.specs.mesa_model.declared.commands.Script.{Script}
-use Rattle.mesa_publishing.specs.mesa_model.declared.entries.Entry.{Entry}
-use Rattle.mesa_publishing.specs.mesa_model.Entry.{history_of}
-use Rattle.mesa_publishing.specs.mesa_history_spec.Counting.{count_in, is_bench_fault}
-use Rattle.mesa_publishing.specs.mesa_history_spec.Run.{State, begins}
+use Rattle.mesa_model.specs.declared.commands.Script.{Script}
+use Rattle.mesa_model.specs.declared.entries.Entry.{Entry}
+use Rattle.mesa_model.specs.Entry.{history_of}
+use Rattle.mesa_recast_turns.specs.mesa_history_spec.Counting.{count_in, is_bench_fault}
+use Rattle.mesa_recast_turns.specs.mesa_history_spec.Run.{State, begins}
 
 -- how many entries of a history answer a fault of a file that a session was building
 abbrev pub answered_in : Script → State → ℕ → List Entry → ℕ

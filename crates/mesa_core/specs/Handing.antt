@@ -1,10 +1,10 @@
 -- What files that are handed out tell.
 use Rattle.std.specs.Prelude.{◌≡◌, ℕ, ◌<◌, List, Option, None, length, Result, Ok, Err}
 use Rattle.std.specs.List.{AllByRecursion}
-use Rattle.mesa_core.specs.mesa_compact.Bounded.{AreBounded}
-use Rattle.mesa_core.specs.mesa_history_spec.Claims.{HasClaim}
-use Rattle.mesa_core.specs.mesa_history_spec.Machine.{Claim, Merges}
-use Rattle.mesa_core.specs.mesa_history_spec.Run.{State}
+use Rattle.mesa_recast_turns.specs.mesa_compact.Bounded.{AreBounded}
+use Rattle.mesa_recast_turns.specs.mesa_history_spec.Claims.{HasClaim}
+use Rattle.mesa_recast_turns.specs.mesa_history_spec.Machine.{Claim, Merges}
+use Rattle.mesa_recast_turns.specs.mesa_history_spec.Run.{State}
 use Rattle.mesa_engine.specs.mesa_image_spec.Moves.{last_of}
 use Rattle.mesa_engine.specs.EngineState.{EngineState}
 use Rattle.mesa_engine.specs.Vault.{Origin}
@@ -12,18 +12,18 @@ use Rattle.mesa_model.specs.declared.commands.Script.{Script}
 use Rattle.mesa_model.specs.declared.entries.Entry.{Entry}
 use Rattle.mesa_model.specs.Query.{Answer}
 use Rattle.mesa_model.specs.Warehouse.{Store, max_tables}
-use Rattle.mesa_engine.specs.mesa_invariant_spec.Invariant.{run_at}
+use Rattle.mesa_recast_turns.specs.mesa_invariant_spec.Invariant.{run_at}
 use Rattle.mesa_engine.specs.Written.{written_at}
 use Rattle.mesa_core.specs.Known.{AllAreBounded, AllHaveRange, AllHaveRanges, IsKnownOf, lineage_in}
-use Rattle.mesa_core.specs.mesa_publishing.Grown.{HasBecome}
+use Rattle.mesa_recast_turns.specs.mesa_publishing.Grown.{HasBecome}
 use Rattle.mesa_recast_turns.specs.Rested.{HasRested}
-use Rattle.mesa_model.specs.mesa_schema.Changes.{columns_of, epoch_of}
-use Rattle.mesa_model.specs.mesa_schema.Lineages.{IsLineage}
-use Rattle.mesa_engine.specs.mesa_history_spec.Rows.{Rows, no_rows}
-use Rattle.mesa_recast_turns.specs.mesa_work_turns.mesa_read_turns.Opening.{IsHeaded}
-use Rattle.mesa_recast_turns.specs.mesa_work_turns.mesa_plans.Told.{TellAnswer}
+use Rattle.mesa_recast_turns.specs.mesa_schema.Changes.{columns_of, epoch_of}
+use Rattle.mesa_recast_turns.specs.mesa_schema.Lineages.{IsLineage}
+use Rattle.mesa_recast_turns.specs.mesa_history_spec.Rows.{Rows, no_rows}
+use Rattle.mesa_recast_turns.specs.mesa_read_turns.Opening.{IsHeaded}
+use Rattle.mesa_recast_turns.specs.mesa_plans.Told.{TellAnswer}
 use Rattle.mesa_core.specs.Pins.{KnownPin}
-use Rattle.mesa_core.specs.mesa_copy.Copying.{KnownRange}
+use Rattle.mesa_recast_turns.specs.mesa_copy.Copying.{KnownRange}
 use Rattle.mesa_core.specs.Recasts.{KnownRecast, known_recast}
 use Rattle.mesa_core.specs.Works.{KnownTask}
 use Rattle.mesa_tasks.specs.Recasts.{IsRecastTask}

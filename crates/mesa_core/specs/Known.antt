@@ -1,17 +1,17 @@
 -- What is known of granted tasks.
 use Rattle.std.specs.Prelude.{◌≡◌, ℕ, ◌+◌, List, [], ◌∷◌, Option, None}
 use Rattle.std.specs.List.{AllByRecursion}
-use Rattle.mesa_publishing.specs.mesa_schema.Changes.{Lineage, epoch_of}
-use Rattle.mesa_publishing.specs.mesa_schema.declared.views.View.{View}
-use Rattle.mesa_publishing.specs.mesa_copy.mesa_compact.mesa_merge.Inputs.{Known}
-use Rattle.mesa_publishing.specs.mesa_copy.Copying.{IsRecastBounded}
+use Rattle.mesa_recast_turns.specs.mesa_schema.Changes.{Lineage, epoch_of}
+use Rattle.mesa_recast_turns.specs.mesa_schema.declared.views.View.{View}
+use Rattle.mesa_recast_turns.specs.mesa_merge.Inputs.{Known}
+use Rattle.mesa_recast_turns.specs.mesa_copy.Copying.{IsRecastBounded}
 use Rattle.mesa_core.specs.Recasts.{KnownRecast, known_recast}
-use Rattle.mesa_publishing.specs.mesa_model.Warehouse.{Store, table_at}
+use Rattle.mesa_model.specs.Warehouse.{Store, table_at}
 use Rattle.mesa_core.specs.Works.{KnownTask, known_task}
-use Rattle.mesa_publishing.specs.mesa_copy.mesa_compact.Tasks.{KnownView}
-use Rattle.mesa_publishing.specs.Finished.{HasRange}
-use Rattle.mesa_publishing.specs.Recasts.{HasItsRanges}
-use Rattle.mesa_tasks.specs.mesa_history_spec.Sources.{Written}
+use Rattle.mesa_recast_turns.specs.mesa_compact.Tasks.{KnownView}
+use Rattle.mesa_recast_turns.specs.mesa_publishing.Finished.{HasRange}
+use Rattle.mesa_recast_turns.specs.mesa_publishing.Recasts.{HasItsRanges}
+use Rattle.mesa_recast_turns.specs.mesa_history_spec.Sources.{Written}
 use Rattle.mesa_tasks.specs.declared.recasting.Recast.{Recast}
 use Rattle.mesa_tasks.specs.declared.merging.Task.{Task}
 

@@ -1,15 +1,11 @@
-pub use Rattle.mesa_query.specs.mesa_answer as mesa_answer
-pub use Rattle.mesa_publishing.specs.mesa_copy.mesa_compact as mesa_compact
-pub use Rattle.mesa_publishing.specs.mesa_copy as mesa_copy
-pub use Rattle.mesa_tasks.specs.mesa_history_spec as mesa_history_spec
-pub use Rattle.mesa_publishing.specs.mesa_invariant_spec as mesa_invariant_spec
-pub use Rattle.mesa_publishing.specs.mesa_copy.mesa_compact.mesa_merge as mesa_merge
-pub use Rattle.mesa_publishing.specs.mesa_plans as mesa_plans
-pub use Rattle.mesa_publishing.specs as mesa_publishing
-pub use Rattle.mesa_query.specs as mesa_query
-pub use Rattle.mesa_engine.specs as mesa_engine
-pub use Rattle.mesa_core.specs.mesa_history_spec as mesa_history_spec
+pub use Rattle.mesa_recast_turns.specs.mesa_answer as mesa_answer
+pub use Rattle.mesa_tasks.specs.mesa_file as mesa_file
+pub use Rattle.mesa_history_laws.specs as mesa_history_laws
+pub use Rattle.mesa_recast_turns.specs.mesa_history_spec as mesa_history_spec
+pub use Rattle.mesa_recast_turns.specs.mesa_invariant_spec as mesa_invariant_spec
+pub use Rattle.mesa_recast_turns.specs.mesa_merge as mesa_merge
 pub use Rattle.mesa_recast_turns.specs as mesa_recast_turns
+pub use Rattle.mesa_recast_turns.specs.mesa_schema as mesa_schema
 pub mod Passes
 pub mod Answers
 pub mod Sight

@@ -3,12 +3,12 @@ use Rattle.std.specs.Prelude.{◌≡◌, ◌≢◌, ◌⊎◌, ◌≤◌, ◌<�
 use mathlib.Core.List.{IsPrefix}
 use Rattle.mesa_turn.specs.History.{has, has_at, entries_of}
 use Rattle.mesa_turn.specs.Passes.{Known, IsExact}
-use Rattle.mesa_publishing.specs.mesa_model.declared.commands.Command.{Command}
-use Rattle.mesa_publishing.specs.mesa_model.declared.commands.Script.{Script}
-use Rattle.mesa_publishing.specs.mesa_model.Entry.{history_of}
-use Rattle.mesa_publishing.specs.mesa_history_spec.Run.{State, Stage, Place, Run, place_of, command_at, begins}
-use Rattle.mesa_publishing.specs.mesa_history_spec.Legal.{AllFit, has_ended}
-use Rattle.mesa_publishing.specs.mesa_invariant_spec.Invariant.{run_at}
+use Rattle.mesa_model.specs.declared.commands.Command.{Command}
+use Rattle.mesa_model.specs.declared.commands.Script.{Script}
+use Rattle.mesa_model.specs.Entry.{history_of}
+use Rattle.mesa_recast_turns.specs.mesa_history_spec.Run.{State, Stage, Place, Run, place_of, command_at, begins}
+use Rattle.mesa_recast_turns.specs.mesa_history_spec.Legal.{AllFit, has_ended}
+use Rattle.mesa_recast_turns.specs.mesa_invariant_spec.Invariant.{run_at}
 
 -- what stands after the turns that a pass has seen
 abbrev pub run_seen : Script → State → List ℕ → Run

@@ -1,32 +1,32 @@
 -- Queries whose files are handed out, and what they are answered with.
 use Rattle.std.specs.Prelude.{◌≡◌, ℕ, List, ◌++◌, Bool, true, Option, Some, None, Result, Ok, Err}
-use Rattle.mesa_disk.specs.mesa_file.declared.damage.Damage.{Damage}
-use Rattle.mesa_publishing.specs.mesa_schema.declared.rows.Row.{Row}
-use Rattle.mesa_publishing.specs.mesa_schema.Columns.{Columns}
-use Rattle.mesa_publishing.specs.mesa_schema.Folded.{rows_of}
-use Rattle.mesa_publishing.specs.mesa_filter.declared.words.QueryWords.{QueryWords}
-use Rattle.mesa_publishing.specs.mesa_filter.Query.{BuiltQuery, group_kinds}
-use Rattle.mesa_publishing.specs.mesa_model.declared.commands.Script.{Script}
-use Rattle.mesa_publishing.specs.mesa_model.declared.entries.Entry.{Entry}
-use Rattle.mesa_publishing.specs.mesa_model.declared.entries.Kind.TheVariants as kind
-use Rattle.mesa_publishing.specs.mesa_model.declared.replies.Page.{Page}
-use Rattle.mesa_publishing.specs.mesa_model.Query.{Answer, Heading}
+use Rattle.mesa_tasks.specs.mesa_file.declared.damage.Damage.{Damage}
+use Rattle.mesa_recast_turns.specs.mesa_schema.declared.rows.Row.{Row}
+use Rattle.mesa_recast_turns.specs.mesa_schema.Columns.{Columns}
+use Rattle.mesa_recast_turns.specs.mesa_schema.Folded.{rows_of}
+use Rattle.mesa_filter.specs.declared.words.QueryWords.{QueryWords}
+use Rattle.mesa_filter.specs.Query.{BuiltQuery, group_kinds}
+use Rattle.mesa_model.specs.declared.commands.Script.{Script}
+use Rattle.mesa_model.specs.declared.entries.Entry.{Entry}
+use Rattle.mesa_model.specs.declared.entries.Kind.TheVariants as kind
+use Rattle.mesa_model.specs.declared.replies.Page.{Page}
+use Rattle.mesa_model.specs.Query.{Answer, Heading}
 use Rattle.mesa_script.specs.declared.rendered.Rendered.{Rendered}
 use Rattle.mesa_script.specs.Rows.{rendered}
-use Rattle.mesa_publishing.specs.mesa_history_spec.Run.{State, Finished}
-use Rattle.mesa_publishing.specs.mesa_history_spec.Rows.{Rows, no_rows}
-use Rattle.mesa_publishing.specs.mesa_invariant_spec.Queries.{IsOpen}
-use Rattle.mesa_publishing.specs.mesa_invariant_spec.Turns.{Shown, IsTurn, IsSeen, Takes}
-use Rattle.mesa_publishing.specs.mesa_copy.mesa_compact.mesa_answer.Answering.{KeepsSums}
-use Rattle.mesa_tasks.specs.mesa_delta.declared.error.FileError.{FileError}
-use Rattle.mesa_publishing.specs.mesa_copy.mesa_compact.mesa_merge.Inputs.{Known, AreTold, knowns_of}
-use Rattle.mesa_publishing.specs.mesa_copy.mesa_compact.mesa_tasks.GivingBack.{pinned_inputs}
-use Rattle.mesa_publishing.specs.mesa_copy.mesa_compact.mesa_tasks.Pins.{IsPinned}
-use Rattle.mesa_publishing.specs.mesa_copy.mesa_compact.mesa_tasks.declared.querying.Pinned.{Pinned}
-use Rattle.mesa_query.specs.Files.{inputs_in, owns_in}
-use Rattle.mesa_query.specs.Relation.{page_over, parts_pinned, parts_ungrouped}
+use Rattle.mesa_recast_turns.specs.mesa_history_spec.Run.{State, Finished}
+use Rattle.mesa_recast_turns.specs.mesa_history_spec.Rows.{Rows, no_rows}
+use Rattle.mesa_recast_turns.specs.mesa_invariant_spec.Queries.{IsOpen}
+use Rattle.mesa_recast_turns.specs.mesa_invariant_spec.Turns.{Shown, IsTurn, IsSeen, Takes}
+use Rattle.mesa_recast_turns.specs.mesa_answer.Answering.{KeepsSums}
+use Rattle.mesa_delta.specs.declared.error.FileError.{FileError}
+use Rattle.mesa_recast_turns.specs.mesa_merge.Inputs.{Known, AreTold, knowns_of}
+use Rattle.mesa_tasks.specs.GivingBack.{pinned_inputs}
+use Rattle.mesa_tasks.specs.Pins.{IsPinned}
+use Rattle.mesa_tasks.specs.declared.querying.Pinned.{Pinned}
+use Rattle.mesa_recast_turns.specs.mesa_query.Files.{inputs_in, owns_in}
+use Rattle.mesa_recast_turns.specs.mesa_query.Relation.{page_over, parts_pinned, parts_ungrouped}
 use Rattle.mesa_core.specs.Damages.{IsUnread}
-use Rattle.mesa_publishing.specs.mesa_copy.mesa_compact.mesa_tasks.Errors.{Differs}
+use Rattle.mesa_tasks.specs.Errors.{Differs}
 
 -- What is known of a query's files while they are handed out, however much of them was read.
 pub record KnownPin : Type 0 where

@@ -1,12 +1,12 @@
 -- What a load sees of the tables after some turns.
 use Rattle.std.specs.Prelude.{◌≡◌, ℕ, ◌+◌, List, ◌++◌, map}
-use Rattle.mesa_publishing.specs.mesa_batch.Glance.{Known, Sight}
-use Rattle.mesa_publishing.specs.mesa_model.declared.commands.Script.{Script}
-use Rattle.mesa_publishing.specs.mesa_model.declared.entries.Entry.{Entry}
-use Rattle.mesa_publishing.specs.mesa_model.Warehouse.{Store, Table}
-use Rattle.mesa_publishing.specs.mesa_history_spec.Run.{State, begins}
-use Rattle.mesa_publishing.specs.mesa_invariant_spec.Sight.{schema_changes}
-use Rattle.mesa_publishing.specs.mesa_invariant_spec.Invariant.{run_at}
+use Rattle.mesa_batch.specs.Glance.{Known, Sight}
+use Rattle.mesa_model.specs.declared.commands.Script.{Script}
+use Rattle.mesa_model.specs.declared.entries.Entry.{Entry}
+use Rattle.mesa_model.specs.Warehouse.{Store, Table}
+use Rattle.mesa_recast_turns.specs.mesa_history_spec.Run.{State, begins}
+use Rattle.mesa_recast_turns.specs.mesa_invariant_spec.Sight.{schema_changes}
+use Rattle.mesa_recast_turns.specs.mesa_invariant_spec.Invariant.{run_at}
 
 -- each table's name, and its columns and views through its life
 abbrev pub tables_known : Store → List Known

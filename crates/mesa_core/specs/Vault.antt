@@ -3,8 +3,8 @@ use Rattle.std.specs.Prelude.{◌≡◌, ℕ, List, Option, Some}
 use Rattle.mesa_disk.specs.Image.{Image}
 use Rattle.mesa_engine.specs.EngineState.{EngineState}
 use Rattle.mesa_model.specs.declared.commands.Script.{Script}
-use Rattle.mesa_engine.specs.mesa_history_spec.Rows.{Rows}
-use Rattle.mesa_engine.specs.mesa_invariant_spec.Turns.{Faults, Shown}
+use Rattle.mesa_recast_turns.specs.mesa_history_spec.Rows.{Rows}
+use Rattle.mesa_recast_turns.specs.mesa_invariant_spec.Turns.{Faults, Shown}
 
 -- What a caller sees of a vault between turns, and the run's number; and, by which it is said what becomes of files, the state, and what a read of the disk gives, where that is told; both counts of the disk's faults, and what the sink has been given, where that is known.
 pub record Stand : Type 0 where

@@ -1,11 +1,11 @@
 // What a turn's script asks.
 ghost use Rattle.std.specs.Prelude.{◌≡◌, Some};
 ghost use Rattle.mesa_core.specs.Asked.{lent_command};
-ghost use Rattle.mesa_core.specs.mesa_history_spec.Run.{command_at};
+ghost use Rattle.mesa_recast_turns.specs.mesa_history_spec.Run.{command_at};
 ghost use Rattle.mesa_model.specs.declared.commands.Command.TheVariants as command;
-ghost use Rattle.mesa_core.specs.mesa_history_spec.Legal.{is_query};
+ghost use Rattle.mesa_recast_turns.specs.mesa_history_spec.Legal.{is_query};
 ghost use Rattle.mesa_core.specs.Passes.{HasSort};
-ghost use Rattle.mesa_engine.specs.mesa_invariant_spec.Turns.{is_load, is_merge, is_recast};
+ghost use Rattle.mesa_recast_turns.specs.mesa_invariant_spec.Turns.{is_load, is_merge, is_recast};
 
 use mesa_batch::LoadRows;
 use mesa_engine::Who;

@@ -1,12 +1,12 @@
 // The one turn of a command that is no load, no query, no work and no recast.
 ghost use Rattle.std.specs.Prelude.{◌<◌, length};
-ghost use Rattle.mesa_recast_turns.specs.mesa_work_turns.mesa_write_turns.Writing.{KeepsFiles};
+ghost use Rattle.mesa_recast_turns.specs.mesa_write_turns.Writing.{KeepsFiles};
 ghost use Rattle.mesa_disk.specs.Story.{Steps};
-ghost use Rattle.mesa_core.specs.mesa_history_spec.Run.{Finished, First};
+ghost use Rattle.mesa_recast_turns.specs.mesa_history_spec.Run.{Finished, First};
 ghost use Rattle.mesa_model.specs.declared.entries.Kind.TheVariants as kind;
-ghost use Rattle.mesa_engine.specs.mesa_history_spec.Rows.{no_rows};
-ghost use Rattle.mesa_engine.specs.mesa_invariant_spec.Turns.{AnswersDisk, Asks, SomeRose, Takes, is_simple};
-ghost use Rattle.mesa_engine.specs.mesa_invariant_spec.Invariant.{run_at};
+ghost use Rattle.mesa_recast_turns.specs.mesa_history_spec.Rows.{no_rows};
+ghost use Rattle.mesa_recast_turns.specs.mesa_invariant_spec.Turns.{AnswersDisk, Asks, SomeRose, Takes, is_simple};
+ghost use Rattle.mesa_recast_turns.specs.mesa_invariant_spec.Invariant.{run_at};
 
 use crate::Vault;
 use crate::asked::command_of;
@@ -15,8 +15,7 @@ use mesa_disk::{Disk, Made};
 use mesa_engine::{Naming, Who};
 use mesa_io::Sink;
 use mesa_model::Command;
-use mesa_read_turns::{explain, pin, release};
-use mesa_recast_turns::{alter, expire, table, view};
+use mesa_recast_turns::{alter, expire, explain, pin, release, table, view};
 
 impl<'s, N: Naming, M: Made, D: Disk<M>, K: Sink> Vault<'s, N, M, D, K> {
     /// The one turn of a command that is no load, no query, no work and no recast.

@@ -1,17 +1,17 @@
 // The turns of a load.
 ghost use Rattle.std.specs.Prelude.{◌≡◌, ◌<◌, List, true, Err, Some, IfOk, OnOk, length};
 ghost use Rattle.mesa_batch.specs.declared.words.RowWords.{RowWords as AnyWords};
-ghost use Rattle.mesa_recast_turns.specs.mesa_work_turns.mesa_write_turns.Writing.{KeepsFiles};
+ghost use Rattle.mesa_recast_turns.specs.mesa_write_turns.Writing.{KeepsFiles};
 ghost use Rattle.mesa_disk.specs.Story.{Steps};
-ghost use Rattle.mesa_core.specs.mesa_history_spec.Run.{Finished, First, Looked, command_at};
+ghost use Rattle.mesa_recast_turns.specs.mesa_history_spec.Run.{Finished, First, Looked, command_at};
 ghost use Rattle.mesa_model.specs.declared.commands.Command.TheVariants as command;
 ghost use Rattle.mesa_model.specs.declared.entries.Kind.TheVariants as kind;
 ghost use Rattle.mesa_core.specs.Sight.{sight_after};
-ghost use Rattle.mesa_engine.specs.mesa_history_spec.Rows.{no_rows};
+ghost use Rattle.mesa_recast_turns.specs.mesa_history_spec.Rows.{no_rows};
 ghost use Rattle.mesa_tasks.specs.Batches.{HasPrepared};
 ghost use Rattle.mesa_tasks.specs.declared.prepared.LoadError.TheVariants as load;
-ghost use Rattle.mesa_engine.specs.mesa_invariant_spec.Turns.{AnswersDisk, AnswersDraft, Asks, SomeRose, Takes, is_load};
-ghost use Rattle.mesa_engine.specs.mesa_invariant_spec.Invariant.{run_at};
+ghost use Rattle.mesa_recast_turns.specs.mesa_invariant_spec.Turns.{AnswersDisk, AnswersDraft, Asks, SomeRose, Takes, is_load};
+ghost use Rattle.mesa_recast_turns.specs.mesa_invariant_spec.Invariant.{run_at};
 
 use crate::Vault;
 use crate::asked::rows_of;
@@ -20,8 +20,7 @@ use mesa_batch::Glance;
 use mesa_disk::{Disk, Made};
 use mesa_engine::{Naming, Who};
 use mesa_io::Sink;
-use mesa_read_turns::look;
-use mesa_recast_turns::publish;
+use mesa_recast_turns::{look, publish};
 use mesa_tasks::{LoadError, Prepared};
 use std::alloc::AllocError;
 

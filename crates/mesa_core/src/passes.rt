@@ -1,8 +1,8 @@
 // Laws of passes.
 ghost use Rattle.std.specs.Prelude.{◌≡◌, ◌≢◌, ◌<◌, ◌≤◌, ◌+◌, ℕ, List, [], ◌∷◌, IsTrue, true, length};
-ghost use Rattle.mesa_publishing.specs.mesa_history_spec.Run.{State, Place, First, Finished, commands_of, place_of};
-ghost use Rattle.mesa_publishing.specs.mesa_history_spec.Turns.{place_then};
-ghost use Rattle.mesa_publishing.specs.mesa_model.declared.commands.Script.{Script as AnyScript};
+ghost use Rattle.mesa_recast_turns.specs.mesa_history_spec.Run.{State, Place, First, Finished, commands_of, place_of};
+ghost use Rattle.mesa_recast_turns.specs.mesa_history_spec.Turns.{place_then};
+ghost use Rattle.mesa_model.specs.declared.commands.Script.{Script as AnyScript};
 ghost use Rattle.mesa_turn.specs.History.{has};
 ghost use Rattle.mesa_turn.specs.Passes.{Finds, IsExact, Joins, Known, left_of, part_of};
 ghost use Rattle.mesa_core.specs.Passes.{Gains, HasEnded, HaveEnded, Mine, Took, Waits, at_stage, run_seen};

@@ -1,18 +1,18 @@
 // The turns of a query.
 ghost use Rattle.std.specs.Prelude.{◌≡◌, ◌<◌, ◌++◌, ◌∷◌, [], true, length, IfSome, Some};
-ghost use Rattle.mesa_recast_turns.specs.mesa_work_turns.mesa_read_turns.Closing.{closing_entry, closing_text};
-ghost use Rattle.mesa_recast_turns.specs.mesa_work_turns.mesa_read_turns.Opening.{HasItsFiles};
+ghost use Rattle.mesa_recast_turns.specs.mesa_read_turns.Closing.{closing_entry, closing_text};
+ghost use Rattle.mesa_recast_turns.specs.mesa_read_turns.Opening.{HasItsFiles};
 ghost use Rattle.mesa_core.specs.Handing.{Tells};
-ghost use Rattle.mesa_core.specs.mesa_history_spec.Legal.{is_query};
+ghost use Rattle.mesa_recast_turns.specs.mesa_history_spec.Legal.{is_query};
 ghost use Rattle.mesa_filter.specs.declared.words.QueryWords.{QueryWords};
-ghost use Rattle.mesa_core.specs.mesa_history_spec.Run.{Finished, First, command_at};
+ghost use Rattle.mesa_recast_turns.specs.mesa_history_spec.Run.{Finished, First, command_at};
 ghost use Rattle.mesa_model.specs.declared.commands.Command.TheVariants as command;
 ghost use Rattle.mesa_model.specs.declared.entries.Kind.TheVariants as kind;
 ghost use Rattle.mesa_core.specs.Pins.{HasAnswered, IsOpenQuery, TakesQuery, known_pin};
-ghost use Rattle.mesa_engine.specs.mesa_history_spec.Rows.{no_rows};
-ghost use Rattle.mesa_engine.specs.mesa_invariant_spec.Printing.{IsPut};
-ghost use Rattle.mesa_engine.specs.mesa_invariant_spec.Turns.{AnswersDisk, Asks, SomeRose, Takes};
-ghost use Rattle.mesa_engine.specs.mesa_invariant_spec.Invariant.{run_at};
+ghost use Rattle.mesa_recast_turns.specs.mesa_history_spec.Rows.{no_rows};
+ghost use Rattle.mesa_recast_turns.specs.mesa_invariant_spec.Printing.{IsPut};
+ghost use Rattle.mesa_recast_turns.specs.mesa_invariant_spec.Turns.{AnswersDisk, Asks, SomeRose, Takes};
+ghost use Rattle.mesa_recast_turns.specs.mesa_invariant_spec.Invariant.{run_at};
 
 use crate::Vault;
 use crate::asked::words_of;

@@ -1,11 +1,11 @@
 // What holds of an engine between turns, by its history.
 ghost use Rattle.std.specs.Prelude.{◌≡◌, ℕ};
 ghost use Rattle.mesa_core.specs.Standing.{IsCatalogAfter};
-ghost use Rattle.mesa_core.specs.mesa_history_spec.Claims.{HasClaimAt, HasRanges};
-ghost use Rattle.mesa_core.specs.mesa_history_spec.Run.{place_of};
-ghost use Rattle.mesa_engine.specs.mesa_history_spec.Rows.{no_rows};
-ghost use Rattle.mesa_engine.specs.mesa_invariant_spec.Turns.{IsSeen};
-ghost use Rattle.mesa_engine.specs.mesa_invariant_spec.Invariant.{run_at};
+ghost use Rattle.mesa_recast_turns.specs.mesa_history_spec.Claims.{HasClaimAt, HasRanges};
+ghost use Rattle.mesa_recast_turns.specs.mesa_history_spec.Run.{place_of};
+ghost use Rattle.mesa_recast_turns.specs.mesa_history_spec.Rows.{no_rows};
+ghost use Rattle.mesa_recast_turns.specs.mesa_invariant_spec.Turns.{IsSeen};
+ghost use Rattle.mesa_recast_turns.specs.mesa_invariant_spec.Invariant.{run_at};
 
 use mesa_disk::{Disk, Made};
 use mesa_engine::{Engine, Naming};

@@ -1,10 +1,10 @@
 // The vault, and what can be asked of it between turns.
 ghost use Rattle.std.specs.Prelude.{◌≡◌, ◌<◌, ◌^◌, IfOk};
-ghost use Rattle.mesa_core.specs.mesa_history_spec.Refused.{some_refused};
-ghost use Rattle.mesa_core.specs.mesa_history_spec.Run.{begins};
+ghost use Rattle.mesa_recast_turns.specs.mesa_history_spec.Refused.{some_refused};
+ghost use Rattle.mesa_recast_turns.specs.mesa_history_spec.Run.{begins};
 ghost use Rattle.mesa_core.specs.Sight.{sight_after};
-ghost use Rattle.mesa_engine.specs.mesa_history_spec.Rows.{Rows, no_rows};
-ghost use Rattle.mesa_engine.specs.mesa_invariant_spec.Turns.{IsSeen};
+ghost use Rattle.mesa_recast_turns.specs.mesa_history_spec.Rows.{Rows, no_rows};
+ghost use Rattle.mesa_recast_turns.specs.mesa_invariant_spec.Turns.{IsSeen};
 
 use crate::standing::{catalogue, standing};
 use mesa_batch::Glance;

@@ -3,18 +3,18 @@ ghost use Rattle.std.specs.Prelude.{◌≡◌, ◌<◌, ◌++◌, ◌∷◌, [],
 ghost use Rattle.mesa_recast_turns.specs.mesa_work_turns.Swept.{ClaimHolds, HasStood, IsSwept};
 ghost use Rattle.mesa_recast_turns.specs.mesa_work_turns.Unmerged.{closing_cause};
 ghost use Rattle.mesa_core.specs.Handing.{IsGranted};
-ghost use Rattle.mesa_core.specs.mesa_history_spec.Run.{Finished, First, Granted, Renewed};
+ghost use Rattle.mesa_recast_turns.specs.mesa_history_spec.Run.{Finished, First, Granted, Renewed};
 ghost use Rattle.mesa_model.specs.declared.entries.Kind.TheVariants as kind;
 ghost use Rattle.mesa_core.specs.Works.{CanBeMerged, HasMerged, WasGranted, known_task};
-ghost use Rattle.mesa_engine.specs.mesa_history_spec.Rows.{no_rows};
-ghost use Rattle.mesa_engine.specs.mesa_invariant_spec.mesa_history_spec.Output.{block};
+ghost use Rattle.mesa_recast_turns.specs.mesa_history_spec.Rows.{no_rows};
+ghost use Rattle.mesa_recast_turns.specs.mesa_history_spec.Output.{block};
 ghost use Rattle.mesa_tasks.specs.Tasks.{claim_in};
 ghost use Rattle.mesa_tasks.specs.declared.merging.CompactError.TheVariants as compact;
-ghost use Rattle.mesa_engine.specs.mesa_invariant_spec.Causes.{outcome_of, reply_of, told_at};
-ghost use Rattle.mesa_engine.specs.mesa_invariant_spec.Printing.{IsPut};
-ghost use Rattle.mesa_engine.specs.mesa_invariant_spec.Turns.{AnswersDisk, AnswersDraft, Asks, SomeRose, Takes, entry, is_merge};
-ghost use Rattle.mesa_engine.specs.mesa_invariant_spec.Invariant.{run_at};
-ghost use Rattle.mesa_engine.specs.mesa_invariant_spec.Works.{closing_stage, stage_if};
+ghost use Rattle.mesa_recast_turns.specs.mesa_invariant_spec.Causes.{outcome_of, reply_of, told_at};
+ghost use Rattle.mesa_recast_turns.specs.mesa_invariant_spec.Printing.{IsPut};
+ghost use Rattle.mesa_recast_turns.specs.mesa_invariant_spec.Turns.{AnswersDisk, AnswersDraft, Asks, SomeRose, Takes, entry, is_merge};
+ghost use Rattle.mesa_recast_turns.specs.mesa_invariant_spec.Invariant.{run_at};
+ghost use Rattle.mesa_recast_turns.specs.mesa_invariant_spec.Works.{closing_stage, stage_if};
 
 use crate::{Vault, bounds_are_known, leases_hold, merges_are_known, ranges_go_on, tables_go_on};
 use crate::asked::work_of;

@@ -1,3 +1,4 @@
+pub use Rattle.mesa_block.proofs as mesa_block
 pub mod Adding
 pub mod Spreading
 pub mod Putting

@@ -9,7 +9,7 @@ use Rattle.std.proofs.lemmas.Cmp.{nat_list_eq_equiv}
 use Rattle.std.proofs.lemmas.List.{get_or-map, get_or_default, length-map, same_lists}
 use Rattle.std.proofs.lemmas.List.Sorted.{IsPermutation-cons, IsPermutation-map, IsPermutation-middle, IsPermutation-refl, IsPermutation-trans}
 use Rattle.std.proofs.lemmas.Option.{slice_get-get_or}
-use Rattle.mesa_list.specs.Bytes.{same_bytes}
+use Rattle.mesa_schema.specs.mesa_list.Bytes.{same_bytes}
 use Rattle.mesa_schema.specs.Columns.{chosen, place_of, places_in}
 use Rattle.mesa_schema.specs.Names.{has_name}
 use Rattle.mesa_schema.proofs.Apart.{Apart}

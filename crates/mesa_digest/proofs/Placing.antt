@@ -8,7 +8,7 @@ use Rattle.std.specs.declared.cmp.Ordering.TheVariants.{Less, Equal, Greater}
 use Rattle.std.proofs.lemmas.Bool.{ltb-true, ltb-false}
 use Rattle.std.proofs.lemmas.Cmp.{nat_list_eq_equiv}
 use Rattle.std.proofs.lemmas.List.{drop-map, drop_more, get_or-map, length-append, length-map, map-append, take-map, take_more, drop_all}
-use Rattle.mesa_list.specs.Bytes.{same_bytes}
+use Rattle.mesa_schema.specs.mesa_list.Bytes.{same_bytes}
 use Rattle.mesa_key.specs.Order.{byte_cmp}
 use Rattle.mesa_key.specs.declared.KeyType.{KeyType}
 use Rattle.mesa_key.specs.Spelling.{columns_of}

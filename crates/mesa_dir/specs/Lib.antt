@@ -1,4 +1,3 @@
-pub use Rattle.mesa_disk.specs as mesa_disk
 pub mod Calls
 pub mod Paths
 pub mod Told

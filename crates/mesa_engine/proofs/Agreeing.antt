@@ -1,14 +1,14 @@
 -- What a vault stands for doesn't change with the rows of files that are to come.
 use Rattle.std.proofs.Common.{◌≡◌, ℕ, ◌<◌, ◌≤◌, List, [], ◌∷◌, map, length, Bool, arith, refl, Option}
 use Rattle.std.specs.List.{AllByRecursion}
-use Rattle.mesa_invariant_spec.specs.mesa_disk.Story.{Story}
-use Rattle.mesa_image_spec.specs.mesa_model.declared.entries.Entry.{Entry}
-use Rattle.mesa_image_spec.specs.mesa_model.Pins.{store_at}
-use Rattle.mesa_image_spec.specs.Contents.{kept_of}
-use Rattle.mesa_image_spec.specs.Fitting.{shelved}
-use Rattle.mesa_image_spec.proofs.Agreeing.{Agrees, agree_kept}
-use Rattle.mesa_image_spec.specs.Ids.{named}
-use Rattle.mesa_invariant_spec.specs.mesa_history_spec.Rows.{Rows}
+use Rattle.mesa_disk.specs.Story.{Story}
+use Rattle.mesa_model.specs.declared.entries.Entry.{Entry}
+use Rattle.mesa_model.specs.Pins.{store_at}
+use Rattle.mesa_catalog.specs.mesa_image_spec.Contents.{kept_of}
+use Rattle.mesa_catalog.specs.mesa_image_spec.Fitting.{shelved}
+use Rattle.mesa_catalog.proofs.mesa_image_spec.Agreeing.{Agrees, agree_kept}
+use Rattle.mesa_catalog.specs.mesa_image_spec.Ids.{named}
+use Rattle.mesa_catalog.specs.mesa_history_spec.Rows.{Rows}
 use Rattle.mesa_commit.specs.Holding.{Held, IsHoldOf}
 use Rattle.mesa_invariant_spec.specs.Invariant.{Outset}
 use Rattle.mesa_engine.specs.EngineState.{HeldPin, EngineState, held_with, next_id, Holder, holders, ids_held}

@@ -1,28 +1,28 @@
 -- A vault before its first turn, one whose disk gave readers back, and what a session sees of one.
 use Rattle.std.proofs.Common.{◌≡◌, ℕ, ◌<◌, List, [], Bool, true, false, ◌∙◌, arith, Option, None, IsTrue}
-use Rattle.mesa_invariant_spec.specs.mesa_disk.declared.area.Area.{Area}
-use Rattle.mesa_invariant_spec.specs.mesa_disk.Story.{Story, Unmoved}
-use Rattle.mesa_image_spec.specs.mesa_model.declared.entries.Entry.{Entry}
-use Rattle.mesa_image_spec.specs.mesa_history_spec.Claims.{HasRanges, HasClaimAt}
-use Rattle.mesa_image_spec.specs.mesa_history_spec.Counting.{count_in}
-use Rattle.mesa_image_spec.specs.mesa_history_spec.Law.{written_in}
-use Rattle.mesa_image_spec.specs.mesa_history_spec.Run.{begins, place_of}
-use Rattle.mesa_image_spec.proofs.mesa_history_spec.Claims.{runs_hold, begins_hold}
-use Rattle.mesa_image_spec.specs.Catalog.{Catalog}
-use Rattle.mesa_image_spec.specs.Held.{IsHeld}
-use Rattle.mesa_image_spec.specs.Shape.{IsCatalog}
-use Rattle.mesa_image_spec.specs.Sound.{AreStocked}
-use Rattle.mesa_image_spec.specs.Ids.{HasOwnIds, named}
-use Rattle.mesa_invariant_spec.specs.mesa_history_spec.Rows.{Rows, no_rows}
+use Rattle.mesa_disk.specs.declared.area.Area.{Area}
+use Rattle.mesa_disk.specs.Story.{Story, Unmoved}
+use Rattle.mesa_model.specs.declared.entries.Entry.{Entry}
+use Rattle.mesa_catalog.specs.mesa_history_spec.Claims.{HasRanges, HasClaimAt}
+use Rattle.mesa_catalog.specs.mesa_history_spec.Counting.{count_in}
+use Rattle.mesa_catalog.specs.mesa_history_spec.Law.{written_in}
+use Rattle.mesa_catalog.specs.mesa_history_spec.Run.{begins, place_of}
+use Rattle.mesa_invariant_spec.proofs.mesa_history_spec.Claims.{runs_hold, begins_hold}
+use Rattle.mesa_catalog.specs.mesa_image_spec.Catalog.{Catalog}
+use Rattle.mesa_catalog.specs.mesa_image_spec.Held.{IsHeld}
+use Rattle.mesa_catalog.specs.mesa_image_spec.Shape.{IsCatalog}
+use Rattle.mesa_catalog.specs.mesa_image_spec.Sound.{AreStocked}
+use Rattle.mesa_catalog.specs.mesa_image_spec.Ids.{HasOwnIds, named}
+use Rattle.mesa_catalog.specs.mesa_history_spec.Rows.{Rows, no_rows}
 use Rattle.mesa_commit.specs.Holding.{Among}
 use Rattle.mesa_commit.proofs.Filing.{filed_first}
 use Rattle.mesa_invariant_spec.specs.Turns.{IsSeen}
 use Rattle.mesa_invariant_spec.specs.Invariant.{Outset, HoldsInvariant, Counts, run_of}
 use Rattle.mesa_invariant_spec.proofs.Beginning.{unmoved_invariant}
 use Rattle.mesa_engine.specs.EngineState.{EngineState, books_of, next_id}
-use Rattle.mesa_image_spec.specs.Countable.{AreCounted}
-use Rattle.mesa_image_spec.specs.Recordable.{AreRecordable}
-use Rattle.mesa_image_spec.specs.Sourced.{HasSources}
+use Rattle.mesa_catalog.specs.mesa_image_spec.Countable.{AreCounted}
+use Rattle.mesa_catalog.specs.mesa_image_spec.Recordable.{AreRecordable}
+use Rattle.mesa_catalog.specs.mesa_image_spec.Sourced.{HasSources}
 use Rattle.mesa_engine.specs.Vault.{Origin, IsRead, IsReady, IsVault, Starts, IsVaultAt, outset_of}
 use Rattle.mesa_engine.proofs.Standing.{held_unmoved, ready_unmoved, there_unmoved}
 

@@ -2,11 +2,11 @@
 use Rattle.std.proofs.Common.{◌≡◌, ℕ, List, [], Bool, true, false, sym, ap, subst, Option}
 use Rattle.mesa_disk.specs.Story.{Story}
 use Rattle.mesa_disk.specs.declared.area.Area.{Area}
-use Rattle.mesa_engine.specs.mesa_catalog.mesa_image_spec.Catalog.{Catalog}
-use Rattle.mesa_engine.specs.mesa_lease.Book.{Book}
-use Rattle.mesa_engine.specs.mesa_history_spec.Rows.{Rows}
-use Rattle.mesa_engine.specs.mesa_invariant_spec.Books.{AreBooksOf}
-use Rattle.mesa_engine.proofs.mesa_invariant_spec.Beginning.{started}
+use Rattle.mesa_catalog.specs.mesa_image_spec.Catalog.{Catalog}
+use Rattle.mesa_lease.specs.Book.{Book}
+use Rattle.mesa_catalog.specs.mesa_history_spec.Rows.{Rows}
+use Rattle.mesa_invariant_spec.specs.Books.{AreBooksOf}
+use Rattle.mesa_invariant_spec.proofs.Beginning.{started}
 use Rattle.mesa_engine.specs.EngineState.{books_of}
 use Rattle.mesa_engine.specs.Vault.{Starts, IsVault, outset_of}
 use Rattle.mesa_engine.proofs.BeforeTurns.{first_state, started_vault}

@@ -3,51 +3,51 @@ use Rattle.std.proofs.Common.{◌≡◌, ℕ, ◌+◌, ◌<◌, List, [], ◌∷
 use Rattle.std.specs.Prelude.{slice_set}
 use Rattle.std.proofs.lemmas.List.{map-set}
 use Rattle.std.proofs.lemmas.Simd.{map-map}
-use Rattle.mesa_image_spec.specs.mesa_batch.Batch.{Named, Placed, batch_of, rows_for}
-use Rattle.mesa_image_spec.specs.mesa_batch.declared.words.RowWords.{RowWords}
-use Rattle.mesa_image_spec.specs.mesa_schema.declared.changes.Change.{Change}
-use Rattle.mesa_image_spec.specs.mesa_schema.declared.views.View.{View}
-use Rattle.mesa_image_spec.specs.mesa_schema.Columns.{Columns}
-use Rattle.mesa_image_spec.specs.mesa_schema.Changes.{Lineage, columns_of, epoch_of}
-use Rattle.mesa_image_spec.specs.mesa_schema.Views.{with_view}
+use Rattle.mesa_batch.specs.Batch.{Named, Placed, batch_of, rows_for}
+use Rattle.mesa_batch.specs.declared.words.RowWords.{RowWords}
+use Rattle.mesa_catalog.specs.mesa_schema.declared.changes.Change.{Change}
+use Rattle.mesa_catalog.specs.mesa_schema.declared.views.View.{View}
+use Rattle.mesa_catalog.specs.mesa_schema.Columns.{Columns}
+use Rattle.mesa_catalog.specs.mesa_schema.Changes.{Lineage, columns_of, epoch_of}
+use Rattle.mesa_catalog.specs.mesa_schema.Views.{with_view}
 use Rattle.mesa_commit.specs.declared.trash.Dropped.{Dropped}
-use Rattle.mesa_invariant_spec.specs.mesa_disk.Story.{Story}
-use Rattle.mesa_image_spec.specs.mesa_model.declared.commands.AlterWords.{AlterWords}
-use Rattle.mesa_image_spec.specs.mesa_model.declared.commands.TableWords.{TableWords}
-use Rattle.mesa_image_spec.specs.mesa_model.declared.commands.ViewWords.{ViewWords}
-use Rattle.mesa_image_spec.specs.mesa_model.declared.entries.Entry.{Entry}
-use Rattle.mesa_image_spec.specs.mesa_model.declared.replies.Reply.{Reply}
-use Rattle.mesa_image_spec.specs.mesa_model.declared.replies.Reply.TheVariants as reply
-use Rattle.mesa_image_spec.specs.mesa_model.Load.{load_batch, tables_loaded, tables_named, table_loaded, with_batch}
-use Rattle.mesa_image_spec.specs.mesa_model.Relations.{table_number}
-use Rattle.mesa_image_spec.specs.mesa_model.Tables.{make_table, make_view, alter_table, columns_asked, new_table, change_asked, table_changed}
-use Rattle.mesa_image_spec.specs.mesa_model.Versions.{expire_all, expire_table, store_from, table_from}
-use Rattle.mesa_image_spec.specs.mesa_model.Warehouse.{Table, Warehouse, table_at, with_table, no_table}
-use Rattle.mesa_image_spec.specs.mesa_history_spec.Found.{Kept, kept_of as kept_by}
-use Rattle.mesa_image_spec.specs.mesa_history_spec.Machine.{with_new_table}
-use Rattle.mesa_image_spec.specs.mesa_history_spec.Replay.{stepped}
-use Rattle.mesa_image_spec.specs.mesa_history_spec.Run.{State}
-use Rattle.mesa_image_spec.specs.mesa_record.declared.record.Part.{Part}
-use Rattle.mesa_image_spec.specs.mesa_record.declared.record.Record.TheVariants as record_of
-use Rattle.mesa_image_spec.specs.mesa_record.Rules.{IsTypedChange}
-use Rattle.mesa_image_spec.specs.mesa_span.Ranges.{new_ranges}
-use Rattle.mesa_image_spec.specs.Catalog.{Catalog, Stock, applied, new_stock, no_stock, ranges_of, stock_at, stock_changed, stock_from, stock_viewed, stocks_loaded}
-use Rattle.mesa_image_spec.specs.Contents.{kept_of, table_of}
-use Rattle.mesa_image_spec.specs.Fitting.{alter_fits}
-use Rattle.mesa_image_spec.specs.Shape.{IsCatalog}
-use Rattle.mesa_image_spec.proofs.Agreeing.{agree_stocked}
-use Rattle.mesa_image_spec.proofs.Changes.{alter_moves}
-use Rattle.mesa_image_spec.proofs.Kept.{expire_moves, publish_moves}
-use Rattle.mesa_image_spec.proofs.Expiring.{expire_table_moves}
-use Rattle.mesa_image_spec.proofs.Tables.{table_moves}
-use Rattle.mesa_image_spec.proofs.Views.{ranges_same, view_moves}
-use Rattle.mesa_image_spec.specs.Brought.{BringsAll}
-use Rattle.mesa_image_spec.specs.Moves.{kept_altered, kept_expired, kept_expired_of, kept_loaded, kept_made, kept_viewed}
-use Rattle.mesa_image_spec.specs.Sourced.{tables_read}
+use Rattle.mesa_disk.specs.Story.{Story}
+use Rattle.mesa_model.specs.declared.commands.AlterWords.{AlterWords}
+use Rattle.mesa_model.specs.declared.commands.TableWords.{TableWords}
+use Rattle.mesa_model.specs.declared.commands.ViewWords.{ViewWords}
+use Rattle.mesa_model.specs.declared.entries.Entry.{Entry}
+use Rattle.mesa_model.specs.declared.replies.Reply.{Reply}
+use Rattle.mesa_model.specs.declared.replies.Reply.TheVariants as reply
+use Rattle.mesa_model.specs.Load.{load_batch, tables_loaded, tables_named, table_loaded, with_batch}
+use Rattle.mesa_model.specs.Relations.{table_number}
+use Rattle.mesa_model.specs.Tables.{make_table, make_view, alter_table, columns_asked, new_table, change_asked, table_changed}
+use Rattle.mesa_model.specs.Versions.{expire_all, expire_table, store_from, table_from}
+use Rattle.mesa_model.specs.Warehouse.{Table, Warehouse, table_at, with_table, no_table}
+use Rattle.mesa_catalog.specs.mesa_history_spec.Found.{Kept, kept_of as kept_by}
+use Rattle.mesa_catalog.specs.mesa_history_spec.Machine.{with_new_table}
+use Rattle.mesa_catalog.specs.mesa_history_spec.Replay.{stepped}
+use Rattle.mesa_catalog.specs.mesa_history_spec.Run.{State}
+use Rattle.mesa_record.specs.declared.record.Part.{Part}
+use Rattle.mesa_record.specs.declared.record.Record.TheVariants as record_of
+use Rattle.mesa_record.specs.Rules.{IsTypedChange}
+use Rattle.mesa_catalog.specs.mesa_span.Ranges.{new_ranges}
+use Rattle.mesa_catalog.specs.mesa_image_spec.Catalog.{Catalog, Stock, applied, new_stock, no_stock, ranges_of, stock_at, stock_changed, stock_from, stock_viewed, stocks_loaded}
+use Rattle.mesa_catalog.specs.mesa_image_spec.Contents.{kept_of, table_of}
+use Rattle.mesa_catalog.specs.mesa_image_spec.Fitting.{alter_fits}
+use Rattle.mesa_catalog.specs.mesa_image_spec.Shape.{IsCatalog}
+use Rattle.mesa_catalog.proofs.mesa_image_spec.Agreeing.{agree_stocked}
+use Rattle.mesa_catalog.proofs.mesa_image_spec.Changes.{alter_moves}
+use Rattle.mesa_catalog.proofs.mesa_image_spec.Kept.{expire_moves, publish_moves}
+use Rattle.mesa_catalog.proofs.mesa_image_spec.Expiring.{expire_table_moves}
+use Rattle.mesa_catalog.proofs.mesa_image_spec.Tables.{table_moves}
+use Rattle.mesa_catalog.proofs.mesa_image_spec.Views.{ranges_same, view_moves}
+use Rattle.mesa_catalog.specs.mesa_image_spec.Brought.{BringsAll}
+use Rattle.mesa_catalog.specs.mesa_image_spec.Moves.{kept_altered, kept_expired, kept_expired_of, kept_loaded, kept_made, kept_viewed}
+use Rattle.mesa_catalog.specs.mesa_image_spec.Sourced.{tables_read}
 use Rattle.mesa_invariant_spec.proofs.mesa_history_spec.BareLists.{append_same, at_same, set_same}
 use Rattle.mesa_invariant_spec.proofs.mesa_history_spec.BareSteps.{alter-bare, expire-bare, load-bare, number_bare, table-bare, view-bare}
-use Rattle.mesa_invariant_spec.specs.mesa_history_spec.Bare.{bare, bare_table}
-use Rattle.mesa_invariant_spec.specs.mesa_history_spec.Rows.{Rows}
+use Rattle.mesa_catalog.specs.mesa_history_spec.Bare.{bare, bare_table}
+use Rattle.mesa_catalog.specs.mesa_history_spec.Rows.{Rows}
 use Rattle.mesa_invariant_spec.specs.Books.{Books, AreBooksOf}
 use Rattle.mesa_invariant_spec.specs.Changes.{IsChange}
 use Rattle.mesa_invariant_spec.specs.Invariant.{Outset}

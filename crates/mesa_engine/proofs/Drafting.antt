@@ -1,15 +1,15 @@
 -- Which turns answer a draft that failed, and which causes a fault of the disk.
 use Rattle.std.proofs.Common.{◌≡◌, ℕ, ◌<◌, List, [], ◌∷◌, ◌++◌, Bool, true, false, ◌&&◌, ◌==◌, refl, sym, ◌∙◌, subst, IsTrue}
 use Rattle.std.proofs.lemmas.List.{append_cancel_left}
-use Rattle.mesa_disk.specs.mesa_io.Causes.{last}
+use Rattle.mesa_io.specs.Causes.{last}
 use Rattle.mesa_model.specs.declared.commands.Script.{Script}
 use Rattle.mesa_model.specs.declared.entries.Entry.{Entry}
-use Rattle.mesa_engine.specs.mesa_catalog.mesa_history_spec.Counting.{answers_bench, answers_disk, is_bench_fault}
-use Rattle.mesa_engine.specs.mesa_catalog.mesa_history_spec.Replay.{closes}
-use Rattle.mesa_engine.specs.mesa_catalog.mesa_history_spec.Run.{State}
-use Rattle.mesa_engine.specs.mesa_invariant_spec.Causes.{Cause, Replies, Unread, Damaged, Unwritten, NoMemory, outcome_of}
-use Rattle.mesa_engine.specs.mesa_invariant_spec.Turns.{AnswersDraft, Shown}
-use Rattle.mesa_engine.specs.mesa_invariant_spec.Invariant.{run_at}
+use Rattle.mesa_catalog.specs.mesa_history_spec.Counting.{answers_bench, answers_disk, is_bench_fault}
+use Rattle.mesa_catalog.specs.mesa_history_spec.Replay.{closes}
+use Rattle.mesa_catalog.specs.mesa_history_spec.Run.{State}
+use Rattle.mesa_invariant_spec.specs.Causes.{Cause, Replies, Unread, Damaged, Unwritten, NoMemory, outcome_of}
+use Rattle.mesa_invariant_spec.specs.Turns.{AnswersDraft, Shown}
+use Rattle.mesa_invariant_spec.specs.Invariant.{run_at}
 use Rattle.mesa_engine.specs.Failing.{is_of_device}
 
 right_true : (a b : Bool) → IsTrue (a && b) → IsTrue b

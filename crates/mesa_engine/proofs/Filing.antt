@@ -4,15 +4,15 @@ use Rattle.std.specs.Prelude.{filter}
 use Rattle.std.specs.List.{AllByRecursion}
 use Rattle.std.proofs.lemmas.List.{append-nil, map-append}
 use Rattle.std.proofs.lemmas.Simd.{map-map}
-use Rattle.mesa_invariant_spec.specs.mesa_disk.Image.{Image}
+use Rattle.mesa_disk.specs.Image.{Image}
 use Rattle.mesa_commit.specs.Images.{Has}
 use Rattle.mesa_commit.specs.Turn.{MovesOnly, made_ids}
-use Rattle.mesa_image_spec.specs.Catalog.{Catalog}
-use Rattle.mesa_image_spec.specs.Fitting.{Shelved, shelved, shelved_id}
-use Rattle.mesa_image_spec.specs.Sound.{wants}
-use Rattle.mesa_image_spec.proofs.Agreeing.{Agrees, agree_wants}
-use Rattle.mesa_image_spec.specs.Ids.{named}
-use Rattle.mesa_invariant_spec.specs.mesa_history_spec.Rows.{Rows}
+use Rattle.mesa_catalog.specs.mesa_image_spec.Catalog.{Catalog}
+use Rattle.mesa_catalog.specs.mesa_image_spec.Fitting.{Shelved, shelved, shelved_id}
+use Rattle.mesa_catalog.specs.mesa_image_spec.Sound.{wants}
+use Rattle.mesa_catalog.proofs.mesa_image_spec.Agreeing.{Agrees, agree_wants}
+use Rattle.mesa_catalog.specs.mesa_image_spec.Ids.{named}
+use Rattle.mesa_catalog.specs.mesa_history_spec.Rows.{Rows}
 use Rattle.mesa_commit.specs.declared.trash.Hold.{Hold}
 use Rattle.mesa_commit.specs.declared.trash.Dropped.{Dropped}
 use Rattle.mesa_commit.specs.Filed.{AreGiven, Renames, waits_after}

@@ -4,13 +4,13 @@ use Rattle.std.specs.Prelude.{filter, if◌then◌else◌}
 use Rattle.std.specs.List.{AllByRecursion}
 use Rattle.std.proofs.lemmas.Bool.Decides.{nat_tests}
 use Rattle.mesa_commit.specs.Images.{Has}
-use Rattle.mesa_invariant_spec.specs.mesa_disk.Image.{Image}
-use Rattle.mesa_image_spec.specs.Catalog.{Catalog}
-use Rattle.mesa_image_spec.specs.Fitting.{shelved}
-use Rattle.mesa_image_spec.specs.Shape.{IsCatalog}
-use Rattle.mesa_image_spec.specs.Sound.{AreStocked, wants}
-use Rattle.mesa_image_spec.specs.Ids.{named}
-use Rattle.mesa_invariant_spec.specs.mesa_history_spec.Rows.{Rows}
+use Rattle.mesa_disk.specs.Image.{Image}
+use Rattle.mesa_catalog.specs.mesa_image_spec.Catalog.{Catalog}
+use Rattle.mesa_catalog.specs.mesa_image_spec.Fitting.{shelved}
+use Rattle.mesa_catalog.specs.mesa_image_spec.Shape.{IsCatalog}
+use Rattle.mesa_catalog.specs.mesa_image_spec.Sound.{AreStocked, wants}
+use Rattle.mesa_catalog.specs.mesa_image_spec.Ids.{named}
+use Rattle.mesa_catalog.specs.mesa_history_spec.Rows.{Rows}
 use Rattle.mesa_commit.specs.declared.trash.Hold.{Hold}
 use Rattle.mesa_commit.specs.Filed.{PinFiles}
 use Rattle.mesa_commit.specs.Holding.{Held, IsHoldOf, AreFiled}

@@ -1,11 +1,8 @@
-pub use Rattle.mesa_image_spec.proofs as mesa_image_spec
-pub use Rattle.mesa_invariant_spec.proofs as mesa_invariant_spec
-pub use Rattle.mesa_catalog.proofs as mesa_catalog
-pub use Rattle.mesa_engine.proofs.mesa_image_spec as mesa_image_spec
-pub use Rattle.mesa_engine.proofs.mesa_invariant_spec as mesa_invariant_spec
 pub use Rattle.mesa_commit.proofs as mesa_commit
-pub use Rattle.mesa_engine.proofs.mesa_catalog as mesa_catalog
-pub use Rattle.mesa_engine.proofs.mesa_invariant_spec.mesa_history_spec as mesa_history_spec
+pub use Rattle.mesa_invariant_spec.proofs.mesa_history_spec as mesa_history_spec
+pub use Rattle.mesa_catalog.proofs.mesa_image_spec as mesa_image_spec
+pub use Rattle.mesa_invariant_spec.proofs as mesa_invariant_spec
+pub use Rattle.mesa_catalog.proofs.mesa_schema as mesa_schema
 pub mod Lists
 pub mod Standing
 pub mod Holding

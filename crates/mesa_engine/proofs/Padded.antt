@@ -1,7 +1,7 @@
 -- Counts of pins, one of which is more.
 use Rattle.std.proofs.Common.{◌≡◌, ◌≤◌, ◌<◌, ◌+◌, ◌-◌, ℕ, slice_index_or, zero, suc, List, [], ◌∷◌, ◌++◌, length, set, replicate, ap, ◌∙◌, arith}
 use Rattle.std.proofs.lemmas.List.{append-nil}
-use Rattle.mesa_engine.specs.mesa_model.Pins.{count_at, counted_at}
+use Rattle.mesa_model.specs.Pins.{count_at, counted_at}
 
 -- the counts, with zeros behind them as far as a place, and one more at it
 pub padded : (counts : List ℕ) (place n v : ℕ) → place + 1 ≤ length counts + n → n ≤ place + 1 - length counts → v ≡ count_at counts place + 1 → set (counts ++ replicate n 0) place v ≡ counted_at counts place

@@ -2,16 +2,16 @@
 use Rattle.std.proofs.Common.{◌≡◌, ℕ, ◌+◌, ◌*◌, ◌≤◌, List, [], ◌∷◌, ◌++◌, map, length, Bool, sym, ◌∙◌, ap, subst, arith, Option, None}
 use Rattle.std.specs.List.{AllByRecursion}
 use Rattle.std.proofs.lemmas.List.{length-append}
-use Rattle.mesa_invariant_spec.specs.mesa_disk.Story.{Story, Unmoved}
-use Rattle.mesa_image_spec.specs.mesa_lease.Book.{Book}
-use Rattle.mesa_image_spec.specs.mesa_model.declared.entries.Entry.{Entry}
-use Rattle.mesa_image_spec.specs.mesa_history_spec.Run.{begins}
-use Rattle.mesa_image_spec.specs.Catalog.{Catalog}
-use Rattle.mesa_image_spec.specs.Ids.{named}
+use Rattle.mesa_disk.specs.Story.{Story, Unmoved}
+use Rattle.mesa_lease.specs.Book.{Book}
+use Rattle.mesa_model.specs.declared.entries.Entry.{Entry}
+use Rattle.mesa_catalog.specs.mesa_history_spec.Run.{begins}
+use Rattle.mesa_catalog.specs.mesa_image_spec.Catalog.{Catalog}
+use Rattle.mesa_catalog.specs.mesa_image_spec.Ids.{named}
 use Rattle.mesa_commit.specs.Holding.{AreFiled}
 use Rattle.mesa_invariant_spec.specs.Invariant.{Outset, KeepsInvariant}
 use Rattle.mesa_engine.specs.EngineState.{HeldPin, OpenQuery, EngineState, books_of, next_id, most_files, holders, ids_held}
-use Rattle.mesa_image_spec.specs.Sourced.{HasSources}
+use Rattle.mesa_catalog.specs.mesa_image_spec.Sourced.{HasSources}
 use Rattle.mesa_engine.specs.Vault.{Origin, IsReady, IsVault}
 use Rattle.mesa_engine.proofs.Accepting.{silent_changes, silent_leaves}
 use Rattle.mesa_engine.proofs.Holding.{AreKept}

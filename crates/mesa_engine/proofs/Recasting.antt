@@ -2,24 +2,24 @@
 use Rattle.std.proofs.Common.{◌≡◌, ℕ, ◌<◌, List, [], map, Bool, refl, sym, ◌∙◌, ap, Option, Some, None, IsTrue}
 use Rattle.std.specs.Prelude.{option_map, slice_set, slice_index_or}
 use Rattle.std.proofs.lemmas.List.{map-set}
-use Rattle.mesa_image_spec.specs.mesa_lease.Book.{ended}
-use Rattle.mesa_image_spec.proofs.mesa_schema.Lists.{map_at}
-use Rattle.mesa_image_spec.specs.mesa_schema.Recasts.{Recast}
+use Rattle.mesa_lease.specs.Book.{ended}
+use Rattle.mesa_catalog.proofs.mesa_schema.Lists.{map_at}
+use Rattle.mesa_catalog.specs.mesa_schema.Recasts.{Recast}
 use Rattle.mesa_commit.specs.declared.trash.Dropped.{Dropped}
-use Rattle.mesa_invariant_spec.specs.mesa_disk.Story.{Story}
-use Rattle.mesa_image_spec.specs.mesa_model.declared.entries.Entry.{Entry}
-use Rattle.mesa_image_spec.specs.mesa_model.Tables.{table_recast}
-use Rattle.mesa_image_spec.specs.mesa_model.Warehouse.{Table, table_at}
-use Rattle.mesa_image_spec.specs.mesa_history_spec.Found.{Kept}
-use Rattle.mesa_image_spec.specs.mesa_history_spec.Machine.{Claim, without_cumulatives}
-use Rattle.mesa_image_spec.specs.mesa_record.declared.recasting.Recasting.{Recasting}
-use Rattle.mesa_image_spec.specs.mesa_record.declared.record.Record.TheVariants as record_of
-use Rattle.mesa_image_spec.specs.Catalog.{Catalog, Ending, Stock, applied, base_recast, end_in, no_stock, ranges_of, stock_at, stock_recast}
-use Rattle.mesa_image_spec.specs.Contents.{kept_of}
-use Rattle.mesa_image_spec.specs.Moves.{Moves, kept_recast}
-use Rattle.mesa_image_spec.specs.Rewritten.{Rewritten, base_rewritten, recasting_of}
+use Rattle.mesa_disk.specs.Story.{Story}
+use Rattle.mesa_model.specs.declared.entries.Entry.{Entry}
+use Rattle.mesa_model.specs.Tables.{table_recast}
+use Rattle.mesa_model.specs.Warehouse.{Table, table_at}
+use Rattle.mesa_catalog.specs.mesa_history_spec.Found.{Kept}
+use Rattle.mesa_catalog.specs.mesa_history_spec.Machine.{Claim, without_cumulatives}
+use Rattle.mesa_record.specs.declared.recasting.Recasting.{Recasting}
+use Rattle.mesa_record.specs.declared.record.Record.TheVariants as record_of
+use Rattle.mesa_catalog.specs.mesa_image_spec.Catalog.{Catalog, Ending, Stock, applied, base_recast, end_in, no_stock, ranges_of, stock_at, stock_recast}
+use Rattle.mesa_catalog.specs.mesa_image_spec.Contents.{kept_of}
+use Rattle.mesa_catalog.specs.mesa_image_spec.Moves.{Moves, kept_recast}
+use Rattle.mesa_catalog.specs.mesa_image_spec.Rewritten.{Rewritten, base_rewritten, recasting_of}
 use Rattle.mesa_invariant_spec.proofs.mesa_history_spec.BareLists.{set_same}
-use Rattle.mesa_invariant_spec.specs.mesa_history_spec.Rows.{Rows}
+use Rattle.mesa_catalog.specs.mesa_history_spec.Rows.{Rows}
 use Rattle.mesa_invariant_spec.specs.Books.{Books, recast_books}
 use Rattle.mesa_invariant_spec.specs.Invariant.{Outset}
 use Rattle.mesa_invariant_spec.specs.Works.{Regroups}

@@ -2,22 +2,22 @@
 use Rattle.std.proofs.Common.{◌≡◌, ℕ, ◌+◌, ◌*◌, ◌<◌, ◌≤◌, List, [], ◌∷◌, ◌++◌, map, length, Bool, refl, sym, ◌∙◌, ap, subst, arith, Option, None, Some, IsTrue}
 use Rattle.std.specs.List.{AllByRecursion}
 use Rattle.std.proofs.lemmas.List.{length-append}
-use Rattle.mesa_invariant_spec.specs.mesa_disk.Files.{AreGone}
-use Rattle.mesa_invariant_spec.specs.mesa_disk.Image.{Image}
-use Rattle.mesa_invariant_spec.specs.mesa_disk.Story.{Story, Steps}
+use Rattle.mesa_disk.specs.Files.{AreGone}
+use Rattle.mesa_disk.specs.Image.{Image}
+use Rattle.mesa_disk.specs.Story.{Story, Steps}
 use Rattle.mesa_commit.specs.Images.{Has}
 use Rattle.mesa_commit.specs.Turn.{MovesOnly}
-use Rattle.mesa_image_spec.specs.mesa_lease.Book.{Book}
-use Rattle.mesa_image_spec.specs.mesa_model.declared.entries.Entry.{Entry}
-use Rattle.mesa_image_spec.specs.mesa_model.declared.replies.Reply.{Reply}
-use Rattle.mesa_image_spec.specs.mesa_history_spec.Counting.{one_if}
-use Rattle.mesa_image_spec.specs.mesa_history_spec.Run.{begins}
-use Rattle.mesa_image_spec.specs.Catalog.{Catalog}
-use Rattle.mesa_image_spec.specs.Held.{IsHeld}
-use Rattle.mesa_image_spec.specs.Sound.{AreStocked}
-use Rattle.mesa_image_spec.proofs.Agreeing.{agree_stocked}
-use Rattle.mesa_image_spec.specs.Ids.{named}
-use Rattle.mesa_invariant_spec.specs.mesa_history_spec.Rows.{Rows}
+use Rattle.mesa_lease.specs.Book.{Book}
+use Rattle.mesa_model.specs.declared.entries.Entry.{Entry}
+use Rattle.mesa_model.specs.declared.replies.Reply.{Reply}
+use Rattle.mesa_catalog.specs.mesa_history_spec.Counting.{one_if}
+use Rattle.mesa_catalog.specs.mesa_history_spec.Run.{begins}
+use Rattle.mesa_catalog.specs.mesa_image_spec.Catalog.{Catalog}
+use Rattle.mesa_catalog.specs.mesa_image_spec.Held.{IsHeld}
+use Rattle.mesa_catalog.specs.mesa_image_spec.Sound.{AreStocked}
+use Rattle.mesa_catalog.proofs.mesa_image_spec.Agreeing.{agree_stocked}
+use Rattle.mesa_catalog.specs.mesa_image_spec.Ids.{named}
+use Rattle.mesa_catalog.specs.mesa_history_spec.Rows.{Rows}
 use Rattle.mesa_commit.specs.Filed.{AreFresh, AreMoved, PinFiles, Renames}
 use Rattle.mesa_commit.specs.declared.trash.Dropped.{Dropped}
 use Rattle.mesa_commit.specs.Holding.{Among, Held, AreFiled, IsHoldOf, ids_of, freed, kept}
@@ -26,7 +26,7 @@ use Rattle.mesa_invariant_spec.specs.Sight.{is_of_schemas, tells_of_schemas, sch
 use Rattle.mesa_invariant_spec.specs.Invariant.{Outset, KeepsInvariant, KeepsInvariantTelling}
 use Rattle.mesa_engine.specs.EngineState.{EngineState, books_of, first_id, next_id, past_id, most_files, Holder, holders, ids_held, files_held}
 use Rattle.mesa_engine.specs.Recorded.{waiting, removed_by, left_by, Adopts, IsRecorded, recorded_state, failed_state}
-use Rattle.mesa_image_spec.specs.Sourced.{HasSources}
+use Rattle.mesa_catalog.specs.mesa_image_spec.Sourced.{HasSources}
 use Rattle.mesa_engine.specs.Vault.{Origin, IsRead, AreThere, IsVault, written_by}
 use Rattle.mesa_engine.proofs.Accepting.{silent_changes, silent_leaves, changes_more}
 use Rattle.mesa_engine.proofs.Filing.{IsCleared, holds_are, filed_lost, freed_cleared, none_cleared, old_agree, files_stay}

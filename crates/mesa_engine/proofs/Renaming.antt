@@ -4,19 +4,19 @@ use Rattle.std.proofs.lemmas.Bool.{cases_lt}
 use Rattle.std.proofs.lemmas.List.{map-append}
 use Rattle.std.proofs.lemmas.List.Sums.{sum_by-append}
 use Rattle.std.proofs.lemmas.Simd.{map-map}
-use Rattle.mesa_image_spec.specs.mesa_schema.Changes.{Lineage}
+use Rattle.mesa_catalog.specs.mesa_schema.Changes.{Lineage}
 use Rattle.mesa_commit.specs.Turn.{made_ids}
-use Rattle.mesa_image_spec.specs.mesa_record.declared.record.Files.{Files}
-use Rattle.mesa_image_spec.specs.mesa_record.declared.record.Record.{Record}
-use Rattle.mesa_image_spec.specs.mesa_record.declared.record.Record.TheVariants as record_of
-use Rattle.mesa_image_spec.specs.mesa_record.Rules.{keeps_rules}
-use Rattle.mesa_image_spec.proofs.mesa_history_spec.Places.{same_is}
-use Rattle.mesa_image_spec.specs.Catalog.{Catalog, Delta, Stock, applied, no_stock, start_in, stock_at}
-use Rattle.mesa_image_spec.specs.Fitting.{base_deltas, delta_in, delta_shelved, deltas_of, files_shelved, fits, shelved_id, stock_shelved, view_shelved}
-use Rattle.mesa_image_spec.specs.Ids.{HasOwnIds, brought_ids, delta_ids, dropped_deltas, dropped_ids, file_ids, named, own_delta_id, own_id, recast_dropped, times}
-use Rattle.mesa_image_spec.proofs.Ids.{brought_own, counted}
-use Rattle.mesa_image_spec.proofs.Lists.{is_equal}
-use Rattle.mesa_image_spec.proofs.Moving.{kind_of}
+use Rattle.mesa_record.specs.declared.record.Files.{Files}
+use Rattle.mesa_record.specs.declared.record.Record.{Record}
+use Rattle.mesa_record.specs.declared.record.Record.TheVariants as record_of
+use Rattle.mesa_record.specs.Rules.{keeps_rules}
+use Rattle.mesa_invariant_spec.proofs.mesa_history_spec.Places.{same_is}
+use Rattle.mesa_catalog.specs.mesa_image_spec.Catalog.{Catalog, Delta, Stock, applied, no_stock, start_in, stock_at}
+use Rattle.mesa_catalog.specs.mesa_image_spec.Fitting.{base_deltas, delta_in, delta_shelved, deltas_of, files_shelved, fits, shelved_id, stock_shelved, view_shelved}
+use Rattle.mesa_catalog.specs.mesa_image_spec.Ids.{HasOwnIds, brought_ids, delta_ids, dropped_deltas, dropped_ids, file_ids, named, own_delta_id, own_id, recast_dropped, times}
+use Rattle.mesa_catalog.proofs.mesa_image_spec.Ids.{brought_own, counted}
+use Rattle.mesa_catalog.proofs.mesa_image_spec.Lists.{is_equal}
+use Rattle.mesa_catalog.proofs.mesa_image_spec.Moving.{kind_of}
 use Rattle.mesa_commit.specs.Filed.{Renames}
 use Rattle.mesa_commit.specs.Holding.{Among}
 use Rattle.mesa_engine.proofs.Lists.{among_left, among_right, among_split}

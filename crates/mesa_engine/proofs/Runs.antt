@@ -5,7 +5,7 @@ use Rattle.mesa_record.specs.declared.record.Record.{Record}
 use Rattle.mesa_record.specs.declared.record.Record.TheVariants as record_of
 use Rattle.mesa_catalog.specs.mesa_image_spec.Catalog.{Catalog, applied}
 use Rattle.mesa_catalog.specs.mesa_image_spec.Fitting.{fits, kind_fits, max_runs, brings_new_files}
-use Rattle.mesa_engine.proofs.mesa_image_spec.Lists.{both_true, is_at_most}
+use Rattle.mesa_catalog.proofs.mesa_image_spec.Lists.{both_true, is_at_most}
 
 kind_of : (c : Catalog) (r : Record) → fits c r ≡ true → kind_fits c r ≡ true
 unfolding fits

@@ -3,12 +3,12 @@ use Rattle.std.proofs.Common.{◌≡◌, ℕ, List, Bool, sym, ◌∙◌, Option
 use Rattle.std.specs.Prelude.{IfOk, Result}
 use Rattle.std.proofs.lemmas.Simd.{map-map}
 use Rattle.mesa_batch.specs.Glance.{tables_of}
-use Rattle.mesa_engine.specs.mesa_catalog.Lookups.{sight_of}
+use Rattle.mesa_catalog.specs.Lookups.{sight_of}
 use Rattle.mesa_disk.specs.Story.{Story}
 use Rattle.mesa_model.specs.declared.entries.Entry.{Entry}
-use Rattle.mesa_engine.specs.mesa_invariant_spec.Sight.{tables_seen}
-use Rattle.mesa_engine.specs.mesa_invariant_spec.Invariant.{Outset, run_of}
-use Rattle.mesa_engine.proofs.mesa_invariant_spec.Projections.{named_is}
+use Rattle.mesa_invariant_spec.specs.Sight.{tables_seen}
+use Rattle.mesa_invariant_spec.specs.Invariant.{Outset, run_of}
+use Rattle.mesa_invariant_spec.proofs.Projections.{named_is}
 use Rattle.mesa_engine.specs.EngineState.{EngineState, books_of}
 use Rattle.mesa_engine.specs.Vault.{Origin, IsVault}
 use Rattle.mesa_engine.proofs.Changing.{tables_are}

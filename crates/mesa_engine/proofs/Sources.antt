@@ -1,31 +1,31 @@
 -- What stands written of each table, once a turn's record is written.
 use Rattle.std.proofs.Common.{◌≡◌, ℕ, ◌<◌, List, [], ◌∷◌, ◌++◌, length, Bool, refl, sym, ◌∙◌, ap, subst, Option, None, Some, IsTrue, Ok}
-use Rattle.mesa_image_spec.specs.mesa_batch.Batch.{Named, Placed, batch_of}
-use Rattle.mesa_image_spec.specs.mesa_batch.declared.words.RowWords.{RowWords}
-use Rattle.mesa_image_spec.specs.mesa_schema.Recasts.{Recast}
-use Rattle.mesa_invariant_spec.specs.mesa_disk.Story.{Story}
-use Rattle.mesa_image_spec.specs.mesa_model.declared.commands.Command.{Command}
-use Rattle.mesa_image_spec.specs.mesa_model.declared.commands.Command.TheVariants as command
-use Rattle.mesa_image_spec.specs.mesa_model.declared.entries.Entry.{Entry}
-use Rattle.mesa_image_spec.specs.mesa_model.declared.replies.Reply.{Reply}
-use Rattle.mesa_image_spec.specs.mesa_model.declared.replies.Reply.TheVariants as reply
-use Rattle.mesa_image_spec.specs.mesa_model.Load.{tables_named}
-use Rattle.mesa_image_spec.specs.mesa_model.Warehouse.{Store}
-use Rattle.mesa_image_spec.specs.mesa_history_spec.Found.{Kept}
-use Rattle.mesa_image_spec.specs.mesa_history_spec.Law.{Accepts, Leaves, Regroups, Writing, batch_or_none, recast_for, regroups, writing_as, writing_by, writing_if_told, written_in, written_through}
-use Rattle.mesa_image_spec.specs.mesa_history_spec.Machine.{Claim, Errand, Recasts}
-use Rattle.mesa_image_spec.specs.mesa_history_spec.Replay.{told_by}
-use Rattle.mesa_image_spec.specs.mesa_history_spec.Run.{Place, Renewed, Stage, begins, command_of, place_of}
-use Rattle.mesa_image_spec.specs.mesa_history_spec.Turns.{IsDue}
-use Rattle.mesa_image_spec.specs.mesa_record.declared.record.Part.{Part}
-use Rattle.mesa_image_spec.specs.mesa_record.declared.record.Record.TheVariants as record_of
-use Rattle.mesa_image_spec.specs.Catalog.{Catalog, applied}
-use Rattle.mesa_image_spec.specs.Contents.{kept_of}
-use Rattle.mesa_image_spec.proofs.Accepted.{read_accepted}
-use Rattle.mesa_image_spec.proofs.AllSourced.{agree_sourced, publish_sourced}
-use Rattle.mesa_image_spec.specs.Brought.{BringsAll}
-use Rattle.mesa_image_spec.specs.Sourced.{HasSources, tables_read, written_behind}
-use Rattle.mesa_invariant_spec.specs.mesa_history_spec.Rows.{Rows}
+use Rattle.mesa_batch.specs.Batch.{Named, Placed, batch_of}
+use Rattle.mesa_batch.specs.declared.words.RowWords.{RowWords}
+use Rattle.mesa_catalog.specs.mesa_schema.Recasts.{Recast}
+use Rattle.mesa_disk.specs.Story.{Story}
+use Rattle.mesa_model.specs.declared.commands.Command.{Command}
+use Rattle.mesa_model.specs.declared.commands.Command.TheVariants as command
+use Rattle.mesa_model.specs.declared.entries.Entry.{Entry}
+use Rattle.mesa_model.specs.declared.replies.Reply.{Reply}
+use Rattle.mesa_model.specs.declared.replies.Reply.TheVariants as reply
+use Rattle.mesa_model.specs.Load.{tables_named}
+use Rattle.mesa_model.specs.Warehouse.{Store}
+use Rattle.mesa_catalog.specs.mesa_history_spec.Found.{Kept}
+use Rattle.mesa_catalog.specs.mesa_history_spec.Law.{Accepts, Leaves, Regroups, Writing, batch_or_none, recast_for, regroups, writing_as, writing_by, writing_if_told, written_in, written_through}
+use Rattle.mesa_catalog.specs.mesa_history_spec.Machine.{Claim, Errand, Recasts}
+use Rattle.mesa_catalog.specs.mesa_history_spec.Replay.{told_by}
+use Rattle.mesa_catalog.specs.mesa_history_spec.Run.{Place, Renewed, Stage, begins, command_of, place_of}
+use Rattle.mesa_catalog.specs.mesa_history_spec.Turns.{IsDue}
+use Rattle.mesa_record.specs.declared.record.Part.{Part}
+use Rattle.mesa_record.specs.declared.record.Record.TheVariants as record_of
+use Rattle.mesa_catalog.specs.mesa_image_spec.Catalog.{Catalog, applied}
+use Rattle.mesa_catalog.specs.mesa_image_spec.Contents.{kept_of}
+use Rattle.mesa_catalog.proofs.mesa_image_spec.Accepted.{read_accepted}
+use Rattle.mesa_catalog.proofs.mesa_image_spec.AllSourced.{agree_sourced, publish_sourced}
+use Rattle.mesa_catalog.specs.mesa_image_spec.Brought.{BringsAll}
+use Rattle.mesa_catalog.specs.mesa_image_spec.Sourced.{HasSources, tables_read, written_behind}
+use Rattle.mesa_catalog.specs.mesa_history_spec.Rows.{Rows}
 use Rattle.mesa_invariant_spec.specs.Causes.{told_at}
 use Rattle.mesa_invariant_spec.specs.Invariant.{Outset, run_of}
 use Rattle.mesa_invariant_spec.proofs.Projections.{named_is}

@@ -1,15 +1,15 @@
 -- What a read gives, and what a crash may leave, of a vault's catalogue.
 use Rattle.std.proofs.Common.{◌≡◌, inr, ℕ, ◌<◌, List, refl, sym, ◌∙◌, subst, Some}
-use Rattle.mesa_invariant_spec.specs.mesa_disk.Image.{Image}
-use Rattle.mesa_invariant_spec.specs.mesa_disk.Story.{Story, Unmoved}
-use Rattle.mesa_invariant_spec.specs.mesa_disk.declared.area.Area.{Area}
+use Rattle.mesa_disk.specs.Image.{Image}
+use Rattle.mesa_disk.specs.Story.{Story, Unmoved}
+use Rattle.mesa_disk.specs.declared.area.Area.{Area}
 use Rattle.mesa_commit.specs.Images.{Has}
-use Rattle.mesa_image_spec.specs.Catalog.{Catalog}
-use Rattle.mesa_image_spec.specs.Contents.{kept_of}
-use Rattle.mesa_image_spec.specs.Fitting.{shelved}
-use Rattle.mesa_image_spec.specs.Held.{IsHeld}
-use Rattle.mesa_image_spec.specs.Sound.{StandsFor, wants}
-use Rattle.mesa_invariant_spec.specs.mesa_history_spec.Rows.{Rows}
+use Rattle.mesa_catalog.specs.mesa_image_spec.Catalog.{Catalog}
+use Rattle.mesa_catalog.specs.mesa_image_spec.Contents.{kept_of}
+use Rattle.mesa_catalog.specs.mesa_image_spec.Fitting.{shelved}
+use Rattle.mesa_catalog.specs.mesa_image_spec.Held.{IsHeld}
+use Rattle.mesa_catalog.specs.mesa_image_spec.Sound.{StandsFor, wants}
+use Rattle.mesa_catalog.specs.mesa_history_spec.Rows.{Rows}
 use Rattle.mesa_invariant_spec.specs.Invariant.{AllStand}
 use Rattle.mesa_engine.specs.EngineState.{EngineState}
 use Rattle.mesa_engine.specs.Vault.{IsReady, AreThere}

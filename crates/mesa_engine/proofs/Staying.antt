@@ -2,13 +2,13 @@
 use Rattle.std.proofs.Common.{◌≡◌, ℕ, ◌+◌, ◌≤◌, List, [], ◌∷◌, ◌++◌, length, Bool, true, not, refl, sym, ap, subst, arith, Option, None, Some, IsTrue}
 use Rattle.std.specs.Prelude.{filter}
 use Rattle.mesa_commit.specs.Images.{Has}
-use Rattle.mesa_invariant_spec.specs.mesa_disk.Image.{Image}
-use Rattle.mesa_invariant_spec.specs.mesa_disk.Story.{Story, Unmoved}
-use Rattle.mesa_image_spec.specs.mesa_lease.Book.{Book}
-use Rattle.mesa_image_spec.specs.mesa_model.declared.entries.Entry.{Entry}
-use Rattle.mesa_image_spec.specs.Contents.{kept_of}
-use Rattle.mesa_image_spec.specs.Fitting.{shelved}
-use Rattle.mesa_image_spec.specs.Sound.{StandsFor, wants}
+use Rattle.mesa_disk.specs.Image.{Image}
+use Rattle.mesa_disk.specs.Story.{Story, Unmoved}
+use Rattle.mesa_lease.specs.Book.{Book}
+use Rattle.mesa_model.specs.declared.entries.Entry.{Entry}
+use Rattle.mesa_catalog.specs.mesa_image_spec.Contents.{kept_of}
+use Rattle.mesa_catalog.specs.mesa_image_spec.Fitting.{shelved}
+use Rattle.mesa_catalog.specs.mesa_image_spec.Sound.{StandsFor, wants}
 use Rattle.mesa_commit.specs.declared.trash.Hold.{Hold}
 use Rattle.mesa_invariant_spec.specs.Books.{pinned_books, released_books}
 use Rattle.mesa_invariant_spec.specs.Invariant.{Outset, KeepsInvariant, AllStand}

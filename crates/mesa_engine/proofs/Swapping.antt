@@ -2,25 +2,25 @@
 use Rattle.std.proofs.Common.{◌≡◌, ℕ, ◌<◌, List, map, Bool, true, false, refl, sym, ◌∙◌, ap, Option, Some, None, IsTrue}
 use Rattle.std.specs.Prelude.{slice_set, slice_index_or, if◌then◌else◌, ◌==◌}
 use Rattle.std.proofs.lemmas.List.{map-set}
-use Rattle.mesa_image_spec.specs.mesa_lease.Book.{Book, ended, last_of, with_last}
-use Rattle.mesa_image_spec.specs.mesa_lease.declared.lease.Lease.{Lease}
-use Rattle.mesa_image_spec.proofs.mesa_schema.Lists.{map_at}
-use Rattle.mesa_image_spec.specs.mesa_span.declared.works.Work.{Work}
-use Rattle.mesa_image_spec.specs.mesa_span.declared.works.Work.TheVariants as range
-use Rattle.mesa_image_spec.specs.mesa_span.Work.{swapped}
+use Rattle.mesa_lease.specs.Book.{Book, ended, last_of, with_last}
+use Rattle.mesa_lease.specs.declared.lease.Lease.{Lease}
+use Rattle.mesa_catalog.proofs.mesa_schema.Lists.{map_at}
+use Rattle.mesa_catalog.specs.mesa_span.declared.works.Work.{Work}
+use Rattle.mesa_catalog.specs.mesa_span.declared.works.Work.TheVariants as range
+use Rattle.mesa_catalog.specs.mesa_span.Work.{swapped}
 use Rattle.mesa_commit.specs.declared.trash.Dropped.{Dropped}
-use Rattle.mesa_invariant_spec.specs.mesa_disk.Story.{Story}
-use Rattle.mesa_image_spec.specs.mesa_model.declared.entries.Entry.{Entry}
-use Rattle.mesa_image_spec.specs.mesa_history_spec.Machine.{Claim, swapped_reply}
-use Rattle.mesa_image_spec.specs.mesa_record.declared.record.Files.{Files}
-use Rattle.mesa_image_spec.specs.mesa_record.declared.record.Record.TheVariants as record_of
-use Rattle.mesa_image_spec.specs.Catalog.{Catalog, Delta, Stock, applied, merged_delta, no_stock, ranges_of, stock_at, stock_swapped}
-use Rattle.mesa_image_spec.specs.Contents.{kept_of}
-use Rattle.mesa_image_spec.proofs.Kept.{IsWithin, ranges_swapped, set_same as set_back, swap_moves}
-use Rattle.mesa_image_spec.specs.Brought.{Replaces, merged_of}
-use Rattle.mesa_image_spec.specs.Moves.{kept_swapped, work_of}
+use Rattle.mesa_disk.specs.Story.{Story}
+use Rattle.mesa_model.specs.declared.entries.Entry.{Entry}
+use Rattle.mesa_catalog.specs.mesa_history_spec.Machine.{Claim, swapped_reply}
+use Rattle.mesa_record.specs.declared.record.Files.{Files}
+use Rattle.mesa_record.specs.declared.record.Record.TheVariants as record_of
+use Rattle.mesa_catalog.specs.mesa_image_spec.Catalog.{Catalog, Delta, Stock, applied, merged_delta, no_stock, ranges_of, stock_at, stock_swapped}
+use Rattle.mesa_catalog.specs.mesa_image_spec.Contents.{kept_of}
+use Rattle.mesa_catalog.proofs.mesa_image_spec.Kept.{IsWithin, ranges_swapped, set_same as set_back, swap_moves}
+use Rattle.mesa_catalog.specs.mesa_image_spec.Brought.{Replaces, merged_of}
+use Rattle.mesa_catalog.specs.mesa_image_spec.Moves.{kept_swapped, work_of}
 use Rattle.mesa_invariant_spec.proofs.mesa_history_spec.BareLists.{set_same}
-use Rattle.mesa_invariant_spec.specs.mesa_history_spec.Rows.{Rows}
+use Rattle.mesa_catalog.specs.mesa_history_spec.Rows.{Rows}
 use Rattle.mesa_invariant_spec.specs.Books.{Books, swapped_books}
 use Rattle.mesa_invariant_spec.specs.Invariant.{Outset}
 use Rattle.mesa_invariant_spec.specs.Works.{Swaps}

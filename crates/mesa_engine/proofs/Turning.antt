@@ -3,24 +3,24 @@ use Rattle.std.proofs.Common.{◌≡◌, ℕ, ◌+◌, ◌≤◌, List, [], ◌�
 use Rattle.std.specs.Prelude.{vec_capacity}
 use Rattle.std.specs.List.{AllByRecursion}
 use Rattle.std.proofs.lemmas.List.{length-append}
-use Rattle.mesa_disk.specs.mesa_io.Causes.{Rose}
+use Rattle.mesa_io.specs.Causes.{Rose}
 use Rattle.mesa_disk.specs.Story.{Story, Unmoved}
 use Rattle.mesa_model.specs.declared.commands.Command.{Command}
 use Rattle.mesa_model.specs.declared.commands.Script.{Script}
 use Rattle.mesa_model.specs.declared.entries.Entry.{Entry}
 use Rattle.mesa_model.specs.declared.entries.Kind.{Kind}
 use Rattle.mesa_model.specs.declared.entries.Outcome.TheVariants as outcome
-use Rattle.mesa_engine.proofs.mesa_catalog.mesa_history_spec.Finding.{all_more}
-use Rattle.mesa_engine.proofs.mesa_catalog.mesa_history_spec.Turns.{turn_goes}
-use Rattle.mesa_engine.specs.mesa_catalog.mesa_history_spec.Run.{State, Stage, Told, begins, place_of}
-use Rattle.mesa_engine.specs.mesa_catalog.mesa_history_spec.Turns.{IsDue, place_then}
-use Rattle.mesa_engine.specs.mesa_history_spec.Output.{block}
+use Rattle.mesa_invariant_spec.proofs.mesa_history_spec.Finding.{all_more}
+use Rattle.mesa_invariant_spec.proofs.mesa_history_spec.Turns.{turn_goes}
+use Rattle.mesa_catalog.specs.mesa_history_spec.Run.{State, Stage, Told, begins, place_of}
+use Rattle.mesa_catalog.specs.mesa_history_spec.Turns.{IsDue, place_then}
+use Rattle.mesa_catalog.specs.mesa_history_spec.Output.{block}
 use Rattle.mesa_print.specs.declared.printer.Printer.{Printer}
-use Rattle.mesa_engine.specs.mesa_history_spec.Rows.{Rows, no_rows}
-use Rattle.mesa_engine.specs.mesa_invariant_spec.Printing.{IsPut}
-use Rattle.mesa_engine.specs.mesa_invariant_spec.Turns.{Shown, IsSeen, Takes, entry}
-use Rattle.mesa_engine.specs.mesa_invariant_spec.Undamaged.{NoneDamaged, is_damaged}
-use Rattle.mesa_engine.specs.mesa_invariant_spec.Invariant.{Counts, run_at}
+use Rattle.mesa_catalog.specs.mesa_history_spec.Rows.{Rows, no_rows}
+use Rattle.mesa_invariant_spec.specs.Printing.{IsPut}
+use Rattle.mesa_invariant_spec.specs.Turns.{Shown, IsSeen, Takes, entry}
+use Rattle.mesa_invariant_spec.specs.Undamaged.{NoneDamaged, is_damaged}
+use Rattle.mesa_invariant_spec.specs.Invariant.{Counts, run_at}
 use Rattle.mesa_engine.specs.declared.log.Log.{Log}
 use Rattle.mesa_engine.specs.Printing.{GoesOn, PrintsBlock}
 use Rattle.mesa_engine.proofs.Printing.{same_goes}

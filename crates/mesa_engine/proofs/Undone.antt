@@ -1,7 +1,7 @@
 -- How a turn that does nothing for its command keeps a vault.
 use Rattle.std.proofs.Common.{◌≡◌, ℕ, ◌<◌, ◌^◌, List, [], ◌∷◌, ◌++◌, length, Bool, true, false, ◌||◌, not, refl, sym, ◌∙◌, ap, subst, Option, Some, Result, IsTrue}
 use Rattle.mesa_disk.specs.Story.{Story}
-use Rattle.mesa_model.specs.mesa_filter.declared.words.QueryWords.{QueryWords}
+use Rattle.mesa_print.specs.mesa_filter.declared.words.QueryWords.{QueryWords}
 use Rattle.mesa_model.specs.declared.commands.Command.{Command}
 use Rattle.mesa_model.specs.declared.commands.Command.TheVariants as command
 use Rattle.mesa_model.specs.declared.commands.ExplainWords.{ExplainWords}
@@ -10,33 +10,33 @@ use Rattle.mesa_model.specs.declared.entries.Kind.{Kind}
 use Rattle.mesa_model.specs.declared.entries.Kind.TheVariants as kind
 use Rattle.mesa_model.specs.declared.entries.Outcome.TheVariants as outcome
 use Rattle.mesa_model.specs.declared.replies.Reply.{Reply}
-use Rattle.mesa_engine.specs.mesa_catalog.mesa_history_spec.Legal.{is_answered, is_due_at}
-use Rattle.mesa_engine.specs.mesa_catalog.mesa_history_spec.Machine.{Claim, claim_of, recast_claim_of}
-use Rattle.mesa_engine.specs.mesa_catalog.mesa_history_spec.Replay.{closes, is_skip}
-use Rattle.mesa_engine.specs.mesa_catalog.mesa_history_spec.Refused.{is_refusal}
-use Rattle.mesa_engine.specs.mesa_catalog.mesa_history_spec.Run.{Stage, First, Looked, Finished}
-use Rattle.mesa_engine.specs.mesa_catalog.mesa_history_spec.Turns.{IsDue}
+use Rattle.mesa_catalog.specs.mesa_history_spec.Legal.{is_answered, is_due_at}
+use Rattle.mesa_catalog.specs.mesa_history_spec.Machine.{Claim, claim_of, recast_claim_of}
+use Rattle.mesa_catalog.specs.mesa_history_spec.Replay.{closes, is_skip}
+use Rattle.mesa_catalog.specs.mesa_history_spec.Refused.{is_refusal}
+use Rattle.mesa_catalog.specs.mesa_history_spec.Run.{Stage, First, Looked, Finished}
+use Rattle.mesa_catalog.specs.mesa_history_spec.Turns.{IsDue}
 use Rattle.mesa_model.specs.Load.{load_batch}
 use Rattle.mesa_model.specs.Pins.{make_pin, release_pin}
 use Rattle.mesa_model.specs.Tables.{alter_table, make_table, make_view}
 use Rattle.mesa_model.specs.Versions.{expire_to}
-use Rattle.mesa_engine.specs.mesa_history_spec.Output.{block}
-use Rattle.mesa_engine.specs.mesa_history_spec.Rows.{Rows}
-use Rattle.mesa_engine.specs.mesa_invariant_spec.Books.{Books}
-use Rattle.mesa_engine.specs.mesa_invariant_spec.Causes.{Cause, Replies, Unread, Damaged, Unwritten, NoMemory, outcome_of, reply_of, told_at, is_read_fault}
-use Rattle.mesa_engine.specs.mesa_invariant_spec.Changes.{Doing, IsDecided, HasFailed, HasNoPlan, failed_books}
-use Rattle.mesa_engine.specs.mesa_invariant_spec.Printing.{IsPut}
-use Rattle.mesa_engine.specs.mesa_invariant_spec.Queries.{HasNoAnswer}
-use Rattle.mesa_engine.specs.mesa_invariant_spec.Turns.{Shown, IsSeen, Takes, entry, is_simple}
-use Rattle.mesa_engine.specs.mesa_invariant_spec.Undamaged.{is_damaged}
-use Rattle.mesa_engine.specs.mesa_invariant_spec.Invariant.{Outset, Counts, KeepsInvariant, run_of}
-use Rattle.mesa_engine.specs.mesa_invariant_spec.Works.{HasNoClaim}
-use Rattle.mesa_engine.proofs.mesa_invariant_spec.Asking.{unpinned_turn, unpinned_ends}
-use Rattle.mesa_engine.proofs.mesa_invariant_spec.Changing.{alter_decided, expire_decided, load_decided, pin_decided, release_decided, table_decided, view_decided, fails_turn}
-use Rattle.mesa_engine.proofs.mesa_invariant_spec.Going.{publish_takes, simple_takes, takes_as}
-use Rattle.mesa_engine.proofs.mesa_invariant_spec.Reading.{unexplained_turn}
-use Rattle.mesa_engine.proofs.mesa_invariant_spec.Turning.{stays, counts_same, skipped_turn}
-use Rattle.mesa_engine.proofs.mesa_invariant_spec.Working.{ungranted_turn, ungranted_ends}
+use Rattle.mesa_catalog.specs.mesa_history_spec.Output.{block}
+use Rattle.mesa_catalog.specs.mesa_history_spec.Rows.{Rows}
+use Rattle.mesa_invariant_spec.specs.Books.{Books}
+use Rattle.mesa_invariant_spec.specs.Causes.{Cause, Replies, Unread, Damaged, Unwritten, NoMemory, outcome_of, reply_of, told_at, is_read_fault}
+use Rattle.mesa_invariant_spec.specs.Changes.{Doing, IsDecided, HasFailed, HasNoPlan, failed_books}
+use Rattle.mesa_invariant_spec.specs.Printing.{IsPut}
+use Rattle.mesa_invariant_spec.specs.Queries.{HasNoAnswer}
+use Rattle.mesa_invariant_spec.specs.Turns.{Shown, IsSeen, Takes, entry, is_simple}
+use Rattle.mesa_invariant_spec.specs.Undamaged.{is_damaged}
+use Rattle.mesa_invariant_spec.specs.Invariant.{Outset, Counts, KeepsInvariant, run_of}
+use Rattle.mesa_invariant_spec.specs.Works.{HasNoClaim}
+use Rattle.mesa_invariant_spec.proofs.Asking.{unpinned_turn, unpinned_ends}
+use Rattle.mesa_invariant_spec.proofs.Changing.{alter_decided, expire_decided, load_decided, pin_decided, release_decided, table_decided, view_decided, fails_turn}
+use Rattle.mesa_invariant_spec.proofs.Going.{publish_takes, simple_takes, takes_as}
+use Rattle.mesa_invariant_spec.proofs.Reading.{unexplained_turn}
+use Rattle.mesa_invariant_spec.proofs.Turning.{stays, counts_same, skipped_turn}
+use Rattle.mesa_invariant_spec.proofs.Working.{ungranted_turn, ungranted_ends}
 use Rattle.mesa_engine.specs.EngineState.{EngineState, books_of}
 use Rattle.mesa_engine.specs.Vault.{Origin, IsVault}
 use Rattle.mesa_engine.proofs.Staying.{still_vault}

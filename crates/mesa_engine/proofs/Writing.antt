@@ -1,39 +1,39 @@
 -- How a command that writes, the swap of a work, and a recast keep a vault.
 use Rattle.std.proofs.Common.{◌≡◌, ℕ, ◌+◌, ◌<◌, ◌^◌, ◌≤◌, List, [], ◌∷◌, ◌++◌, length, Bool, true, false, ◌||◌, refl, sym, ◌∙◌, subst, Ok, arith, Option, None, Some, IsTrue}
-use Rattle.mesa_invariant_spec.specs.mesa_disk.Files.{AreGone}
-use Rattle.mesa_invariant_spec.specs.mesa_disk.Image.{Image}
-use Rattle.mesa_invariant_spec.specs.mesa_disk.Story.{Story, Steps}
+use Rattle.mesa_disk.specs.Files.{AreGone}
+use Rattle.mesa_disk.specs.Image.{Image}
+use Rattle.mesa_disk.specs.Story.{Story, Steps}
 use Rattle.mesa_commit.specs.Turn.{MovesOnly}
 use Rattle.mesa_commit.specs.declared.trash.Dropped.{Dropped}
-use Rattle.mesa_image_spec.specs.mesa_lease.Book.{ended}
-use Rattle.mesa_image_spec.specs.mesa_span.declared.works.Work.{Work}
-use Rattle.mesa_image_spec.specs.mesa_span.declared.works.Work.TheVariants as range
-use Rattle.mesa_image_spec.specs.mesa_model.declared.commands.Command.{Command}
-use Rattle.mesa_image_spec.specs.mesa_model.declared.commands.Command.TheVariants as command
-use Rattle.mesa_image_spec.specs.mesa_model.declared.commands.RecastWords.{RecastWords}
-use Rattle.mesa_image_spec.specs.mesa_model.declared.commands.WorkWords.{WorkWords}
-use Rattle.mesa_image_spec.specs.mesa_model.declared.entries.Entry.{Entry}
-use Rattle.mesa_image_spec.specs.mesa_model.declared.entries.Kind.TheVariants as kind
-use Rattle.mesa_image_spec.specs.mesa_model.declared.entries.Outcome.{Outcome}
-use Rattle.mesa_image_spec.specs.mesa_model.declared.entries.Outcome.TheVariants as outcome
-use Rattle.mesa_image_spec.specs.mesa_model.declared.replies.Reply.{Reply}
-use Rattle.mesa_image_spec.specs.mesa_history_spec.Counting.{one_if}
-use Rattle.mesa_image_spec.specs.mesa_history_spec.Legal.{is_writing, is_written}
-use Rattle.mesa_image_spec.specs.mesa_schema.Recasts.{Recast}
-use Rattle.mesa_image_spec.specs.mesa_model.Tables.{recast_reply}
-use Rattle.mesa_image_spec.specs.mesa_model.Warehouse.{table_at}
-use Rattle.mesa_image_spec.specs.mesa_history_spec.Machine.{Claim, Merges, Recasts, claim_checked, still_checked, swapped_reply}
-use Rattle.mesa_image_spec.specs.mesa_history_spec.Refused.{is_refusal}
-use Rattle.mesa_image_spec.specs.mesa_history_spec.Replay.{told_by}
-use Rattle.mesa_image_spec.specs.mesa_history_spec.Run.{Renewed, Stage}
-use Rattle.mesa_image_spec.specs.mesa_history_spec.Turns.{IsDue}
-use Rattle.mesa_image_spec.specs.Catalog.{Catalog}
-use Rattle.mesa_image_spec.specs.Contents.{kept_of}
-use Rattle.mesa_image_spec.specs.Held.{IsHeld}
-use Rattle.mesa_image_spec.specs.Sound.{AreStocked, StandsFor}
-use Rattle.mesa_image_spec.specs.Sourced.{HasSources}
-use Rattle.mesa_invariant_spec.specs.mesa_history_spec.Output.{block}
-use Rattle.mesa_invariant_spec.specs.mesa_history_spec.Rows.{Rows}
+use Rattle.mesa_lease.specs.Book.{ended}
+use Rattle.mesa_catalog.specs.mesa_span.declared.works.Work.{Work}
+use Rattle.mesa_catalog.specs.mesa_span.declared.works.Work.TheVariants as range
+use Rattle.mesa_model.specs.declared.commands.Command.{Command}
+use Rattle.mesa_model.specs.declared.commands.Command.TheVariants as command
+use Rattle.mesa_model.specs.declared.commands.RecastWords.{RecastWords}
+use Rattle.mesa_model.specs.declared.commands.WorkWords.{WorkWords}
+use Rattle.mesa_model.specs.declared.entries.Entry.{Entry}
+use Rattle.mesa_model.specs.declared.entries.Kind.TheVariants as kind
+use Rattle.mesa_model.specs.declared.entries.Outcome.{Outcome}
+use Rattle.mesa_model.specs.declared.entries.Outcome.TheVariants as outcome
+use Rattle.mesa_model.specs.declared.replies.Reply.{Reply}
+use Rattle.mesa_catalog.specs.mesa_history_spec.Counting.{one_if}
+use Rattle.mesa_catalog.specs.mesa_history_spec.Legal.{is_writing, is_written}
+use Rattle.mesa_catalog.specs.mesa_schema.Recasts.{Recast}
+use Rattle.mesa_model.specs.Tables.{recast_reply}
+use Rattle.mesa_model.specs.Warehouse.{table_at}
+use Rattle.mesa_catalog.specs.mesa_history_spec.Machine.{Claim, Merges, Recasts, claim_checked, still_checked, swapped_reply}
+use Rattle.mesa_catalog.specs.mesa_history_spec.Refused.{is_refusal}
+use Rattle.mesa_catalog.specs.mesa_history_spec.Replay.{told_by}
+use Rattle.mesa_catalog.specs.mesa_history_spec.Run.{Renewed, Stage}
+use Rattle.mesa_catalog.specs.mesa_history_spec.Turns.{IsDue}
+use Rattle.mesa_catalog.specs.mesa_image_spec.Catalog.{Catalog}
+use Rattle.mesa_catalog.specs.mesa_image_spec.Contents.{kept_of}
+use Rattle.mesa_catalog.specs.mesa_image_spec.Held.{IsHeld}
+use Rattle.mesa_catalog.specs.mesa_image_spec.Sound.{AreStocked, StandsFor}
+use Rattle.mesa_catalog.specs.mesa_image_spec.Sourced.{HasSources}
+use Rattle.mesa_catalog.specs.mesa_history_spec.Output.{block}
+use Rattle.mesa_catalog.specs.mesa_history_spec.Rows.{Rows}
 use Rattle.mesa_invariant_spec.specs.Books.{recast_books, swapped_books}
 use Rattle.mesa_invariant_spec.specs.Causes.{Unwritten, reply_of, told_at}
 use Rattle.mesa_invariant_spec.specs.Changes.{Doing, IsChange, IsDecided}

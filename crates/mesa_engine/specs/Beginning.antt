@@ -2,24 +2,24 @@
 use Rattle.std.specs.Prelude.{◌≡◌, ℕ, ◌+◌, ◌<◌, ◌≤◌, List, [], Bool, Option, IsTrue}
 use Rattle.mesa_disk.specs.Story.{Story}
 use Rattle.mesa_disk.specs.declared.area.Area.{Area}
-use Rattle.mesa_engine.specs.mesa_catalog.mesa_history_spec.Claims.{HasRanges}
-use Rattle.mesa_engine.specs.mesa_lease.Book.{begun}
+use Rattle.mesa_catalog.specs.mesa_history_spec.Claims.{HasRanges}
+use Rattle.mesa_lease.specs.Book.{begun}
 use Rattle.mesa_model.specs.Warehouse.{max_tables}
-use Rattle.mesa_engine.specs.mesa_catalog.mesa_image_spec.Catalog.{Catalog}
-use Rattle.mesa_engine.specs.mesa_catalog.mesa_image_spec.Held.{IsHeld}
-use Rattle.mesa_engine.specs.mesa_catalog.mesa_image_spec.Shape.{IsCatalog}
-use Rattle.mesa_engine.specs.mesa_catalog.mesa_image_spec.Sound.{AreStocked}
-use Rattle.mesa_engine.specs.mesa_image_spec.Countable.{AreCounted}
-use Rattle.mesa_engine.specs.mesa_image_spec.Ids.{HasOwnIds, named}
-use Rattle.mesa_engine.specs.mesa_image_spec.Recordable.{AreRecordable}
-use Rattle.mesa_engine.specs.mesa_image_spec.Sourced.{HasSources}
-use Rattle.mesa_engine.specs.mesa_history_spec.Rows.{Rows}
-use Rattle.mesa_engine.specs.mesa_commit.Holding.{Among}
-use Rattle.mesa_engine.specs.mesa_invariant_spec.Books.{AreBooksOf}
-use Rattle.mesa_engine.specs.mesa_invariant_spec.Invariant.{AllFound}
+use Rattle.mesa_catalog.specs.mesa_image_spec.Catalog.{Catalog}
+use Rattle.mesa_catalog.specs.mesa_image_spec.Held.{IsHeld}
+use Rattle.mesa_catalog.specs.mesa_image_spec.Shape.{IsCatalog}
+use Rattle.mesa_catalog.specs.mesa_image_spec.Sound.{AreStocked}
+use Rattle.mesa_catalog.specs.mesa_image_spec.Countable.{AreCounted}
+use Rattle.mesa_catalog.specs.mesa_image_spec.Ids.{HasOwnIds, named}
+use Rattle.mesa_catalog.specs.mesa_image_spec.Recordable.{AreRecordable}
+use Rattle.mesa_catalog.specs.mesa_image_spec.Sourced.{HasSources}
+use Rattle.mesa_catalog.specs.mesa_history_spec.Rows.{Rows}
+use Rattle.mesa_commit.specs.Holding.{Among}
+use Rattle.mesa_invariant_spec.specs.Books.{AreBooksOf}
+use Rattle.mesa_invariant_spec.specs.Invariant.{AllFound}
 use Rattle.mesa_engine.specs.EngineState.{books_of, first_id}
 use Rattle.mesa_engine.specs.Vault.{Starts, IsRead, IsReady, outset_of}
-use Rattle.mesa_engine.specs.mesa_catalog.Lookups.{generation_of}
+use Rattle.mesa_catalog.specs.Lookups.{generation_of}
 use Rattle.mesa_engine.specs.Memory.{opened_state}
 
 -- What a run of a family finds at its start, where the files have these rows. On every store: the catalogue is that of its start's projection and of this run, and has the shape and the ids of one, and what its files are to keep; the disk's clock and counts aren't behind those of the start; the sink has what the start says; and the disk is ready for the run's first record. On a sound store: a read gives an image, the journal that ends here, in this area, holds the catalogue with these rows, and whatever a crash since the start may have left is found.

@@ -1,14 +1,14 @@
 -- What an engine keeps between turns.
 use Rattle.std.specs.Prelude.{◌≡◌, ℕ, ◌≤◌, List, [], true, false, not, Option, length, vec_capacity}
 use Rattle.std.specs.List.{AllByRecursion}
-use Rattle.mesa_disk.specs.mesa_io.Causes.{Rose}
+use Rattle.mesa_io.specs.Causes.{Rose}
 use Rattle.mesa_disk.specs.Image.{Image}
 use Rattle.mesa_disk.specs.Story.{Story}
 use Rattle.mesa_model.specs.declared.commands.Script.{Script}
-use Rattle.mesa_engine.specs.mesa_catalog.mesa_history_spec.Run.{State}
-use Rattle.mesa_engine.specs.mesa_history_spec.Rows.{Rows}
-use Rattle.mesa_engine.specs.mesa_invariant_spec.Turns.{Faults, Shown}
-use Rattle.mesa_engine.specs.mesa_invariant_spec.Undamaged.{NoneDamaged}
+use Rattle.mesa_catalog.specs.mesa_history_spec.Run.{State}
+use Rattle.mesa_catalog.specs.mesa_history_spec.Rows.{Rows}
+use Rattle.mesa_invariant_spec.specs.Turns.{Faults, Shown}
+use Rattle.mesa_invariant_spec.specs.Undamaged.{NoneDamaged}
 use Rattle.mesa_engine.specs.declared.log.Log.{Log}
 use Rattle.mesa_engine.specs.EngineState.{EngineState}
 use Rattle.mesa_engine.specs.Vault.{Origin, Starts, IsVaultAt}

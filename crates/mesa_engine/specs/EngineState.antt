@@ -1,15 +1,15 @@
 -- What a vault has in its memory, and the books that it stands for.
 use Rattle.std.specs.Prelude.{ℕ, ◌+◌, ◌*◌, ◌^◌, List, [], ◌++◌, map, Option}
-use Rattle.mesa_invariant_spec.specs.mesa_disk.declared.area.Area.{Area}
-use Rattle.mesa_image_spec.specs.mesa_lease.Book.{Book}
-use Rattle.mesa_image_spec.specs.mesa_model.Warehouse.{Table, Store, Pin}
-use Rattle.mesa_image_spec.specs.mesa_model.Pins.{store_at}
-use Rattle.mesa_image_spec.specs.Catalog.{Stock, Catalog, ranges_of}
-use Rattle.mesa_image_spec.specs.Fitting.{shelved}
-use Rattle.mesa_image_spec.specs.Contents.{kept_of}
-use Rattle.mesa_image_spec.specs.Sound.{wants}
-use Rattle.mesa_image_spec.specs.Ids.{named}
-use Rattle.mesa_invariant_spec.specs.mesa_history_spec.Rows.{Rows}
+use Rattle.mesa_disk.specs.declared.area.Area.{Area}
+use Rattle.mesa_lease.specs.Book.{Book}
+use Rattle.mesa_model.specs.Warehouse.{Table, Store, Pin}
+use Rattle.mesa_model.specs.Pins.{store_at}
+use Rattle.mesa_catalog.specs.mesa_image_spec.Catalog.{Stock, Catalog, ranges_of}
+use Rattle.mesa_catalog.specs.mesa_image_spec.Fitting.{shelved}
+use Rattle.mesa_catalog.specs.mesa_image_spec.Contents.{kept_of}
+use Rattle.mesa_catalog.specs.mesa_image_spec.Sound.{wants}
+use Rattle.mesa_catalog.specs.mesa_image_spec.Ids.{named}
+use Rattle.mesa_catalog.specs.mesa_history_spec.Rows.{Rows}
 use Rattle.mesa_commit.specs.declared.trash.Dropped.{Dropped}
 use Rattle.mesa_commit.specs.declared.trash.Hold.{Hold}
 use Rattle.mesa_commit.specs.Filed.{PinFiles}

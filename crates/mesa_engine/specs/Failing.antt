@@ -9,15 +9,15 @@ use Rattle.mesa_model.specs.Load.{load_batch}
 use Rattle.mesa_model.specs.Tables.{alter_table, make_table, make_view}
 use Rattle.mesa_model.specs.Pins.{make_pin, release_pin}
 use Rattle.mesa_model.specs.Versions.{expire_to}
-use Rattle.mesa_engine.specs.mesa_catalog.mesa_history_spec.Machine.{claim_of, recast_claim_of}
-use Rattle.mesa_engine.specs.mesa_catalog.mesa_history_spec.Run.{Stage, First, Looked, Run}
-use Rattle.mesa_engine.specs.mesa_catalog.mesa_history_spec.Legal.{is_due_at}
-use Rattle.mesa_engine.specs.mesa_catalog.mesa_history_spec.Turns.{IsDue}
-use Rattle.mesa_engine.specs.mesa_invariant_spec.Books.{Books}
-use Rattle.mesa_engine.specs.mesa_invariant_spec.Causes.{Cause, Unread, Damaged, Unwritten}
-use Rattle.mesa_engine.specs.mesa_invariant_spec.Changes.{HasFailed, HasNoPlan}
-use Rattle.mesa_engine.specs.mesa_invariant_spec.Queries.{HasNoAnswer}
-use Rattle.mesa_engine.specs.mesa_invariant_spec.Works.{HasNoClaim}
+use Rattle.mesa_catalog.specs.mesa_history_spec.Machine.{claim_of, recast_claim_of}
+use Rattle.mesa_catalog.specs.mesa_history_spec.Run.{Stage, First, Looked, Run}
+use Rattle.mesa_catalog.specs.mesa_history_spec.Legal.{is_due_at}
+use Rattle.mesa_catalog.specs.mesa_history_spec.Turns.{IsDue}
+use Rattle.mesa_invariant_spec.specs.Books.{Books}
+use Rattle.mesa_invariant_spec.specs.Causes.{Cause, Unread, Damaged, Unwritten}
+use Rattle.mesa_invariant_spec.specs.Changes.{HasFailed, HasNoPlan}
+use Rattle.mesa_invariant_spec.specs.Queries.{HasNoAnswer}
+use Rattle.mesa_invariant_spec.specs.Works.{HasNoClaim}
 
 -- A turn of this kind is due to a session's command.
 pub record Comes (script : Script) (r : Run) (session number : ℕ) (k : Kind) : Type 0 where

@@ -2,7 +2,7 @@
 use Rattle.mesa_engine.specs.declared.failure.Failure.{Failure}
 use Rattle.mesa_engine.specs.declared.failure.Failure.TheVariants as failure
 use Rattle.mesa_model.specs.declared.replies.Reply.TheVariants as reply
-use Rattle.mesa_engine.specs.mesa_invariant_spec.Causes.{Cause, Replies, Unread, Damaged, Unwritten, NoMemory}
+use Rattle.mesa_invariant_spec.specs.Causes.{Cause, Replies, Unread, Damaged, Unwritten, NoMemory}
 
 -- the cause that a failure is
 abbrev pub cause_in : Failure → Cause

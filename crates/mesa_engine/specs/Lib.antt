@@ -1,18 +1,11 @@
-pub use Rattle.mesa_image_spec.specs as mesa_image_spec
-pub use Rattle.mesa_image_spec.specs.mesa_model as mesa_model
-pub use Rattle.mesa_invariant_spec.specs.mesa_history_spec as mesa_history_spec
-pub use Rattle.mesa_commit.specs as mesa_commit
-pub use Rattle.mesa_invariant_spec.specs as mesa_invariant_spec
 pub use Rattle.mesa_catalog.specs as mesa_catalog
+pub use Rattle.mesa_commit.specs as mesa_commit
+pub use Rattle.mesa_catalog.specs.mesa_history_spec as mesa_history_spec
 pub use Rattle.mesa_catalog.specs.mesa_image_spec as mesa_image_spec
-pub use Rattle.mesa_engine.specs.mesa_invariant_spec as mesa_invariant_spec
-pub use Rattle.mesa_lease.specs as mesa_lease
-pub use Rattle.mesa_engine.specs.mesa_history_spec as mesa_history_spec
-pub use Rattle.mesa_engine.specs.mesa_catalog as mesa_catalog
-pub use Rattle.mesa_engine.specs.mesa_invariant_spec.mesa_history_spec as mesa_history_spec
-pub use Rattle.mesa_engine.specs.mesa_image_spec as mesa_image_spec
+pub use Rattle.mesa_invariant_spec.specs as mesa_invariant_spec
+pub use Rattle.mesa_record.specs as mesa_record
 pub use Rattle.mesa_script.specs as mesa_script
-pub use Rattle.mesa_engine.specs.mesa_commit as mesa_commit
+pub use Rattle.mesa_catalog.specs.mesa_span as mesa_span
 pub mod EngineState
 pub mod Vault
 pub mod Written

@@ -2,7 +2,7 @@
 use Rattle.std.specs.Prelude.{◌≡◌, ℕ, ◌≤◌, [], not, ◌==◌, Bool, Option, None, Some}
 use Rattle.mesa_disk.specs.declared.area.Area.{Area}
 use Rattle.mesa_lease.specs.Book.{Book, begun}
-use Rattle.mesa_engine.specs.mesa_model.Warehouse.{max_tables}
+use Rattle.mesa_model.specs.Warehouse.{max_tables}
 use Rattle.mesa_record.specs.declared.record.Record.{Record}
 use Rattle.mesa_catalog.specs.mesa_image_spec.Catalog.{Catalog}
 use Rattle.mesa_commit.specs.declared.trash.Hold.{Hold}

@@ -1,14 +1,14 @@
 -- What a turn prints, and what it leaves of a sink.
 use Rattle.std.specs.Prelude.{◌≡◌, ℕ, List, ◌++◌, true, false, not, Option, Some}
-use Rattle.mesa_disk.specs.mesa_io.Causes.{Rose}
+use Rattle.mesa_io.specs.Causes.{Rose}
 use Rattle.mesa_model.specs.declared.entries.Entry.{Entry}
 use Rattle.mesa_model.specs.declared.replies.Reply.TheVariants as reply
-use Rattle.mesa_engine.specs.mesa_invariant_spec.mesa_history_spec.Run.{Told}
-use Rattle.mesa_engine.specs.mesa_invariant_spec.mesa_history_spec.Output.{block}
+use Rattle.mesa_catalog.specs.mesa_history_spec.Run.{Told}
+use Rattle.mesa_catalog.specs.mesa_history_spec.Output.{block}
 use Rattle.mesa_print.specs.declared.printer.Printer.{Printer}
 use Rattle.mesa_script.specs.Replies.{head_line}
 use Rattle.mesa_script.specs.declared.rendered.Rendered.{Rendered}
-use Rattle.mesa_engine.specs.mesa_invariant_spec.Printing.{IsPut}
+use Rattle.mesa_invariant_spec.specs.Printing.{IsPut}
 
 -- A printer goes on: once broken it stays so; it breaks only where its sink's count of faults rose; and else the count stays.
 pub record GoesOn {K : Type 0} (faults : K → ℕ) (old new : Printer K) : Type 0 where

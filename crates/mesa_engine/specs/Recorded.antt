@@ -1,13 +1,13 @@
 -- What a record does to a vault's memory.
 use Rattle.std.specs.Prelude.{◌≡◌, ℕ, ◌+◌, ◌<◌, ◌≤◌, List, ◌++◌, map, Option, Some}
 use Rattle.mesa_commit.specs.Turn.{made_ids}
-use Rattle.mesa_image_spec.specs.Catalog.{Catalog}
-use Rattle.mesa_image_spec.specs.Shape.{IsCatalog}
-use Rattle.mesa_image_spec.specs.mesa_lease.Book.{Book}
-use Rattle.mesa_image_spec.specs.Countable.{AreCounted}
-use Rattle.mesa_image_spec.specs.Ids.{HasOwnIds, named}
-use Rattle.mesa_image_spec.specs.Recordable.{AreRecordable}
-use Rattle.mesa_invariant_spec.specs.mesa_history_spec.Rows.{Rows}
+use Rattle.mesa_catalog.specs.mesa_image_spec.Catalog.{Catalog}
+use Rattle.mesa_catalog.specs.mesa_image_spec.Shape.{IsCatalog}
+use Rattle.mesa_lease.specs.Book.{Book}
+use Rattle.mesa_catalog.specs.mesa_image_spec.Countable.{AreCounted}
+use Rattle.mesa_catalog.specs.mesa_image_spec.Ids.{HasOwnIds, named}
+use Rattle.mesa_catalog.specs.mesa_image_spec.Recordable.{AreRecordable}
+use Rattle.mesa_catalog.specs.mesa_history_spec.Rows.{Rows}
 use Rattle.mesa_commit.specs.declared.trash.Dropped.{Dropped}
 use Rattle.mesa_commit.specs.declared.trash.Hold.{Hold}
 use Rattle.mesa_commit.specs.Filed.{AreGiven, Renames, waits_after}

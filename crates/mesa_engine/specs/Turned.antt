@@ -1,7 +1,7 @@
 -- What turns that keep the catalogue do to a vault's memory.
 use Rattle.std.specs.Prelude.{ℕ, ◌+◌, [], ◌∷◌, ◌++◌, filter, Bool, ◌&&◌, ◌==◌, not, Some}
-use Rattle.mesa_image_spec.specs.mesa_lease.Book.{Book}
-use Rattle.mesa_image_spec.specs.mesa_model.Pins.{count_at, counted_at}
+use Rattle.mesa_lease.specs.Book.{Book}
+use Rattle.mesa_model.specs.Pins.{count_at, counted_at}
 use Rattle.mesa_commit.specs.declared.trash.Hold.{Hold}
 use Rattle.mesa_engine.specs.EngineState.{HeldPin, OpenQuery, EngineState}
 

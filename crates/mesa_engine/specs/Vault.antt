@@ -1,29 +1,29 @@
 -- What a vault keeps whenever no turn is under way.
 use Rattle.std.specs.Prelude.{◌≡◌, ℕ, ◌+◌, ◌*◌, ◌<◌, ◌≤◌, List, map, Bool, Option, None, Some, IsTrue, length}
 use Rattle.std.specs.List.{AllByRecursion}
-use Rattle.mesa_invariant_spec.specs.mesa_disk.Image.{Image}
-use Rattle.mesa_invariant_spec.specs.mesa_disk.Story.{Story}
+use Rattle.mesa_disk.specs.Image.{Image}
+use Rattle.mesa_disk.specs.Story.{Story}
 use Rattle.mesa_commit.specs.Images.{Has}
-use Rattle.mesa_image_spec.specs.mesa_model.declared.commands.Script.{Script}
-use Rattle.mesa_image_spec.specs.mesa_model.declared.entries.Entry.{Entry}
-use Rattle.mesa_image_spec.specs.mesa_history_spec.Claims.{HasRanges}
-use Rattle.mesa_image_spec.specs.mesa_history_spec.Law.{written_in}
-use Rattle.mesa_image_spec.specs.mesa_history_spec.Run.{State, begins}
-use Rattle.mesa_image_spec.specs.mesa_history_spec.Sources.{Written}
-use Rattle.mesa_image_spec.specs.Catalog.{Catalog}
-use Rattle.mesa_image_spec.specs.Held.{IsHeld}
-use Rattle.mesa_image_spec.specs.Shape.{IsCatalog}
-use Rattle.mesa_image_spec.specs.Sound.{AreStocked, StandsFor}
-use Rattle.mesa_image_spec.specs.Countable.{AreCounted as AreColumnsCounted}
-use Rattle.mesa_image_spec.specs.Ids.{HasOwnIds, named}
-use Rattle.mesa_image_spec.specs.Recordable.{AreRecordable}
-use Rattle.mesa_image_spec.specs.Sourced.{HasSources}
-use Rattle.mesa_invariant_spec.specs.mesa_history_spec.Rows.{Rows}
+use Rattle.mesa_model.specs.declared.commands.Script.{Script}
+use Rattle.mesa_model.specs.declared.entries.Entry.{Entry}
+use Rattle.mesa_catalog.specs.mesa_history_spec.Claims.{HasRanges}
+use Rattle.mesa_catalog.specs.mesa_history_spec.Law.{written_in}
+use Rattle.mesa_catalog.specs.mesa_history_spec.Run.{State, begins}
+use Rattle.mesa_catalog.specs.mesa_history_spec.Sources.{Written}
+use Rattle.mesa_catalog.specs.mesa_image_spec.Catalog.{Catalog}
+use Rattle.mesa_catalog.specs.mesa_image_spec.Held.{IsHeld}
+use Rattle.mesa_catalog.specs.mesa_image_spec.Shape.{IsCatalog}
+use Rattle.mesa_catalog.specs.mesa_image_spec.Sound.{AreStocked, StandsFor}
+use Rattle.mesa_catalog.specs.mesa_image_spec.Countable.{AreCounted as AreColumnsCounted}
+use Rattle.mesa_catalog.specs.mesa_image_spec.Ids.{HasOwnIds, named}
+use Rattle.mesa_catalog.specs.mesa_image_spec.Recordable.{AreRecordable}
+use Rattle.mesa_catalog.specs.mesa_image_spec.Sourced.{HasSources}
+use Rattle.mesa_catalog.specs.mesa_history_spec.Rows.{Rows}
 use Rattle.mesa_commit.specs.Filed.{AreFresh, AreNamedOrWait, PinFiles}
 use Rattle.mesa_commit.specs.Holding.{AreFiled, ids_of}
 use Rattle.mesa_invariant_spec.specs.Sight.{schema_changes}
 use Rattle.mesa_invariant_spec.specs.Invariant.{Outset, HoldsInvariant}
-use Rattle.mesa_image_spec.specs.mesa_model.Versions.{common_oldest}
+use Rattle.mesa_model.specs.Versions.{common_oldest}
 use Rattle.mesa_engine.specs.EngineState.{HeldPin, EngineState, books_of, next_id, past_id, most_files, Holder, holders, ids_held, files_held, projections}
 
 -- All that stands written of each table so far: what was found of it, and the batches that the run accepted since, each carried through the recasts behind it.

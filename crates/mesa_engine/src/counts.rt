@@ -1,6 +1,6 @@
 // How many pins each session was given.
 ghost use Rattle.std.specs.Prelude.{◌≡◌, ◌+◌, ◌<◌, ◌≤◌, ◌^◌, ◌++◌, replicate, vec_capacity, vec_len, IfOk, OnOk, OnErr};
-ghost use Rattle.mesa_engine.specs.mesa_model.Pins.{count_at, counted_at};
+ghost use Rattle.mesa_model.specs.Pins.{count_at, counted_at};
 
 use std::alloc::AllocError;
 

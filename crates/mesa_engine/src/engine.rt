@@ -1,12 +1,12 @@
 // The engine, and what can be asked of it between turns.
 ghost use Rattle.std.specs.Prelude.{◌≡◌, ◌+◌, ◌<◌, ◌^◌, IfOk};
 ghost use Rattle.mesa_batch.specs.Glance.{tables_of};
-ghost use Rattle.mesa_engine.specs.mesa_catalog.Lookups.{sight_of};
-ghost use Rattle.mesa_engine.specs.mesa_catalog.mesa_history_spec.Refused.{some_refused};
-ghost use Rattle.mesa_engine.specs.mesa_catalog.mesa_history_spec.Run.{begins};
-ghost use Rattle.mesa_engine.specs.mesa_history_spec.Rows.{Rows, no_rows};
-ghost use Rattle.mesa_engine.specs.mesa_invariant_spec.Sight.{schema_changes, tables_seen};
-ghost use Rattle.mesa_engine.specs.mesa_invariant_spec.Invariant.{run_at};
+ghost use Rattle.mesa_catalog.specs.Lookups.{sight_of};
+ghost use Rattle.mesa_catalog.specs.mesa_history_spec.Refused.{some_refused};
+ghost use Rattle.mesa_catalog.specs.mesa_history_spec.Run.{begins};
+ghost use Rattle.mesa_catalog.specs.mesa_history_spec.Rows.{Rows, no_rows};
+ghost use Rattle.mesa_invariant_spec.specs.Sight.{schema_changes, tables_seen};
+ghost use Rattle.mesa_invariant_spec.specs.Invariant.{run_at};
 
 use crate::{Log, Metadata, Naming};
 use mesa_batch::Glance;
@@ -30,7 +30,7 @@ impl<N: Naming, M: Made, D: Disk<M>, K: Sink> Model for Engine<N, M, D, K> {
     ghost use Rattle.std.specs.FinMap.{code as coded_map};
     ghost use Rattle.std.specs.Ordering.{nat_cmp};
     ghost use Rattle.mesa_engine.specs.Engine.{IsEngine, Standing, starts_of};
-    ghost use Rattle.mesa_engine.specs.mesa_invariant_spec.Turns.{faults_of};
+    ghost use Rattle.mesa_invariant_spec.specs.Turns.{faults_of};
 
     ghost Value = { Standing };
 

@@ -1,7 +1,7 @@
 // Why a turn did nothing for its command.
 ghost use Rattle.std.specs.Prelude.{◌≡◌};
 ghost use Rattle.mesa_engine.specs.Failure.{cause_in};
-ghost use Rattle.mesa_engine.specs.mesa_invariant_spec.Causes.{outcome_of, reply_of};
+ghost use Rattle.mesa_invariant_spec.specs.Causes.{outcome_of, reply_of};
 
 use mesa_file::Damage;
 use mesa_model::{Outcome, Refusal, Reply};

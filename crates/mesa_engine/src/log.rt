@@ -1,14 +1,14 @@
 // The history of a run, and what of it is printed.
 ghost use Rattle.std.specs.Prelude.{◌≡◌, ◌<◌, ◌≤◌, ◌||◌, ◌++◌, ◌∷◌, [], not, vec_len, vec_capacity, length};
-ghost use Rattle.mesa_engine.specs.mesa_invariant_spec.mesa_history_spec.Refused.{is_refusal as refuses};
+ghost use Rattle.mesa_catalog.specs.mesa_history_spec.Refused.{is_refusal as refuses};
 ghost use Rattle.mesa_model.specs.Entry.{IsShort};
 ghost use Rattle.mesa_model.specs.Query.{Heading};
 ghost use Rattle.mesa_engine.specs.Failure.{cause_in};
 ghost use Rattle.mesa_engine.specs.Printing.{GoesOn, PrintsBlock, page_text};
 ghost use Rattle.mesa_script.specs.Rows.{body_of};
-ghost use Rattle.mesa_engine.specs.mesa_invariant_spec.Causes.{outcome_of, reply_of, told_at};
-ghost use Rattle.mesa_engine.specs.mesa_invariant_spec.Printing.{IsPut};
-ghost use Rattle.mesa_engine.specs.mesa_invariant_spec.Turns.{entry};
+ghost use Rattle.mesa_invariant_spec.specs.Causes.{outcome_of, reply_of, told_at};
+ghost use Rattle.mesa_invariant_spec.specs.Printing.{IsPut};
+ghost use Rattle.mesa_invariant_spec.specs.Turns.{entry};
 
 use crate::{Failure, Who};
 use mesa_io::Sink;

@@ -1,6 +1,6 @@
 // Pins and open queries.
 ghost use Rattle.std.specs.Prelude.{◌≡◌, ◌+◌, ◌<◌, ◌^◌, is_some, find, IfOk, OnErr, OnOk};
-ghost use Rattle.mesa_engine.specs.mesa_model.Pins.{count_at};
+ghost use Rattle.mesa_model.specs.Pins.{count_at};
 ghost use Rattle.mesa_engine.specs.Turned.{answered_state, is_held_pin, pinned_state, queried_state, released_state};
 ghost use Rattle.mesa_engine.specs.Memory.{hold_now, is_of_another, with_state};
 

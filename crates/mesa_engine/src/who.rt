@@ -1,7 +1,7 @@
 // Whose a turn is.
 ghost use Rattle.std.specs.Prelude.{◌≡◌};
 ghost use Rattle.mesa_model.specs.Entry.{IsShort};
-ghost use Rattle.mesa_engine.specs.mesa_invariant_spec.Turns.{entry};
+ghost use Rattle.mesa_invariant_spec.specs.Turns.{entry};
 
 use mesa_model::{Entry, Kind, Outcome};
 

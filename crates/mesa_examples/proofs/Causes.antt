@@ -1,10 +1,10 @@
 -- Which faults a turn may meet: histories that keep the rules on faults, and ones that break a single rule.
 use Rattle.std.proofs.Common.{◌≡◌, ℕ, ◌^◌, List, [], ◌∷◌, ◌++◌, false, Some, None, arith, refl}
 use Rattle.std.specs.Prelude.{codes}
-use Rattle.mesa_model.specs.declared.entries.Entry.{Entry}
-use Rattle.mesa_model.specs.declared.entries.Kind.TheVariants.{Look, Decide, Close, Grant, Renew}
-use Rattle.mesa_model.specs.declared.entries.Outcome.TheVariants as outcome
-use Rattle.mesa_file.specs.declared.damage.Seen.TheVariants as seen
+use Rattle.mesa_history_spec.specs.mesa_model.declared.entries.Entry.{Entry}
+use Rattle.mesa_history_spec.specs.mesa_model.declared.entries.Kind.TheVariants.{Look, Decide, Close, Grant, Renew}
+use Rattle.mesa_history_spec.specs.mesa_model.declared.entries.Outcome.TheVariants as outcome
+use Rattle.mesa_history_spec.specs.mesa_file.declared.damage.Seen.TheVariants as seen
 use Rattle.mesa_history_spec.specs.Output.{IsDamage}
 use Rattle.mesa_examples.specs.Rows.{broken_rule, ByOutcome, Reading, Writing, Closed, stands, ends}
 use Rattle.mesa_examples.proofs.OnLiterals.{on_literals}

@@ -1,16 +1,16 @@
 -- The fold law at a script whose batches lie in three epochs, with three kinds of change, an expiry and a later table; and at one whose table is recast between two changes.
 use Rattle.std.proofs.Common.{◌≡◌, ℕ, List, [], ◌∷◌, refl}
 use Rattle.std.specs.Prelude.{codes, map, length, Result, Ok, Err, Option, Some, None, slice_get}
-use Rattle.mesa_schema.specs.declared.rows.Row.{Row}
-use Rattle.mesa_model.specs.declared.commands.Script.{Script}
-use Rattle.mesa_model.specs.declared.entries.Entry.{Entry}
-use Rattle.mesa_model.specs.Warehouse.{Table, Warehouse, content_at}
+use Rattle.mesa_history_spec.specs.mesa_schema.declared.rows.Row.{Row}
+use Rattle.mesa_history_spec.specs.mesa_model.declared.commands.Script.{Script}
+use Rattle.mesa_history_spec.specs.mesa_model.declared.entries.Entry.{Entry}
+use Rattle.mesa_history_spec.specs.mesa_model.Warehouse.{Table, Warehouse, content_at}
 use Rattle.mesa_history_spec.specs.Run.{begins, nothing_there}
 use Rattle.mesa_history_spec.specs.Replay.{runs}
 use Rattle.mesa_history_spec.specs.Alone.{history_alone}
 use Rattle.mesa_history_spec.specs.Law.{law_content}
-use Rattle.mesa_script.specs.declared.script.ScriptError.{ScriptError}
-use Rattle.mesa_script.specs.Script.{script_of}
+use Rattle.mesa_history_spec.specs.mesa_script.declared.script.ScriptError.{ScriptError}
+use Rattle.mesa_history_spec.specs.mesa_script.Script.{script_of}
 use Rattle.mesa_examples.specs.Rows.{lines}
 use Rattle.mesa_examples.proofs.OnLiterals.{on_literals}
 

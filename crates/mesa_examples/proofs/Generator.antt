@@ -1,7 +1,7 @@
 -- The generated script.
 use Rattle.std.proofs.Common.{◌≡◌, ℕ, zero, suc, List, [], ◌∷◌, refl}
 use Rattle.std.specs.Prelude.{codes, Ok}
-use Rattle.mesa_script.specs.Generated.{draw, generated}
+use Rattle.mesa_history_spec.specs.mesa_script.Generated.{draw, generated}
 use Rattle.mesa_examples.specs.Rows.{lines, printed_alone}
 use Rattle.mesa_examples.proofs.OnLiterals.{on_literals}
 

@@ -1,8 +1,8 @@
 -- Histories that a run may have, and ones that break a single rule.
 use Rattle.std.proofs.Common.{◌≡◌, ℕ, List, [], ◌∷◌, true, false, Some, None, refl}
 use Rattle.std.specs.Prelude.{codes}
-use Rattle.mesa_model.specs.declared.entries.Kind.TheVariants.{Look, Decide, Close, Grant, Renew}
-use Rattle.mesa_model.specs.declared.entries.Outcome.TheVariants as outcome
+use Rattle.mesa_history_spec.specs.mesa_model.declared.entries.Kind.TheVariants.{Look, Decide, Close, Grant, Renew}
+use Rattle.mesa_history_spec.specs.mesa_model.declared.entries.Outcome.TheVariants as outcome
 use Rattle.mesa_examples.specs.Rows.{broken_rule, Prologue, Due, Renewal, Sink, Moment, ByOutcome, Closed, End, stands, ends}
 use Rattle.mesa_examples.proofs.OnLiterals.{on_literals}
 

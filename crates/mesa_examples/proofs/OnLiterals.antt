@@ -5,7 +5,7 @@ use Rattle.std.specs.Str.{is_utf8, chars}
 use lib.Utf8.{encode}
 use Rattle.csv.proofs.OnLiterals.{csv_on_literals}
 use Rattle.csv.specs.Writing.{fields_text, is_blank, escaped}
-use Rattle.mesa_key.specs.Spelling.{before_zero}
+use Rattle.mesa_history_spec.specs.mesa_key.Spelling.{before_zero}
 use Rattle.mesa_history_spec.specs.Run.{place_of}
 use Rattle.mesa_history_spec.specs.Replay.{turned, go, runs}
 use Rattle.mesa_history_spec.specs.Legal.{are_fit}

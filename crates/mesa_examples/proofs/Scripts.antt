@@ -1,10 +1,10 @@
 -- Scripts that are refused, with their places and reasons.
 use Rattle.std.proofs.Common.{◌≡◌, ℕ, List, [], ◌∷◌, refl}
 use Rattle.std.specs.Prelude.{codes, Result, Ok, Err}
-use Rattle.mesa_model.specs.declared.commands.Script.{Script}
-use Rattle.mesa_script.specs.declared.script.ScriptError.{ScriptError}
-use Rattle.mesa_script.specs.Script.{script_of}
-use Rattle.mesa_script.specs.Errors.{error_text}
+use Rattle.mesa_history_spec.specs.mesa_model.declared.commands.Script.{Script}
+use Rattle.mesa_history_spec.specs.mesa_script.declared.script.ScriptError.{ScriptError}
+use Rattle.mesa_history_spec.specs.mesa_script.Script.{script_of}
+use Rattle.mesa_history_spec.specs.mesa_script.Errors.{error_text}
 use Rattle.mesa_examples.specs.Rows.{lines}
 use Rattle.mesa_examples.proofs.OnLiterals.{on_literals}
 

@@ -1,16 +1,16 @@
 -- What a script prints over an empty store.
 use Rattle.std.specs.Prelude.{◌≡◌, ℕ, zero, suc, ◌+◌, List, [], ◌∷◌, ◌++◌, Bool, true, false, Option, Some, None, Result, Ok, Err}
-use Rattle.mesa_model.specs.declared.commands.Script.{Script}
-use Rattle.mesa_model.specs.declared.entries.Entry.{Entry}
-use Rattle.mesa_model.specs.declared.entries.Kind.{Kind}
-use Rattle.mesa_model.specs.declared.entries.Outcome.{Outcome}
-use Rattle.mesa_model.specs.declared.entries.Outcome.TheVariants as outcome
+use Rattle.mesa_history_spec.specs.mesa_model.declared.commands.Script.{Script}
+use Rattle.mesa_history_spec.specs.mesa_model.declared.entries.Entry.{Entry}
+use Rattle.mesa_history_spec.specs.mesa_model.declared.entries.Kind.{Kind}
+use Rattle.mesa_history_spec.specs.mesa_model.declared.entries.Outcome.{Outcome}
+use Rattle.mesa_history_spec.specs.mesa_model.declared.entries.Outcome.TheVariants as outcome
 use Rattle.mesa_history_spec.specs.Run.{Run, begins, nothing_there}
 use Rattle.mesa_history_spec.specs.Replay.{told_by, is_skipped, go}
 use Rattle.mesa_history_spec.specs.Legal.{fits_prologue, is_due, fits_renewal, fits_sink, fits_moment, fits_outcome, fits_reading, fits_writing, fits_closed, ends_well, is_legal}
 use Rattle.mesa_history_spec.specs.Alone.{history_alone}
-use Rattle.mesa_script.specs.declared.script.ScriptError.{ScriptError}
-use Rattle.mesa_script.specs.Script.{script_of}
+use Rattle.mesa_history_spec.specs.mesa_script.declared.script.ScriptError.{ScriptError}
+use Rattle.mesa_history_spec.specs.mesa_script.Script.{script_of}
 use Rattle.mesa_history_spec.specs.Output.{output}
 
 -- the text of these lines, each with its line feed

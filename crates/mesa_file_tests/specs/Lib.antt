@@ -1,2 +1,1 @@
-pub use Rattle.mesa_compact.specs as mesa_compact
 pub mod Opened

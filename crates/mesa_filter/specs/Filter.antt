@@ -6,10 +6,10 @@ use Rattle.std.specs.Ordering.{is_eq, is_le, is_ge, is_lt, is_gt}
 use Rattle.std.specs.declared.cmp.Ordering.{Ordering}
 use Rattle.mesa_list.specs.Checks.{◌>>=◌, ◌>>◌, refuse_if}
 use Rattle.mesa_list.specs.Split.{split_at}
-use Rattle.mesa_key.specs.declared.KeyType.{KeyType}
-use Rattle.mesa_key.specs.declared.KeyValue.{KeyValue}
-use Rattle.mesa_key.specs.Order.{value_cmp}
-use Rattle.mesa_key.specs.Spelling.{key_of}
+use Rattle.mesa_schema.specs.mesa_key.declared.KeyType.{KeyType}
+use Rattle.mesa_schema.specs.mesa_key.declared.KeyValue.{KeyValue}
+use Rattle.mesa_schema.specs.mesa_key.Order.{value_cmp}
+use Rattle.mesa_schema.specs.mesa_key.Spelling.{key_of}
 use Rattle.mesa_schema.specs.declared.rows.Row.{Row}
 use Rattle.mesa_schema.specs.Columns.{Columns, place_of, key_names, kinds_of}
 use Rattle.mesa_schema.specs.Names.{is_name_byte}

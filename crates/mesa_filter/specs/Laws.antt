@@ -1,6 +1,6 @@
 -- What holds of filtered rows.
 use Rattle.std.specs.Prelude.{◌≡◌, List, map}
-use Rattle.mesa_value.specs.declared.Agg.{Agg}
+use Rattle.mesa_schema.specs.mesa_value.declared.Agg.{Agg}
 use Rattle.mesa_schema.specs.declared.rows.Row.{Row}
 use Rattle.mesa_schema.specs.Columns.{Columns}
 use Rattle.mesa_schema.specs.Folded.{folded}

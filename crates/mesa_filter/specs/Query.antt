@@ -2,7 +2,7 @@
 use Rattle.std.specs.Prelude.{◌≡◌, ℕ, List, length, Bool, nat_lt, Option, None, Result, Ok, IsTrue}
 use Rattle.std.specs.List.{list_all}
 use Rattle.mesa_list.specs.Checks.{◌>>=◌}
-use Rattle.mesa_key.specs.declared.KeyType.{KeyType}
+use Rattle.mesa_schema.specs.mesa_key.declared.KeyType.{KeyType}
 use Rattle.mesa_schema.specs.Columns.{Columns, kinds_of, chosen}
 use Rattle.mesa_filter.specs.declared.words.QueryWords.{QueryWords}
 use Rattle.mesa_filter.specs.declared.words.QueryError.{QueryError}

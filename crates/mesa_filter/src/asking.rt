@@ -10,8 +10,7 @@ ghost use Rattle.mesa_filter.specs.Query.{are_places};
 use crate::places::{Places, group_places, value_places};
 use crate::{Filter, FilterError, QueryError, QueryWords};
 use mesa_list::TryCopy;
-use mesa_schema::{Schema, ValueColumn};
-use mesa_value::Agg;
+use mesa_schema::{Agg, Schema, ValueColumn};
 use std::alloc::{AllocError, Global};
 
 /// The places of a query's group columns and value columns, and its filter.

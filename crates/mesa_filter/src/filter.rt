@@ -1,7 +1,7 @@
 // Filters.
 ghost use Rattle.std.specs.Prelude.{◌≡◌, ◌≢◌, ◌<◌, ◌^◌, IfOk, IfErr, IsTrue, length, map, take};
 ghost use Rattle.std.specs.List.{AllByRecursion};
-ghost use Rattle.mesa_key.specs.Spelling.{is_spelling, key_of};
+ghost use Rattle.mesa_schema.specs.mesa_key.Spelling.{is_spelling, key_of};
 ghost use Rattle.mesa_schema.specs.Columns.{chosen, kinds_of};
 ghost use Rattle.mesa_filter.specs.declared.terms.Term.{Term as AnyTerm};
 ghost use Rattle.mesa_filter.specs.Among.{Holds, term_among};
@@ -16,9 +16,8 @@ use crate::matching::{columns_may_meet, columns_meet, last_named};
 use crate::parsing::terms;
 use crate::query::kinds_at;
 use crate::{FilterError, Term};
-use mesa_key::KeyType;
+use mesa_schema::{KeyType, Schema};
 use mesa_list::{Items, TryCopy};
-use mesa_schema::Schema;
 use std::alloc::{AllocError, Global};
 use std::marker::Model;
 

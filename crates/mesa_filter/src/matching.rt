@@ -1,12 +1,12 @@
 // Whether keys meet terms.
 ghost use Rattle.std.specs.Prelude.{◌≡◌, ◌≤◌, IsTrue, Some};
-ghost use Rattle.mesa_key.specs.Columns.{seen};
-ghost use Rattle.mesa_key.specs.Spelling.{is_spelling};
+ghost use Rattle.mesa_schema.specs.mesa_key.Columns.{seen};
+ghost use Rattle.mesa_schema.specs.mesa_key.Spelling.{is_spelling};
 ghost use Rattle.mesa_filter.specs.Filter.{are_within, passes_as, value_meets};
 ghost use Rattle.mesa_filter.specs.Walk.{all_meet, columns_named, column_meets as meets_column, column_reaches as reaches_column, interval_meets, may_meet_from, reaches as reaches_by};
 
 use crate::{Comparison, Term};
-use mesa_key::{ColumnValue, KeyColumns, KeyType};
+use mesa_schema::{ColumnValue, KeyColumns, KeyType};
 use std::cmp::Ordering;
 
 // Whether each of the first columns of an encoded key meets its terms. No column behind them is looked at.

@@ -2,8 +2,8 @@
 use Rattle.std.proofs.Common.{◌≡◌, ℕ, ◌+◌, ◌/◌, ◌%◌, ◌==◌, List, [], ◌∷◌, ◌++◌, true, false, refl, sym, ap, subst, ◌∙◌, append-nil, arith, ne_eqb, nat_lt, Option, Some, None}
 use Rattle.std.specs.Prelude.{codes, decimal, if◌then◌else◌, option_map}
 use Rattle.std.specs.Int.{w64, to_be_bytes}
-use Rattle.mesa_history_spec.specs.Replay.{go, told_by}
-use Rattle.mesa_history_spec.specs.Run.{Run, Told}
+use Rattle.mesa_invariant_spec.specs.mesa_history_spec.Replay.{go, told_by}
+use Rattle.mesa_invariant_spec.specs.mesa_history_spec.Run.{Run, Told}
 use Rattle.mesa_model.specs.declared.commands.Script.{Script}
 use Rattle.mesa_model.specs.declared.entries.Entry.{Entry}
 use Rattle.mesa_model.specs.declared.entries.Outcome.{Outcome}
@@ -11,12 +11,12 @@ use Rattle.mesa_model.specs.declared.entries.Outcome.TheVariants as outcome
 use Rattle.mesa_model.specs.declared.replies.Refusal.TheVariants as no
 use Rattle.mesa_model.specs.declared.replies.Reply.{Reply}
 use Rattle.mesa_model.specs.declared.replies.Reply.TheVariants as reply
-use Rattle.mesa_model.specs.mesa_file.declared.damage.Damage.{Damage}
-use Rattle.mesa_model.specs.mesa_file.declared.damage.Seen.{Seen}
-use Rattle.mesa_model.specs.mesa_file.declared.damage.Seen.TheVariants as seen
-use Rattle.mesa_model.specs.mesa_filter.Hex.{hex_digit, hex_of}
-use Rattle.mesa_history_spec.specs.Output.{IsBlock, IsBlockAs, IsOutput, block}
-use Rattle.mesa_script.specs.Replies.{damage_text, reply_text, seen_text}
+use Rattle.mesa_invariant_spec.specs.mesa_file.declared.damage.Damage.{Damage}
+use Rattle.mesa_invariant_spec.specs.mesa_file.declared.damage.Seen.{Seen}
+use Rattle.mesa_invariant_spec.specs.mesa_file.declared.damage.Seen.TheVariants as seen
+use Rattle.mesa_invariant_spec.specs.mesa_filter.Hex.{hex_digit, hex_of}
+use Rattle.mesa_invariant_spec.specs.mesa_history_spec.Output.{IsBlock, IsBlockAs, IsOutput, block}
+use Rattle.mesa_invariant_spec.specs.mesa_script.Replies.{damage_text, reply_text, seen_text}
 use Rattle.mesa_invariant_spec.specs.Printing.{IsBlockButRows, IsOutputButRows}
 use Rattle.mesa_invariant_spec.specs.mesa_history_spec.Bare.{bare_reply, bare_told}
 use Rattle.mesa_generate.specs.Excerpt.{Output}

@@ -1,6 +1,6 @@
 -- What holds of checks one after another, of each of their refusals and of what comes once all have passed.
 use Rattle.std.proofs.Common.{◌≡◌, Bool, true, false, refl, Option, Some, None, Result, Ok, Err, ok_or}
-use Rattle.mesa_history_spec.specs.mesa_span.mesa_list.Checks.{◌>>=◌, ◌>>◌, refuse_if, refuse_unless, refused_as}
+use Rattle.mesa_invariant_spec.specs.mesa_list.Checks.{◌>>=◌, ◌>>◌, refuse_if, refuse_unless, refused_as}
 
 module _ {B E : Type 0} (P : Result B E → Type 0) where
   pub on_check : {A : Type 0} (r : Result A E) (next : Result B E) → ((e : E) → r ≡ Err e → P (Err e)) → P next → P (r >> next)

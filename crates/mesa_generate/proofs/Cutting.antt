@@ -5,11 +5,11 @@ use Rattle.std.specs.List.{AllByRecursion}
 use Rattle.mesa_model.specs.declared.commands.Command.{Command}
 use Rattle.mesa_model.specs.declared.commands.Script.{Script}
 use Rattle.mesa_model.specs.declared.entries.Entry.{Entry}
-use Rattle.mesa_history_spec.specs.Legal.{AllFit}
-use Rattle.mesa_history_spec.specs.Replay.{go, place_after, runs, told_by, turn_as, turned}
-use Rattle.mesa_history_spec.specs.Run.{Answered, CutOff, Finished, First, Granted, Looked, Place, Renewed, Run, Stage, State, Told, begins, command_at, place_of}
-use Rattle.mesa_history_spec.proofs.Due.{due_turn, fit_below}
-use Rattle.mesa_history_spec.proofs.Places.{place_of-go}
+use Rattle.mesa_invariant_spec.specs.mesa_history_spec.Legal.{AllFit}
+use Rattle.mesa_invariant_spec.specs.mesa_history_spec.Replay.{go, place_after, runs, told_by, turn_as, turned}
+use Rattle.mesa_invariant_spec.specs.mesa_history_spec.Run.{Answered, CutOff, Finished, First, Granted, Looked, Place, Renewed, Run, Stage, State, Told, begins, command_at, place_of}
+use Rattle.mesa_invariant_spec.proofs.mesa_history_spec.Due.{due_turn, fit_below}
+use Rattle.mesa_invariant_spec.proofs.mesa_history_spec.Places.{place_of-go}
 use Rattle.mesa_generate.specs.Excerpt.{HasPlainNames, IsExcerptBy, Output, before_last_three, is_unasked}
 use Rattle.mesa_generate.proofs.Behind.{behind_nothing}
 use Rattle.mesa_generate.specs.Lines.{IsUnbroken, behind_lines}

@@ -6,9 +6,9 @@ use Rattle.std.specs.List.{AllByRecursion}
 use Rattle.csv.specs.Reading.{default_config, records, strip_bom}
 use Rattle.csv.specs.Writing.{default_writer, fields_text, is_blank, read_back, row_text}
 use Rattle.csv.proofs.RoundTrip.{rows_text}
-use Rattle.mesa_script.specs.Generated.{draw, expiry_after, generated, row_record, rows_from, versions_from}
-use Rattle.mesa_script.specs.Records.{field}
-use Rattle.mesa_script.specs.Script.{records_of}
+use Rattle.mesa_invariant_spec.specs.mesa_script.Generated.{draw, expiry_after, generated, row_record, rows_from, versions_from}
+use Rattle.mesa_invariant_spec.specs.mesa_script.Records.{field}
+use Rattle.mesa_invariant_spec.specs.mesa_script.Script.{records_of}
 use Rattle.mesa_generate.proofs.Plain.{decimal_bare, row_bare, rows_both, rows_long, rows_read, signed_bare}
 
 -- the record of row j of a version, from its three draws

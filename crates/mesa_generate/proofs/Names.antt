@@ -3,17 +3,17 @@ use Rattle.std.proofs.Common.{◌≡◌, ℕ, ◌+◌, ◌∙◌, List, [], ◌�
 use Rattle.std.specs.List.{AllByRecursion, cons_option, list_all}
 use Rattle.std.proofs.lemmas.Bool.{and_parts}
 use Rattle.std.proofs.Math.ListN.{get_or-map}
-use Rattle.mesa_schema.specs.declared.columns.ValueColumn.{ValueColumn}
-use Rattle.mesa_schema.specs.Columns.{Columns, chosen, value_names}
-use Rattle.mesa_schema.specs.Names.{is_name}
-use Rattle.mesa_schema.proofs.Lists.{all_at, all_got, all_map}
-use Rattle.mesa_schema.proofs.Places.{place_named}
+use Rattle.mesa_invariant_spec.specs.mesa_schema.declared.columns.ValueColumn.{ValueColumn}
+use Rattle.mesa_invariant_spec.specs.mesa_schema.Columns.{Columns, chosen, value_names}
+use Rattle.mesa_invariant_spec.specs.mesa_schema.Names.{is_name}
+use Rattle.mesa_invariant_spec.proofs.mesa_schema.Lists.{all_at, all_got, all_map}
+use Rattle.mesa_invariant_spec.proofs.mesa_schema.Places.{place_named}
 use Rattle.mesa_model.specs.Warehouse.{Store, Table, no_table, table_at}
 use Rattle.mesa_model.specs.Load.{sum_name, tables_loaded}
 use Rattle.mesa_model.specs.Relations.{table_number}
-use Rattle.mesa_batch.specs.Batch.{Placed}
-use Rattle.mesa_batch.specs.Totals.{sum_places}
-use Rattle.mesa_schema.specs.Columns.{aggs_of}
+use Rattle.mesa_invariant_spec.specs.mesa_batch.Batch.{Placed}
+use Rattle.mesa_invariant_spec.specs.mesa_batch.Totals.{sum_places}
+use Rattle.mesa_invariant_spec.specs.mesa_schema.Columns.{aggs_of}
 use Rattle.mesa_generate.specs.Excerpt.{ArePlainColumns, HasPlainNames, IsPlainColumn, IsPlainTable}
 use Rattle.mesa_generate.specs.Lines.{IsUnbroken}
 use Rattle.mesa_generate.proofs.Breaks.{name_unbroken}

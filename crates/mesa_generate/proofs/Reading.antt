@@ -4,22 +4,22 @@ use Rattle.std.specs.Prelude.{⊤, codes, if◌then◌else◌, slice_index_or, �
 use Rattle.std.specs.Fmt.{decimal}
 use Rattle.std.specs.List.{AllByRecursion}
 use Rattle.std.proofs.lemmas.List.{length-append}
-use Rattle.mesa_history_spec.specs.mesa_span.mesa_list.Checks.{◌>>=◌, ◌>>◌, each_of, refuse_if, refuse_unless, refused_as}
-use Rattle.mesa_history_spec.specs.mesa_span.mesa_list.Split.{entries_of}
-use Rattle.mesa_script.specs.Words.{key_words, limit_of, max_number, number_in, value_words, version_of}
-use Rattle.mesa_schema.proofs.Lists.{all_append}
+use Rattle.mesa_invariant_spec.specs.mesa_list.Checks.{◌>>=◌, ◌>>◌, each_of, refuse_if, refuse_unless, refused_as}
+use Rattle.mesa_invariant_spec.specs.mesa_list.Split.{entries_of}
+use Rattle.mesa_invariant_spec.specs.mesa_script.Words.{key_words, limit_of, max_number, number_in, value_words, version_of}
+use Rattle.mesa_invariant_spec.proofs.mesa_schema.Lists.{all_append}
 use Rattle.mesa_model.specs.declared.commands.Command.{Command}
 use Rattle.mesa_model.specs.declared.commands.Command.TheVariants as command
 use Rattle.mesa_model.specs.declared.commands.Script.{Script}
-use Rattle.mesa_history_spec.specs.Run.{command_at, commands_of}
-use Rattle.mesa_script.specs.declared.script.Reason.{Reason}
-use Rattle.mesa_script.specs.declared.script.Reason.TheVariants as reason
-use Rattle.mesa_script.specs.declared.script.ScriptError.{ScriptError}
-use Rattle.mesa_script.specs.declared.script.ScriptError.TheVariants as bad
-use Rattle.mesa_script.specs.Generated.{draw, generated}
-use Rattle.mesa_script.specs.Items.{EndOfLoad, Item, LeaseOf, NextSession, RowOf, Single, expire_words, item_of, parts_of}
-use Rattle.mesa_script.specs.Records.{Alter, Commit, Expire, Explain, Lease, Name, Pin, Query, Release, Row, Session, Table, View, Work, Recast, field, fits_fields, name_of}
-use Rattle.mesa_script.specs.Script.{Read, fits_order, item_at, max_commands, nothing_read, read_from, records_of, script_from, script_of, with_item, with_record}
+use Rattle.mesa_invariant_spec.specs.mesa_history_spec.Run.{command_at, commands_of}
+use Rattle.mesa_invariant_spec.specs.mesa_script.declared.script.Reason.{Reason}
+use Rattle.mesa_invariant_spec.specs.mesa_script.declared.script.Reason.TheVariants as reason
+use Rattle.mesa_invariant_spec.specs.mesa_script.declared.script.ScriptError.{ScriptError}
+use Rattle.mesa_invariant_spec.specs.mesa_script.declared.script.ScriptError.TheVariants as bad
+use Rattle.mesa_invariant_spec.specs.mesa_script.Generated.{draw, generated}
+use Rattle.mesa_invariant_spec.specs.mesa_script.Items.{EndOfLoad, Item, LeaseOf, NextSession, RowOf, Single, expire_words, item_of, parts_of}
+use Rattle.mesa_invariant_spec.specs.mesa_script.Records.{Alter, Commit, Expire, Explain, Lease, Name, Pin, Query, Release, Row, Session, Table, View, Work, Recast, field, fits_fields, name_of}
+use Rattle.mesa_invariant_spec.specs.mesa_script.Script.{Read, fits_order, item_at, max_commands, nothing_read, read_from, records_of, script_from, script_of, with_item, with_record}
 use Rattle.mesa_generate.specs.Excerpt.{before_last_three, is_unasked}
 use Rattle.mesa_generate.proofs.LastRecords.{HasField, all_records, expiry_records, generated_records, query_records, row_fields, row_records, day_record, sites_record, table_record, totals_record, version_records, view_record}
 

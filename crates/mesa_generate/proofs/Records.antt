@@ -1,6 +1,6 @@
 -- Records that are written one after the other.
 use Rattle.std.proofs.Common.{◌≡◌, ◌<◌, ◌≤◌, ◌+◌, ◌-◌, ℕ, suc, List, ◌++◌, sym, ap, ◌∙◌, append_assoc, arith}
-use Rattle.mesa_script.specs.Generated.{draw, row_record, rows_from, versions_from}
+use Rattle.mesa_invariant_spec.specs.mesa_script.Generated.{draw, row_record, rows_from, versions_from}
 
 -- what is drawn is small
 pub draw_small : (x : ℕ) → draw x < 4294967296

@@ -4,20 +4,20 @@ use Rattle.std.specs.Prelude.{nat_le, codes, ◌==◌, ◌%◌, if◌then◌else
 use Rattle.std.specs.Fmt.{decimal}
 use Rattle.std.proofs.lemmas.Bool.{lt-leb}
 use Rattle.std.specs.List.{AllByRecursion}
-use Rattle.mesa_list.specs.Checks.{◌>>=◌, ◌>>◌, refuse_if, refused_as}
-use Rattle.mesa_schema.proofs.Lists.{all_append}
-use Rattle.mesa_model.specs.mesa_batch.declared.words.RowWords.{RowWords}
+use Rattle.mesa_invariant_spec.specs.mesa_list.Checks.{◌>>=◌, ◌>>◌, refuse_if, refused_as}
+use Rattle.mesa_invariant_spec.proofs.mesa_schema.Lists.{all_append}
+use Rattle.mesa_invariant_spec.specs.mesa_batch.declared.words.RowWords.{RowWords}
 use Rattle.mesa_model.specs.declared.commands.Command.{Command}
 use Rattle.mesa_model.specs.declared.commands.Command.TheVariants as command
 use Rattle.mesa_model.specs.declared.commands.Script.{Script}
-use Rattle.mesa_script.specs.declared.script.Reason.{Reason}
-use Rattle.mesa_script.specs.declared.script.Reason.TheVariants as reason
-use Rattle.mesa_script.specs.declared.script.ScriptError.{ScriptError}
-use Rattle.mesa_script.specs.declared.script.ScriptError.TheVariants as bad
-use Rattle.mesa_script.specs.Generated.{draw, generated}
-use Rattle.mesa_script.specs.Items.{Item, Single}
-use Rattle.mesa_script.specs.Script.{Read, item_at, max_commands, nothing_read, read_from, script_from, script_of, with_item, with_record}
-use Rattle.mesa_script.specs.Words.{max_number}
+use Rattle.mesa_invariant_spec.specs.mesa_script.declared.script.Reason.{Reason}
+use Rattle.mesa_invariant_spec.specs.mesa_script.declared.script.Reason.TheVariants as reason
+use Rattle.mesa_invariant_spec.specs.mesa_script.declared.script.ScriptError.{ScriptError}
+use Rattle.mesa_invariant_spec.specs.mesa_script.declared.script.ScriptError.TheVariants as bad
+use Rattle.mesa_invariant_spec.specs.mesa_script.Generated.{draw, generated}
+use Rattle.mesa_invariant_spec.specs.mesa_script.Items.{Item, Single}
+use Rattle.mesa_invariant_spec.specs.mesa_script.Script.{Read, item_at, max_commands, nothing_read, read_from, script_from, script_of, with_item, with_record}
+use Rattle.mesa_invariant_spec.specs.mesa_script.Words.{max_number}
 use Rattle.mesa_generate.proofs.LastRecords.{HasField, all_records, day_record, expiry_records, generated_records, query_records, row_fields, row_records, sites_record, table_record, totals_record, version_records, view_record}
 use Rattle.mesa_generate.specs.Seeds.{most_versions}
 use Rattle.mesa_generate.proofs.Numbers.{number_back}

@@ -4,25 +4,25 @@ use Rattle.std.specs.List.{AllByRecursion, list_all}
 use Rattle.std.specs.Prelude.{codes}
 use Rattle.std.specs.Fmt.{decimal}
 use Rattle.std.proofs.lemmas.Bool.{and_parts}
-use Rattle.mesa_history_spec.specs.mesa_span.mesa_list.Checks.{◌>>◌, refuse_if, refuse_unless}
-use Rattle.mesa_schema.specs.declared.columns.ValueColumn.{ValueColumn}
-use Rattle.mesa_schema.specs.declared.schema.SchemaError.{SchemaError}
-use Rattle.mesa_schema.specs.declared.schema.SchemaError.TheVariants as schema
-use Rattle.mesa_schema.specs.declared.views.ViewError.{ViewError}
-use Rattle.mesa_schema.specs.declared.views.ViewError.TheVariants as view
-use Rattle.mesa_schema.specs.declared.rows.Row.{Row}
-use Rattle.mesa_schema.specs.Columns.{Columns, key_names, value_names, places_in}
-use Rattle.mesa_schema.specs.Changes.{columns_of}
-use Rattle.mesa_schema.specs.Names.{has_name, is_name, repeated}
-use Rattle.mesa_schema.specs.Schema.{schema_checked}
-use Rattle.mesa_schema.specs.Views.{choice_checked, is_replace, max_views, values_named, view_checked}
-use Rattle.mesa_schema.proofs.Lists.{all_append, all_found, all_map, all_set}
-use Rattle.mesa_batch.specs.declared.words.RowWords.{RowWords}
-use Rattle.mesa_batch.specs.declared.words.BatchError.{BatchError}
-use Rattle.mesa_batch.specs.declared.words.BatchError.TheVariants as batch
-use Rattle.mesa_batch.specs.Batch.{Placed, batch_of, rows_for}
-use Rattle.mesa_batch.specs.Totals.{over_bound}
-use Rattle.mesa_model.specs.mesa_filter.declared.words.VersionWord.TheVariants as asks
+use Rattle.mesa_invariant_spec.specs.mesa_list.Checks.{◌>>◌, refuse_if, refuse_unless}
+use Rattle.mesa_invariant_spec.specs.mesa_schema.declared.columns.ValueColumn.{ValueColumn}
+use Rattle.mesa_invariant_spec.specs.mesa_schema.declared.schema.SchemaError.{SchemaError}
+use Rattle.mesa_invariant_spec.specs.mesa_schema.declared.schema.SchemaError.TheVariants as schema
+use Rattle.mesa_invariant_spec.specs.mesa_schema.declared.views.ViewError.{ViewError}
+use Rattle.mesa_invariant_spec.specs.mesa_schema.declared.views.ViewError.TheVariants as view
+use Rattle.mesa_invariant_spec.specs.mesa_schema.declared.rows.Row.{Row}
+use Rattle.mesa_invariant_spec.specs.mesa_schema.Columns.{Columns, key_names, value_names, places_in}
+use Rattle.mesa_invariant_spec.specs.mesa_schema.Changes.{columns_of}
+use Rattle.mesa_invariant_spec.specs.mesa_schema.Names.{has_name, is_name, repeated}
+use Rattle.mesa_invariant_spec.specs.mesa_schema.Schema.{schema_checked}
+use Rattle.mesa_invariant_spec.specs.mesa_schema.Views.{choice_checked, is_replace, max_views, values_named, view_checked}
+use Rattle.mesa_invariant_spec.proofs.mesa_schema.Lists.{all_append, all_found, all_map, all_set}
+use Rattle.mesa_invariant_spec.specs.mesa_batch.declared.words.RowWords.{RowWords}
+use Rattle.mesa_invariant_spec.specs.mesa_batch.declared.words.BatchError.{BatchError}
+use Rattle.mesa_invariant_spec.specs.mesa_batch.declared.words.BatchError.TheVariants as batch
+use Rattle.mesa_invariant_spec.specs.mesa_batch.Batch.{Placed, batch_of, rows_for}
+use Rattle.mesa_invariant_spec.specs.mesa_batch.Totals.{over_bound}
+use Rattle.mesa_invariant_spec.specs.mesa_filter.declared.words.VersionWord.TheVariants as asks
 use Rattle.mesa_model.specs.declared.commands.TableWords.{TableWords}
 use Rattle.mesa_model.specs.declared.commands.ViewWords.{ViewWords}
 use Rattle.mesa_model.specs.declared.replies.Refusal.{Refusal}
@@ -37,8 +37,8 @@ use Rattle.mesa_model.specs.Step.{done_or_refused}
 use Rattle.mesa_model.specs.Tables.{columns_asked, make_table, make_view, names_are_good, view_of_table_checked}
 use Rattle.mesa_model.specs.Versions.{expire_to, table_from, version_checked}
 use Rattle.mesa_model.specs.Warehouse.{Table, Warehouse, max_tables, max_versions, newest_of, table_at}
-use Rattle.mesa_script.specs.Replies.{refusal_text, reply_text}
-use Rattle.mesa_script.specs.Rows.{body_of}
+use Rattle.mesa_invariant_spec.specs.mesa_script.Replies.{refusal_text, reply_text}
+use Rattle.mesa_invariant_spec.specs.mesa_script.Rows.{body_of}
 use Rattle.mesa_generate.specs.Lines.{IsUnbroken}
 use Rattle.mesa_generate.proofs.Breaks.{decimal_unbroken, name_unbroken, unbroken_both}
 use Rattle.mesa_generate.proofs.Checks.{on_check, on_if, on_other, on_other_check, on_some, on_unless}

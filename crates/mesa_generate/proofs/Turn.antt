@@ -1,9 +1,9 @@
 -- Turns of commands that aren't queries: each goes on, or prints a line and finishes its command.
 use Rattle.std.proofs.Common.{◌≡◌, ℕ, ◌+◌, List, [], ◌∷◌, Bool, true, false, refl, sym, subst, Option, Some, None, Result, Ok, Err}
 use Rattle.std.specs.Prelude.{⊤, codes, decimal, ◌++◌}
-use Rattle.mesa_history_spec.specs.mesa_span.mesa_list.Checks.{refuse_unless}
-use Rattle.mesa_history_spec.specs.mesa_span.declared.works.Work.{Work}
-use Rattle.mesa_history_spec.specs.mesa_span.declared.works.Work.TheVariants as work
+use Rattle.mesa_invariant_spec.specs.mesa_list.Checks.{refuse_unless}
+use Rattle.mesa_invariant_spec.specs.mesa_span.declared.works.Work.{Work}
+use Rattle.mesa_invariant_spec.specs.mesa_span.declared.works.Work.TheVariants as work
 use Rattle.mesa_model.specs.declared.commands.Command.{Command}
 use Rattle.mesa_model.specs.declared.commands.Command.TheVariants as command
 use Rattle.mesa_model.specs.declared.entries.Entry.{Entry}
@@ -18,11 +18,11 @@ use Rattle.mesa_model.specs.declared.replies.Reply.TheVariants as reply
 use Rattle.mesa_model.specs.Refusals.{refuse_closed}
 use Rattle.mesa_model.specs.Warehouse.{newest_of, table_at}
 use Rattle.mesa_model.specs.Relations.{table_number}
-use Rattle.mesa_history_spec.specs.mesa_span.Work.{next_work}
-use Rattle.mesa_history_spec.specs.Machine.{Claim, Errand, Merges, Recasts, claim_checked, claim_of, ranges_at, refuse_busy, swapped_reply}
-use Rattle.mesa_history_spec.specs.Replay.{Turned, claim_asked, closed_if, closed_off, closes, completes, decide, does, grants, refused_turn, refuses, renews, some_damage, standing, turn_of}
-use Rattle.mesa_history_spec.specs.Run.{Answered, CutOff, Finished, First, Granted, Looked, Renewed, Run, Stage, State, Told}
-use Rattle.mesa_lease.specs.Book.{holder, other_holder}
+use Rattle.mesa_invariant_spec.specs.mesa_span.Work.{next_work}
+use Rattle.mesa_invariant_spec.specs.mesa_history_spec.Machine.{Claim, Errand, Merges, Recasts, claim_checked, claim_of, ranges_at, refuse_busy, swapped_reply}
+use Rattle.mesa_invariant_spec.specs.mesa_history_spec.Replay.{Turned, claim_asked, closed_if, closed_off, closes, completes, decide, does, grants, refused_turn, refuses, renews, some_damage, standing, turn_of}
+use Rattle.mesa_invariant_spec.specs.mesa_history_spec.Run.{Answered, CutOff, Finished, First, Granted, Looked, Renewed, Run, Stage, State, Told}
+use Rattle.mesa_invariant_spec.specs.mesa_lease.Book.{holder, other_holder}
 use Rattle.mesa_generate.specs.Excerpt.{HasPlainNames, is_unasked}
 use Rattle.mesa_generate.proofs.Blocks.{damage_unbroken}
 use Rattle.mesa_generate.proofs.Breaks.{decimal_unbroken, unbroken_both}

@@ -1,18 +1,18 @@
 -- What a run prints for its last commands.
 use Rattle.std.specs.Prelude.{Bool, true, false, Ok, ◌≡◌, ◌≤◌, ◌<◌, ◌-◌, ℕ, List, ◌++◌, length}
 use Rattle.std.specs.List.{AllByRecursion}
-use Rattle.mesa_schema.specs.declared.columns.ValueColumn.{ValueColumn}
-use Rattle.mesa_schema.specs.Changes.{columns_of}
-use Rattle.mesa_schema.specs.Columns.{Columns}
+use Rattle.mesa_invariant_spec.specs.mesa_schema.declared.columns.ValueColumn.{ValueColumn}
+use Rattle.mesa_invariant_spec.specs.mesa_schema.Changes.{columns_of}
+use Rattle.mesa_invariant_spec.specs.mesa_schema.Columns.{Columns}
 use Rattle.mesa_model.specs.Warehouse.{Store, Table}
-use Rattle.mesa_history_spec.specs.Output.{IsOutput}
-use Rattle.mesa_history_spec.specs.Run.{Run, State, begins, commands_of}
-use Rattle.mesa_history_spec.specs.Legal.{AllFit}
-use Rattle.mesa_script.specs.Generated.{generated}
-use Rattle.mesa_script.specs.Script.{script_of}
+use Rattle.mesa_invariant_spec.specs.mesa_history_spec.Output.{IsOutput}
+use Rattle.mesa_invariant_spec.specs.mesa_history_spec.Run.{Run, State, begins, commands_of}
+use Rattle.mesa_invariant_spec.specs.mesa_history_spec.Legal.{AllFit}
+use Rattle.mesa_invariant_spec.specs.mesa_script.Generated.{generated}
+use Rattle.mesa_invariant_spec.specs.mesa_script.Script.{script_of}
 use Rattle.mesa_invariant_spec.specs.Printing.{IsOutputButRows}
 use Rattle.mesa_generate.specs.Lines.{IsUnbroken}
-use Rattle.mesa_history_spec.specs.Replay.{runs}
+use Rattle.mesa_invariant_spec.specs.mesa_history_spec.Replay.{runs}
 use Rattle.mesa_model.specs.declared.commands.Command.{Command}
 use Rattle.mesa_model.specs.declared.commands.Command.TheVariants as command
 use Rattle.mesa_model.specs.declared.commands.Script.{Script}

@@ -1,8 +1,8 @@
 -- That seeds give scripts.
 use Rattle.std.specs.Prelude.{◌≡◌, ◌≤◌, ℕ, Ok}
 use Rattle.mesa_model.specs.declared.commands.Script.{Script}
-use Rattle.mesa_script.specs.Generated.{generated}
-use Rattle.mesa_script.specs.Script.{script_of}
+use Rattle.mesa_invariant_spec.specs.mesa_script.Generated.{generated}
+use Rattle.mesa_invariant_spec.specs.mesa_script.Script.{script_of}
 
 -- the most versions that a script is generated with
 abbrev pub most_versions : ℕ

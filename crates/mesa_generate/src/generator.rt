@@ -1,6 +1,6 @@
 // The records of versions, from what a generator draws.
 ghost use Rattle.std.specs.Prelude.{◌≡◌, ◌<◌, ℕ, suc, ◌+◌, ◌%◌, pos, ◌-ℤ◌, ◌++◌, [], List, OnOk};
-ghost use Rattle.mesa_script.specs.Generated.{draw, expiry_after, row_record, rows_from, versions_from};
+ghost use Rattle.mesa_invariant_spec.specs.mesa_script.Generated.{draw, expiry_after, row_record, rows_from, versions_from};
 
 use itoa::{Buffer, Integer};
 use std::alloc::{AllocError, Global};

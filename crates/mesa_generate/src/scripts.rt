@@ -1,6 +1,6 @@
 // The generated script.
 ghost use Rattle.std.specs.Prelude.{◌≡◌, IfOk};
-ghost use Rattle.mesa_script.specs.Generated.{generated};
+ghost use Rattle.mesa_invariant_spec.specs.mesa_script.Generated.{generated};
 
 use crate::generator::Generator;
 use std::alloc::{AllocError, Global};

@@ -1,23 +1,23 @@
 -- What an answer rests on: the relation's columns, and its rows at the version asked.
 use Rattle.std.proofs.Common.{◌≡◌, ℕ, zero, suc, ◌+◌, List, [], ◌∷◌, map, set, get_or, Bool, true, false, cond, refl, sym, ◌∙◌, ap, subst, arith, Option, Some, None, Result, Ok, Err, option_map, ok_or}
-use Rattle.mesa_list.specs.Bytes.{same_bytes}
-use Rattle.mesa_list.specs.Checks.{◌>>=◌, ◌>>◌, refused_as}
-use Rattle.mesa_schema.specs.declared.rows.Row.{Row}
-use Rattle.mesa_schema.specs.declared.views.View.{View}
-use Rattle.mesa_schema.specs.Columns.{Columns}
-use Rattle.mesa_schema.specs.Changes.{Lineage, columns_of, epoch_of}
-use Rattle.mesa_schema.specs.Views.{view_columns, view_rows}
-use Rattle.mesa_filter.specs.declared.words.QueryWords.{QueryWords}
-use Rattle.mesa_filter.specs.declared.words.VersionWord.{VersionWord}
-use Rattle.mesa_filter.specs.Asked.{asked_of}
-use Rattle.mesa_filter.specs.Resume.{resume_of}
-use Rattle.mesa_model.specs.declared.replies.Refusal.{Refusal}
-use Rattle.mesa_model.specs.Warehouse.{Store, Table, Warehouse, content_at, no_table}
-use Rattle.mesa_model.specs.Versions.{version_asked}
-use Rattle.mesa_model.specs.Page.{page_of}
-use Rattle.mesa_model.specs.Relations.{Relation, relation_columns, relation_from, relation_of}
-use Rattle.mesa_model.specs.Refusals.{no_such_table, query_refusal, refuse_closed}
-use Rattle.mesa_model.specs.Query.{Answer, answer_over, answer_rows, heading_of, store_asked, version_seen}
+use Rattle.mesa_history_spec.specs.mesa_list.Bytes.{same_bytes}
+use Rattle.mesa_history_spec.specs.mesa_list.Checks.{◌>>=◌, ◌>>◌, refused_as}
+use Rattle.mesa_history_spec.specs.mesa_schema.declared.rows.Row.{Row}
+use Rattle.mesa_history_spec.specs.mesa_schema.declared.views.View.{View}
+use Rattle.mesa_history_spec.specs.mesa_schema.Columns.{Columns}
+use Rattle.mesa_history_spec.specs.mesa_schema.Changes.{Lineage, columns_of, epoch_of}
+use Rattle.mesa_history_spec.specs.mesa_schema.Views.{view_columns, view_rows}
+use Rattle.mesa_history_spec.specs.mesa_filter.declared.words.QueryWords.{QueryWords}
+use Rattle.mesa_history_spec.specs.mesa_filter.declared.words.VersionWord.{VersionWord}
+use Rattle.mesa_history_spec.specs.mesa_filter.Asked.{asked_of}
+use Rattle.mesa_history_spec.specs.mesa_filter.Resume.{resume_of}
+use Rattle.mesa_history_spec.specs.mesa_model.declared.replies.Refusal.{Refusal}
+use Rattle.mesa_history_spec.specs.mesa_model.Warehouse.{Store, Table, Warehouse, content_at, no_table}
+use Rattle.mesa_history_spec.specs.mesa_model.Versions.{version_asked}
+use Rattle.mesa_history_spec.specs.mesa_model.Page.{page_of}
+use Rattle.mesa_history_spec.specs.mesa_model.Relations.{Relation, relation_columns, relation_from, relation_of}
+use Rattle.mesa_history_spec.specs.mesa_model.Refusals.{no_such_table, query_refusal, refuse_closed}
+use Rattle.mesa_history_spec.specs.mesa_model.Query.{Answer, answer_over, answer_rows, heading_of, store_asked, version_seen}
 use Rattle.mesa_history_laws.proofs.RelationNames.{first_of_both, relation_in, view_named}
 
 -- what comes after a value is the same, where it is at that value

@@ -6,30 +6,30 @@ use Rattle.std.specs.Prelude.{option_and_then, option_map}
 use Rattle.std.proofs.lemmas.Bool.{eqb-true}
 use Rattle.std.proofs.lemmas.List.{append-nil, length-map}
 use Rattle.std.proofs.lemmas.Option.{get_or_from_slice_get, slice_get-map}
-use Rattle.mesa_list.specs.Checks.{◌>>=◌, ◌>>◌, refused_as}
-use Rattle.mesa_value.specs.declared.Agg.{Agg}
-use Rattle.mesa_key.specs.declared.KeyType.{KeyType}
-use Rattle.mesa_key.specs.declared.KeyType.TheVariants as kind
-use Rattle.mesa_key.specs.declared.KeyValue.{KeyValue}
-use Rattle.mesa_key.specs.declared.KeyValue.TheVariants as value
-use Rattle.mesa_key.specs.Spelling.{IsKey, IsValue, is_key_text, key_of, key_spelling}
-use Rattle.mesa_key.proofs.Keys.{key_again}
-use Rattle.mesa_schema.specs.declared.rows.Row.{Row}
-use Rattle.mesa_schema.specs.declared.columns.ValueColumn.{ValueColumn}
-use Rattle.mesa_schema.specs.Columns.{Columns, aggs_of, kinds_of, place_of}
-use Rattle.mesa_schema.specs.Changes.{columns_of}
-use Rattle.mesa_schema.specs.Numbers.{amount_of, any_signed, is_i64, key_value_of, signed_of}
-use Rattle.mesa_schema.specs.Rows.{AreOf, AreRowsOf, IsRowOf}
-use Rattle.mesa_schema.proofs.NumberWords.{is_i64-fits}
-use Rattle.mesa_schema.proofs.Places.{place_named}
-use Rattle.mesa_batch.proofs.RowForms.{is_of, then_fits}
-use Rattle.mesa_batch.specs.declared.words.RowWords.{RowWords}
-use Rattle.mesa_batch.specs.declared.words.BatchError.TheVariants.{BadRow, NoTable}
-use Rattle.mesa_batch.specs.Batch.{Named, Placed, batch_from, batch_of, columns_at, is_at, key_from, placed_of, refuse_twice, row_of, rows_for, values_from}
-use Rattle.mesa_model.specs.Warehouse.{Store, Table}
-use Rattle.mesa_model.specs.Load.{tables_named}
+use Rattle.mesa_history_spec.specs.mesa_list.Checks.{◌>>=◌, ◌>>◌, refused_as}
+use Rattle.mesa_history_spec.specs.mesa_value.declared.Agg.{Agg}
+use Rattle.mesa_history_spec.specs.mesa_key.declared.KeyType.{KeyType}
+use Rattle.mesa_history_spec.specs.mesa_key.declared.KeyType.TheVariants as kind
+use Rattle.mesa_history_spec.specs.mesa_key.declared.KeyValue.{KeyValue}
+use Rattle.mesa_history_spec.specs.mesa_key.declared.KeyValue.TheVariants as value
+use Rattle.mesa_history_spec.specs.mesa_key.Spelling.{IsKey, IsValue, is_key_text, key_of, key_spelling}
+use Rattle.mesa_history_spec.proofs.mesa_key.Keys.{key_again}
+use Rattle.mesa_history_spec.specs.mesa_schema.declared.rows.Row.{Row}
+use Rattle.mesa_history_spec.specs.mesa_schema.declared.columns.ValueColumn.{ValueColumn}
+use Rattle.mesa_history_spec.specs.mesa_schema.Columns.{Columns, aggs_of, kinds_of, place_of}
+use Rattle.mesa_history_spec.specs.mesa_schema.Changes.{columns_of}
+use Rattle.mesa_history_spec.specs.mesa_schema.Numbers.{amount_of, any_signed, is_i64, key_value_of, signed_of}
+use Rattle.mesa_history_spec.specs.mesa_schema.Rows.{AreOf, AreRowsOf, IsRowOf}
+use Rattle.mesa_history_spec.proofs.mesa_schema.NumberWords.{is_i64-fits}
+use Rattle.mesa_history_spec.proofs.mesa_schema.Places.{place_named}
+use Rattle.mesa_history_spec.proofs.mesa_batch.RowForms.{is_of, then_fits}
+use Rattle.mesa_history_spec.specs.mesa_batch.declared.words.RowWords.{RowWords}
+use Rattle.mesa_history_spec.specs.mesa_batch.declared.words.BatchError.TheVariants.{BadRow, NoTable}
+use Rattle.mesa_history_spec.specs.mesa_batch.Batch.{Named, Placed, batch_from, batch_of, columns_at, is_at, key_from, placed_of, refuse_twice, row_of, rows_for, values_from}
+use Rattle.mesa_history_spec.specs.mesa_model.Warehouse.{Store, Table}
+use Rattle.mesa_history_spec.specs.mesa_model.Load.{tables_named}
 use Rattle.mesa_history_laws.proofs.Checks.{bound, bound_other, bound_some, passed}
-use Rattle.mesa_schema.proofs.Lists.{all_append}
+use Rattle.mesa_history_spec.proofs.mesa_schema.Lists.{all_append}
 
 -- ---- values and keys
 

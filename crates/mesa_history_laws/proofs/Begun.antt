@@ -1,31 +1,31 @@
 -- While the lease of a claim is live, its table isn't recast.
 use Rattle.std.proofs.Common.{◌≡◌, ◌∙◌, ⊎_elim, ℕ, ◌<◌, List, [], ◌∷◌, length, Bool, true, false, refl, sym, ap, subst, arith, Option, None, Some}
 use Rattle.std.specs.Prelude.{Result, Ok, Err, IfOk}
-use Rattle.mesa_span.specs.declared.ranges.Ranges.{Ranges}
-use Rattle.mesa_span.specs.declared.works.Work.{Work}
-use Rattle.mesa_list.specs.Checks.{refuse_unless}
-use Rattle.mesa_lease.specs.Book.{is_held, other_holder}
-use Rattle.mesa_schema.specs.Recasts.{Recast}
-use Rattle.mesa_model.specs.declared.commands.Command.{Command}
-use Rattle.mesa_model.specs.declared.commands.Command.TheVariants as command
-use Rattle.mesa_model.specs.declared.commands.Script.{Script}
-use Rattle.mesa_model.specs.declared.entries.Entry.{Entry}
-use Rattle.mesa_model.specs.declared.entries.Kind.{Kind}
-use Rattle.mesa_model.specs.declared.entries.Kind.TheVariants as kind
-use Rattle.mesa_model.specs.declared.entries.Outcome.{Outcome}
-use Rattle.mesa_model.specs.declared.entries.Outcome.TheVariants as outcome
-use Rattle.mesa_model.specs.declared.replies.Refusal.{Refusal}
-use Rattle.mesa_model.specs.declared.replies.Refusal.TheVariants as no
-use Rattle.mesa_model.specs.declared.replies.Reply.{Reply}
-use Rattle.mesa_model.specs.declared.replies.Reply.TheVariants as reply
-use Rattle.mesa_model.specs.Load.{load_batch}
-use Rattle.mesa_model.specs.Pins.{make_pin, release_pin}
-use Rattle.mesa_model.specs.Query.{Answer, query_answer}
-use Rattle.mesa_model.specs.Refusals.{refuse_closed}
-use Rattle.mesa_model.specs.Step.{nothing_done}
-use Rattle.mesa_model.specs.Tables.{alter_table, make_table, make_view, table_recast}
-use Rattle.mesa_model.specs.Versions.{expire_to}
-use Rattle.mesa_model.specs.Warehouse.{Table, Warehouse, no_table, table_at}
+use Rattle.mesa_history_spec.specs.mesa_span.declared.ranges.Ranges.{Ranges}
+use Rattle.mesa_history_spec.specs.mesa_span.declared.works.Work.{Work}
+use Rattle.mesa_history_spec.specs.mesa_list.Checks.{refuse_unless}
+use Rattle.mesa_history_spec.specs.mesa_lease.Book.{is_held, other_holder}
+use Rattle.mesa_history_spec.specs.mesa_schema.Recasts.{Recast}
+use Rattle.mesa_history_spec.specs.mesa_model.declared.commands.Command.{Command}
+use Rattle.mesa_history_spec.specs.mesa_model.declared.commands.Command.TheVariants as command
+use Rattle.mesa_history_spec.specs.mesa_model.declared.commands.Script.{Script}
+use Rattle.mesa_history_spec.specs.mesa_model.declared.entries.Entry.{Entry}
+use Rattle.mesa_history_spec.specs.mesa_model.declared.entries.Kind.{Kind}
+use Rattle.mesa_history_spec.specs.mesa_model.declared.entries.Kind.TheVariants as kind
+use Rattle.mesa_history_spec.specs.mesa_model.declared.entries.Outcome.{Outcome}
+use Rattle.mesa_history_spec.specs.mesa_model.declared.entries.Outcome.TheVariants as outcome
+use Rattle.mesa_history_spec.specs.mesa_model.declared.replies.Refusal.{Refusal}
+use Rattle.mesa_history_spec.specs.mesa_model.declared.replies.Refusal.TheVariants as no
+use Rattle.mesa_history_spec.specs.mesa_model.declared.replies.Reply.{Reply}
+use Rattle.mesa_history_spec.specs.mesa_model.declared.replies.Reply.TheVariants as reply
+use Rattle.mesa_history_spec.specs.mesa_model.Load.{load_batch}
+use Rattle.mesa_history_spec.specs.mesa_model.Pins.{make_pin, release_pin}
+use Rattle.mesa_history_spec.specs.mesa_model.Query.{Answer, query_answer}
+use Rattle.mesa_history_spec.specs.mesa_model.Refusals.{refuse_closed}
+use Rattle.mesa_history_spec.specs.mesa_model.Step.{nothing_done}
+use Rattle.mesa_history_spec.specs.mesa_model.Tables.{alter_table, make_table, make_view, table_recast}
+use Rattle.mesa_history_spec.specs.mesa_model.Versions.{expire_to}
+use Rattle.mesa_history_spec.specs.mesa_model.Warehouse.{Table, Warehouse, no_table, table_at}
 use Rattle.mesa_history_spec.specs.Claims.{HasClaim, IsClaim, is_live}
 use Rattle.mesa_history_spec.specs.Law.{begun_at}
 use Rattle.mesa_history_spec.specs.Machine.{Claim, Errand, Machine, Merges, Recasts, claim_checked, claim_ended, claim_merged, claim_renewed, claimed, explained, still_checked}

@@ -1,6 +1,6 @@
 -- What holds of checks one after another: each refusal, or what comes once all have passed.
 use Rattle.std.proofs.Common.{◌≡◌, Bool, true, false, refl, Option, Some, None, Result, Ok, Err, ok_or, is_ok}
-use Rattle.mesa_list.specs.Checks.{◌>>=◌, ◌>>◌, refuse_if, refuse_unless, refused_as}
+use Rattle.mesa_history_spec.specs.mesa_list.Checks.{◌>>=◌, ◌>>◌, refuse_if, refuse_unless, refused_as}
 
 module _ {B E : Type 0} (P : Result B E → Type 0) (refused : (e : E) → P (Err e)) where
   -- an outcome's value handed on

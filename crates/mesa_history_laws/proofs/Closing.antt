@@ -1,12 +1,12 @@
 -- At the close of a recast only a view can be against it.
 use Rattle.std.proofs.Common.{◌≡◌, ◌==◌, ◌⊎◌, ⊎_elim, ℕ, true, sym, ◌∙◌, ap, subst}
 use Rattle.std.proofs.lemmas.Bool.{eq-eqb}
-use Rattle.mesa_list.specs.Checks.{◌>>◌, refuse_unless, refused_as}
-use Rattle.mesa_schema.specs.Changes.{Lineage, epoch_of}
-use Rattle.mesa_schema.specs.Recasts.{Recast, recast_checked, views_kept}
-use Rattle.mesa_schema.proofs.LineageRecasts.{recast_goes_on}
-use Rattle.mesa_model.specs.Refusals.{recast_refusal}
-use Rattle.mesa_model.specs.declared.replies.Refusal.TheVariants as no
+use Rattle.mesa_history_spec.specs.mesa_list.Checks.{◌>>◌, refuse_unless, refused_as}
+use Rattle.mesa_history_spec.specs.mesa_schema.Changes.{Lineage, epoch_of}
+use Rattle.mesa_history_spec.specs.mesa_schema.Recasts.{Recast, recast_checked, views_kept}
+use Rattle.mesa_history_spec.proofs.mesa_schema.LineageRecasts.{recast_goes_on}
+use Rattle.mesa_history_spec.specs.mesa_model.Refusals.{recast_refusal}
+use Rattle.mesa_history_spec.specs.mesa_model.declared.replies.Refusal.TheVariants as no
 use Rattle.mesa_history_spec.specs.Claims.{HasClaimAt, HasErrand, HasRecastClaim}
 use Rattle.mesa_history_spec.specs.Machine.{Claim, Recasts}
 use Rattle.mesa_history_spec.specs.Run.{Stage, State, begins}

@@ -1,9 +1,9 @@
 -- There are as many versions more as batches were accepted.
 use Rattle.std.proofs.Common.{◌≡◌, ℕ, ◌+◌, List, [], ◌∷◌, Bool, true, false, cond, length, map, refl, arith, ◌==◌}
 use Rattle.std.proofs.lemmas.List.{length-append, length-map}
-use Rattle.mesa_model.specs.declared.commands.Script.{Script}
-use Rattle.mesa_model.specs.declared.entries.Entry.{Entry}
-use Rattle.mesa_model.specs.Warehouse.{Store, Warehouse, table_at}
+use Rattle.mesa_history_spec.specs.mesa_model.declared.commands.Script.{Script}
+use Rattle.mesa_history_spec.specs.mesa_model.declared.entries.Entry.{Entry}
+use Rattle.mesa_history_spec.specs.mesa_model.Warehouse.{Store, Warehouse, table_at}
 use Rattle.mesa_history_spec.specs.Law.{Accepts, Leaves, Regroups, Writing, batch_written, writing_by, written_in, written_through}
 use Rattle.mesa_history_spec.specs.Run.{Run}
 use Rattle.mesa_history_spec.specs.Replay.{go, runs}

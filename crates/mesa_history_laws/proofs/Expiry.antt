@@ -3,20 +3,20 @@ use Rattle.std.proofs.Common.{◌≡◌, ℕ, ◌+◌, ◌-◌, ◌<◌, ◌≤�
 use Rattle.std.specs.Prelude.{max}
 use Rattle.std.proofs.lemmas.Bool.{cases_lt, eq-eqb, le-ltb, leb-true}
 use Rattle.std.proofs.lemmas.List.{get_or-drop}
-use Rattle.mesa_list.specs.Checks.{◌>>=◌, ◌>>◌, refuse_if}
-use Rattle.mesa_filter.specs.declared.words.QueryWords.{QueryWords}
-use Rattle.mesa_filter.specs.declared.words.VersionWord.{VersionWord}
-use Rattle.mesa_filter.specs.declared.words.VersionWord.TheVariants as asks
-use Rattle.mesa_model.specs.declared.commands.Command.TheVariants as command
-use Rattle.mesa_model.specs.declared.replies.Refusal.{Refusal}
-use Rattle.mesa_model.specs.declared.replies.Refusal.TheVariants as no
-use Rattle.mesa_model.specs.declared.replies.Reply.{Reply}
-use Rattle.mesa_model.specs.Warehouse.{Store, Table, Warehouse, content_at, newest_of, table_at}
-use Rattle.mesa_model.specs.Relations.{Relation, relation_of, table_number}
-use Rattle.mesa_model.specs.Refusals.{refuse_closed}
-use Rattle.mesa_model.specs.Step.{done_or_refused, step}
-use Rattle.mesa_model.specs.Versions.{expire_to, store_from, table_from, version_asked, version_checked}
-use Rattle.mesa_model.specs.Query.{query_answer}
+use Rattle.mesa_history_spec.specs.mesa_list.Checks.{◌>>=◌, ◌>>◌, refuse_if}
+use Rattle.mesa_history_spec.specs.mesa_filter.declared.words.QueryWords.{QueryWords}
+use Rattle.mesa_history_spec.specs.mesa_filter.declared.words.VersionWord.{VersionWord}
+use Rattle.mesa_history_spec.specs.mesa_filter.declared.words.VersionWord.TheVariants as asks
+use Rattle.mesa_history_spec.specs.mesa_model.declared.commands.Command.TheVariants as command
+use Rattle.mesa_history_spec.specs.mesa_model.declared.replies.Refusal.{Refusal}
+use Rattle.mesa_history_spec.specs.mesa_model.declared.replies.Refusal.TheVariants as no
+use Rattle.mesa_history_spec.specs.mesa_model.declared.replies.Reply.{Reply}
+use Rattle.mesa_history_spec.specs.mesa_model.Warehouse.{Store, Table, Warehouse, content_at, newest_of, table_at}
+use Rattle.mesa_history_spec.specs.mesa_model.Relations.{Relation, relation_of, table_number}
+use Rattle.mesa_history_spec.specs.mesa_model.Refusals.{refuse_closed}
+use Rattle.mesa_history_spec.specs.mesa_model.Step.{done_or_refused, step}
+use Rattle.mesa_history_spec.specs.mesa_model.Versions.{expire_to, store_from, table_from, version_asked, version_checked}
+use Rattle.mesa_history_spec.specs.mesa_model.Query.{query_answer}
 use Rattle.mesa_history_laws.specs.Versions.{differ, is_of_another, outlives}
 use Rattle.mesa_history_laws.proofs.AnswersOver.{AreLike, SeesSame, answer_at, answer_in, answers_same, like_mapped, like_set, present_version}
 use Rattle.mesa_history_laws.proofs.Checks.{after_check, after_some, passed}

@@ -2,15 +2,15 @@
 use Rattle.std.proofs.Common.{◌≡◌, ℕ, ◌-◌, ◌==◌, List, [], ◌∷◌, map, cond, Bool, true, false, refl, sym, ◌∙◌, ap, subst, arith, slice_get, Option, Some, None}
 use Rattle.std.proofs.lemmas.List.{get_or_past}
 use Rattle.std.proofs.lemmas.Option.{slice_get_past}
-use Rattle.mesa_schema.specs.Changes.{Lineage, columns_of, epoch_of, rule_checked}
-use Rattle.mesa_schema.specs.Recasts.{Recast}
-use Rattle.mesa_schema.specs.Rows.{AreRowsOf}
-use Rattle.mesa_schema.proofs.Passing.{passed_first}
-use Rattle.mesa_model.specs.declared.commands.Script.{Script}
-use Rattle.mesa_model.specs.declared.entries.Entry.{Entry}
-use Rattle.mesa_model.specs.Warehouse.{Store, Table, Warehouse, content_at, table_at}
-use Rattle.mesa_model.specs.Tables.{columns_asked}
-use Rattle.mesa_model.specs.WellFormed.{IsContent, IsTable, IsWellFormed}
+use Rattle.mesa_history_spec.specs.mesa_schema.Changes.{Lineage, columns_of, epoch_of, rule_checked}
+use Rattle.mesa_history_spec.specs.mesa_schema.Recasts.{Recast}
+use Rattle.mesa_history_spec.specs.mesa_schema.Rows.{AreRowsOf}
+use Rattle.mesa_history_spec.proofs.mesa_schema.Passing.{passed_first}
+use Rattle.mesa_history_spec.specs.mesa_model.declared.commands.Script.{Script}
+use Rattle.mesa_history_spec.specs.mesa_model.declared.entries.Entry.{Entry}
+use Rattle.mesa_history_spec.specs.mesa_model.Warehouse.{Store, Table, Warehouse, content_at, table_at}
+use Rattle.mesa_history_spec.specs.mesa_model.Tables.{columns_asked}
+use Rattle.mesa_history_spec.specs.mesa_model.WellFormed.{IsContent, IsTable, IsWellFormed}
 use Rattle.mesa_history_spec.specs.Law.{Accepts, FoldLaw, Leaves, Regroups, Writing, carried_content, carried_in, carried_through, source_then, start_source, writing_by, written_in, written_through}
 use Rattle.mesa_history_spec.specs.Run.{Run, begins}
 use Rattle.mesa_history_spec.specs.Replay.{go, runs}
@@ -20,7 +20,7 @@ use Rattle.mesa_history_laws.proofs.LawLoads.{law_loads}
 use Rattle.mesa_history_laws.proofs.LawTables.{law_alters, law_expires, law_expires_one, law_makes, law_recasts, law_views}
 use Rattle.mesa_history_laws.proofs.Lifting.{present_now}
 use Rattle.mesa_history_laws.proofs.Lineages.{change_default}
-use Rattle.mesa_schema.proofs.Lists.{all_at, all_got}
+use Rattle.mesa_history_spec.proofs.mesa_schema.Lists.{all_at, all_got}
 use Rattle.mesa_history_laws.proofs.Moves.{Moves}
 use Rattle.mesa_history_laws.proofs.Recasts.{recast_rules, recast_there}
 use Rattle.mesa_history_laws.proofs.Turns.{go_moves}

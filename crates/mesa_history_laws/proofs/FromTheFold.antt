@@ -1,25 +1,25 @@
 -- Answers are pages of what the fold law gives.
 use Rattle.std.proofs.Common.{◌≡◌, ℕ, ◌-◌, ◌==◌, ◌⊎◌, inl, inr, ◌<◌, ◌≤◌, List, refl, sym, ◌∙◌, ap, subst, arith, Option, Some, None, Result, Ok}
 use Rattle.std.proofs.lemmas.Bool.{eq-eqb}
-use Rattle.mesa_list.specs.Checks.{◌>>=◌, refuse_if, refused_as}
-use Rattle.mesa_schema.specs.declared.rows.Row.{Row}
-use Rattle.mesa_schema.specs.Changes.{columns_of, epoch_of}
-use Rattle.mesa_filter.specs.declared.words.QueryWords.{QueryWords}
-use Rattle.mesa_filter.specs.declared.words.VersionWord.{VersionWord}
-use Rattle.mesa_filter.specs.declared.words.VersionWord.TheVariants as asks
-use Rattle.mesa_filter.specs.Asked.{Asked, asked_of}
-use Rattle.mesa_filter.specs.Resume.{resume_of}
-use Rattle.mesa_model.specs.declared.commands.Script.{Script}
-use Rattle.mesa_model.specs.declared.entries.Entry.{Entry}
-use Rattle.mesa_model.specs.declared.replies.Refusal.{Refusal}
-use Rattle.mesa_model.specs.declared.replies.Refusal.TheVariants as no
-use Rattle.mesa_model.specs.Warehouse.{Store, Table, Warehouse, content_at}
-use Rattle.mesa_model.specs.WellFormed.{IsWellFormed}
-use Rattle.mesa_model.specs.Page.{page_of}
-use Rattle.mesa_model.specs.Relations.{Relation, relation_columns, relation_of}
-use Rattle.mesa_model.specs.Refusals.{no_such_table, query_refusal}
-use Rattle.mesa_model.specs.Versions.{version_asked, version_checked}
-use Rattle.mesa_model.specs.Query.{Answer, answer_over, answer_rows}
+use Rattle.mesa_history_spec.specs.mesa_list.Checks.{◌>>=◌, refuse_if, refused_as}
+use Rattle.mesa_history_spec.specs.mesa_schema.declared.rows.Row.{Row}
+use Rattle.mesa_history_spec.specs.mesa_schema.Changes.{columns_of, epoch_of}
+use Rattle.mesa_history_spec.specs.mesa_filter.declared.words.QueryWords.{QueryWords}
+use Rattle.mesa_history_spec.specs.mesa_filter.declared.words.VersionWord.{VersionWord}
+use Rattle.mesa_history_spec.specs.mesa_filter.declared.words.VersionWord.TheVariants as asks
+use Rattle.mesa_history_spec.specs.mesa_filter.Asked.{Asked, asked_of}
+use Rattle.mesa_history_spec.specs.mesa_filter.Resume.{resume_of}
+use Rattle.mesa_history_spec.specs.mesa_model.declared.commands.Script.{Script}
+use Rattle.mesa_history_spec.specs.mesa_model.declared.entries.Entry.{Entry}
+use Rattle.mesa_history_spec.specs.mesa_model.declared.replies.Refusal.{Refusal}
+use Rattle.mesa_history_spec.specs.mesa_model.declared.replies.Refusal.TheVariants as no
+use Rattle.mesa_history_spec.specs.mesa_model.Warehouse.{Store, Table, Warehouse, content_at}
+use Rattle.mesa_history_spec.specs.mesa_model.WellFormed.{IsWellFormed}
+use Rattle.mesa_history_spec.specs.mesa_model.Page.{page_of}
+use Rattle.mesa_history_spec.specs.mesa_model.Relations.{Relation, relation_columns, relation_of}
+use Rattle.mesa_history_spec.specs.mesa_model.Refusals.{no_such_table, query_refusal}
+use Rattle.mesa_history_spec.specs.mesa_model.Versions.{version_asked, version_checked}
+use Rattle.mesa_history_spec.specs.mesa_model.Query.{Answer, answer_over, answer_rows}
 use Rattle.mesa_history_spec.specs.Law.{HoldsIn, law_content}
 use Rattle.mesa_history_spec.specs.Run.{State, begins}
 use Rattle.mesa_history_laws.specs.Answers.{IsByLaw, IsFromThePresent}

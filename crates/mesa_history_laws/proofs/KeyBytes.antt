@@ -5,14 +5,14 @@ use Rattle.std.specs.Int.{byte_at, bytes_high_first}
 use Rattle.std.proofs.lemmas.Bool.{and_parts, cases_lt, le-ltb, lt-ltb, le-leb, lt-leb}
 use Rattle.std.proofs.lemmas.Str.{IsUtf8-from_is_utf8}
 use lib.Utf8.{encode, encodes, next, scalar, scalars, scalar_cases}
-use Rattle.mesa_key.specs.declared.KeyType.{KeyType}
-use Rattle.mesa_key.specs.declared.KeyType.TheVariants as kind
-use Rattle.mesa_key.specs.declared.KeyValue.{KeyValue}
-use Rattle.mesa_key.specs.declared.KeyValue.TheVariants as value
-use Rattle.mesa_key.specs.Text.{is_key_text}
-use Rattle.mesa_key.specs.Spelling.{IsKey, IsValue, key_spelling, value_spelling}
-use Rattle.mesa_filter.specs.Hex.{bytes_of_hex, hex_digit, hex_of, hex_value, with_byte}
-use Rattle.mesa_schema.proofs.Lists.{all_append}
+use Rattle.mesa_history_spec.specs.mesa_key.declared.KeyType.{KeyType}
+use Rattle.mesa_history_spec.specs.mesa_key.declared.KeyType.TheVariants as kind
+use Rattle.mesa_history_spec.specs.mesa_key.declared.KeyValue.{KeyValue}
+use Rattle.mesa_history_spec.specs.mesa_key.declared.KeyValue.TheVariants as value
+use Rattle.mesa_history_spec.specs.mesa_key.Text.{is_key_text}
+use Rattle.mesa_history_spec.specs.mesa_key.Spelling.{IsKey, IsValue, key_spelling, value_spelling}
+use Rattle.mesa_history_spec.specs.mesa_filter.Hex.{bytes_of_hex, hex_digit, hex_of, hex_value, with_byte}
+use Rattle.mesa_history_spec.proofs.mesa_schema.Lists.{all_append}
 
 -- all are bytes
 abbrev pub Bytes : List ℕ → Type 0

@@ -1,17 +1,17 @@
 -- Pages of a version that are asked for at any moments, by any sessions.
 use Rattle.std.proofs.Common.{◌≡◌, ℕ, ◌<◌, List, length, sym, subst, Ok}
 use Rattle.std.specs.List.{AllByRecursion}
-use Rattle.mesa_filter.specs.declared.words.QueryWords.{QueryWords}
-use Rattle.mesa_filter.specs.declared.words.VersionWord.{VersionWord}
-use Rattle.mesa_filter.specs.declared.words.VersionWord.TheVariants as asks
-use Rattle.mesa_model.specs.declared.commands.Script.{Script}
-use Rattle.mesa_model.specs.Warehouse.{Store, Warehouse}
-use Rattle.mesa_model.specs.WellFormed.{IsWellFormed}
-use Rattle.mesa_model.specs.Query.{Answer, query_answer, store_asked}
+use Rattle.mesa_history_spec.specs.mesa_filter.declared.words.QueryWords.{QueryWords}
+use Rattle.mesa_history_spec.specs.mesa_filter.declared.words.VersionWord.{VersionWord}
+use Rattle.mesa_history_spec.specs.mesa_filter.declared.words.VersionWord.TheVariants as asks
+use Rattle.mesa_history_spec.specs.mesa_model.declared.commands.Script.{Script}
+use Rattle.mesa_history_spec.specs.mesa_model.Warehouse.{Store, Warehouse}
+use Rattle.mesa_history_spec.specs.mesa_model.WellFormed.{IsWellFormed}
+use Rattle.mesa_history_spec.specs.mesa_model.Query.{Answer, query_answer, store_asked}
 use Rattle.mesa_history_spec.specs.Run.{Run}
 use Rattle.mesa_history_laws.specs.Later.{IsLaterPlace, IsStillThere}
 use Rattle.mesa_history_laws.specs.Pages.{ArePagesOf, Asking, IsWholeAnswer, from_first, pages_asked_at}
-use Rattle.mesa_schema.proofs.Lists.{all_so}
+use Rattle.mesa_history_spec.proofs.mesa_schema.Lists.{all_so}
 use Rattle.mesa_history_laws.proofs.QueryPages.{AsksAlike, pages_of_whole}
 use Rattle.mesa_history_laws.proofs.StayingAnswers.{answers_stay}
 use Rattle.mesa_history_laws.proofs.StoredRows.{IsStored, well_stored}

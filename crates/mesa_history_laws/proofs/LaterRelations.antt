@@ -3,13 +3,13 @@ use Rattle.std.proofs.Common.{◌≡◌, ℕ, zero, suc, ◌+◌, List, [], ◌�
 use Rattle.std.proofs.lemmas.Bool.{or_cases, or_left, or_right}
 use Rattle.std.proofs.lemmas.Cmp.{nat_list_eq_equiv}
 use Rattle.std.proofs.lemmas.List.Folds.{list_any-append}
-use Rattle.mesa_list.specs.Bytes.{same_bytes}
-use Rattle.mesa_schema.specs.declared.views.View.{View}
-use Rattle.mesa_schema.specs.Names.{has_name, repeated}
-use Rattle.mesa_model.specs.Warehouse.{Store, Table}
-use Rattle.mesa_model.specs.WellFormed.{relation_names}
-use Rattle.mesa_model.specs.Relations.{Relation, relation_from, relation_of}
-use Rattle.mesa_schema.proofs.Apart.{Apart, apart, is_nothing, not_some}
+use Rattle.mesa_history_spec.specs.mesa_list.Bytes.{same_bytes}
+use Rattle.mesa_history_spec.specs.mesa_schema.declared.views.View.{View}
+use Rattle.mesa_history_spec.specs.mesa_schema.Names.{has_name, repeated}
+use Rattle.mesa_history_spec.specs.mesa_model.Warehouse.{Store, Table}
+use Rattle.mesa_history_spec.specs.mesa_model.WellFormed.{relation_names}
+use Rattle.mesa_history_spec.specs.mesa_model.Relations.{Relation, relation_from, relation_of}
+use Rattle.mesa_history_spec.proofs.mesa_schema.Apart.{Apart, apart, is_nothing, not_some}
 use Rattle.mesa_history_laws.proofs.RelationNames.{first_of_both, in_table, names_in, names_of, relation_in, view_named}
 
 -- ---- names that stand apart

@@ -4,20 +4,20 @@ use Rattle.std.specs.List.{AllByRecursion}
 use Rattle.std.proofs.lemmas.Bool.{cases_lt}
 use Rattle.std.proofs.lemmas.List.{length-map}
 use Rattle.std.proofs.lemmas.Simd.{map-map}
-use Rattle.mesa_schema.specs.declared.rows.Row.{Row}
-use Rattle.mesa_schema.specs.declared.changes.Change.{Change}
-use Rattle.mesa_schema.specs.Columns.{Columns, aggs_of}
-use Rattle.mesa_schema.specs.Changes.{Lineage, changed, columns_of, epoch_of, lifted_once, with_change}
-use Rattle.mesa_schema.specs.Folded.{folded, rows_of}
-use Rattle.mesa_schema.specs.Lineages.{HasDefault}
-use Rattle.mesa_schema.specs.Recasts.{IsRecastOf, Recast, recast_columns, recast_lineage, recast_rows}
-use Rattle.mesa_schema.specs.Rows.{AreRowsOf, IsRowOf}
-use Rattle.mesa_schema.proofs.Forms.{lifts_folded}
-use Rattle.mesa_schema.proofs.Lists.{all_append, all_filter, all_map, all_so, map_at, same_maps}
-use Rattle.mesa_schema.proofs.PresentRows.{columns_more, epoch_more, forms_more}
-use Rattle.mesa_schema.proofs.Recasting.{recast_folds, recast_form}
-use Rattle.mesa_model.specs.Warehouse.{Table, Warehouse}
-use Rattle.mesa_model.specs.Tables.{table_changed, table_recast}
+use Rattle.mesa_history_spec.specs.mesa_schema.declared.rows.Row.{Row}
+use Rattle.mesa_history_spec.specs.mesa_schema.declared.changes.Change.{Change}
+use Rattle.mesa_history_spec.specs.mesa_schema.Columns.{Columns, aggs_of}
+use Rattle.mesa_history_spec.specs.mesa_schema.Changes.{Lineage, changed, columns_of, epoch_of, lifted_once, with_change}
+use Rattle.mesa_history_spec.specs.mesa_schema.Folded.{folded, rows_of}
+use Rattle.mesa_history_spec.specs.mesa_schema.Lineages.{HasDefault}
+use Rattle.mesa_history_spec.specs.mesa_schema.Recasts.{IsRecastOf, Recast, recast_columns, recast_lineage, recast_rows}
+use Rattle.mesa_history_spec.specs.mesa_schema.Rows.{AreRowsOf, IsRowOf}
+use Rattle.mesa_history_spec.proofs.mesa_schema.Forms.{lifts_folded}
+use Rattle.mesa_history_spec.proofs.mesa_schema.Lists.{all_append, all_filter, all_map, all_so, map_at, same_maps}
+use Rattle.mesa_history_spec.proofs.mesa_schema.PresentRows.{columns_more, epoch_more, forms_more}
+use Rattle.mesa_history_spec.proofs.mesa_schema.Recasting.{recast_folds, recast_form}
+use Rattle.mesa_history_spec.specs.mesa_model.Warehouse.{Table, Warehouse}
+use Rattle.mesa_history_spec.specs.mesa_model.Tables.{table_changed, table_recast}
 use Rattle.mesa_history_spec.specs.Law.{carried_content}
 use Rattle.mesa_history_spec.specs.Sources.{Source, Written, rows_now, source_recast, source_written, sources_to, written_recast}
 use Rattle.mesa_history_laws.proofs.Kept.{IsAt, LawAt, all_written, law_early, law_late}

@@ -5,23 +5,23 @@ use Rattle.std.proofs.lemmas.Bool.{cases_lt, le-leb, lt-leb}
 use Rattle.std.proofs.lemmas.List.{append-nil, get_or_append_left, get_or_past, get_or_push, length-append, map-append, nil_from_length}
 use Rattle.std.proofs.lemmas.List.Elements.{filter-append}
 use Rattle.std.proofs.lemmas.Option.{get_or_from_slice_get}
-use Rattle.mesa_value.specs.declared.Agg.{Agg}
-use Rattle.mesa_schema.specs.declared.rows.Row.{Row}
-use Rattle.mesa_schema.specs.Columns.{aggs_of}
-use Rattle.mesa_schema.specs.Changes.{columns_of, epoch_of, lifted}
-use Rattle.mesa_schema.specs.Folded.{folded}
-use Rattle.mesa_schema.specs.Rows.{AreRowsOf}
-use Rattle.mesa_schema.proofs.Refolds.{refolded}
-use Rattle.mesa_batch.specs.declared.words.RowWords.{RowWords}
-use Rattle.mesa_batch.specs.Batch.{Placed, batch_of, rows_for}
-use Rattle.mesa_model.specs.Warehouse.{Store, Table, Warehouse, content_at, no_table, table_at}
-use Rattle.mesa_model.specs.Load.{newest_content, table_loaded, tables_loaded, tables_named, with_batch}
+use Rattle.mesa_history_spec.specs.mesa_value.declared.Agg.{Agg}
+use Rattle.mesa_history_spec.specs.mesa_schema.declared.rows.Row.{Row}
+use Rattle.mesa_history_spec.specs.mesa_schema.Columns.{aggs_of}
+use Rattle.mesa_history_spec.specs.mesa_schema.Changes.{columns_of, epoch_of, lifted}
+use Rattle.mesa_history_spec.specs.mesa_schema.Folded.{folded}
+use Rattle.mesa_history_spec.specs.mesa_schema.Rows.{AreRowsOf}
+use Rattle.mesa_history_spec.proofs.mesa_schema.Refolds.{refolded}
+use Rattle.mesa_history_spec.specs.mesa_batch.declared.words.RowWords.{RowWords}
+use Rattle.mesa_history_spec.specs.mesa_batch.Batch.{Placed, batch_of, rows_for}
+use Rattle.mesa_history_spec.specs.mesa_model.Warehouse.{Store, Table, Warehouse, content_at, no_table, table_at}
+use Rattle.mesa_history_spec.specs.mesa_model.Load.{newest_content, table_loaded, tables_loaded, tables_named, with_batch}
 use Rattle.mesa_history_spec.specs.Law.{batch_written, carried_content}
 use Rattle.mesa_history_spec.specs.Sources.{Source, Written, rows_now, source_written, sources_to}
 use Rattle.mesa_history_laws.proofs.Batches.{batch_forms, no_rows_for}
 use Rattle.mesa_history_laws.proofs.Kept.{IsAt, IsSince, Law, LawAt, all_written, first_written, law_early, law_late, no_source}
 use Rattle.mesa_history_laws.proofs.Lifting.{present_now}
-use Rattle.mesa_schema.proofs.Lists.{all_append, all_pass, all_so}
+use Rattle.mesa_history_spec.proofs.mesa_schema.Lists.{all_append, all_pass, all_so}
 
 -- ---- loaded tables
 

@@ -5,23 +5,23 @@ use Rattle.std.specs.Prelude.{max}
 use Rattle.std.proofs.lemmas.Bool.{cases_lt, eqb-false, eqb-true}
 use Rattle.std.proofs.lemmas.List.{get_or-drop, get_or-replicate, length-append, length-drop, length-map, length-replicate, length-set}
 use Rattle.std.proofs.lemmas.Option.{slice_get_within}
-use Rattle.mesa_value.specs.declared.Agg.{Agg}
-use Rattle.mesa_schema.specs.declared.rows.Row.{Row}
-use Rattle.mesa_schema.specs.declared.changes.Change.{Change}
-use Rattle.mesa_schema.specs.Columns.{Columns, aggs_of}
-use Rattle.mesa_schema.specs.Changes.{Lineage, columns_of}
-use Rattle.mesa_schema.specs.Folded.{folded, folded_at, keys_of, rows_of}
-use Rattle.mesa_schema.specs.Lineages.{HasDefault}
-use Rattle.mesa_schema.specs.Recasts.{IsRecastOf, Recast, recast_rows}
-use Rattle.mesa_model.specs.declared.commands.ViewWords.{ViewWords}
-use Rattle.mesa_model.specs.Warehouse.{Store, Table, Warehouse, table_at, with_table}
-use Rattle.mesa_model.specs.Tables.{new_table, table_changed, table_recast, with_recast}
-use Rattle.mesa_model.specs.Versions.{store_from, table_from}
+use Rattle.mesa_history_spec.specs.mesa_value.declared.Agg.{Agg}
+use Rattle.mesa_history_spec.specs.mesa_schema.declared.rows.Row.{Row}
+use Rattle.mesa_history_spec.specs.mesa_schema.declared.changes.Change.{Change}
+use Rattle.mesa_history_spec.specs.mesa_schema.Columns.{Columns, aggs_of}
+use Rattle.mesa_history_spec.specs.mesa_schema.Changes.{Lineage, columns_of}
+use Rattle.mesa_history_spec.specs.mesa_schema.Folded.{folded, folded_at, keys_of, rows_of}
+use Rattle.mesa_history_spec.specs.mesa_schema.Lineages.{HasDefault}
+use Rattle.mesa_history_spec.specs.mesa_schema.Recasts.{IsRecastOf, Recast, recast_rows}
+use Rattle.mesa_history_spec.specs.mesa_model.declared.commands.ViewWords.{ViewWords}
+use Rattle.mesa_history_spec.specs.mesa_model.Warehouse.{Store, Table, Warehouse, table_at, with_table}
+use Rattle.mesa_history_spec.specs.mesa_model.Tables.{new_table, table_changed, table_recast, with_recast}
+use Rattle.mesa_history_spec.specs.mesa_model.Versions.{store_from, table_from}
 use Rattle.mesa_history_spec.specs.Law.{Regroups, carried_content, carried_through, written_through}
 use Rattle.mesa_history_spec.specs.Sources.{Source, Written, rows_now, source_recast, source_written, sources_to, written_recast}
 use Rattle.mesa_history_laws.proofs.Kept.{IsAt, IsSince, Law, LawAt, all_written, law_early, law_late, no_source}
 use Rattle.mesa_history_laws.proofs.LawAlters.{changed_law, recast_law}
-use Rattle.mesa_schema.proofs.Lists.{all_filter, all_map, all_so, got_map, got_push, got_set}
+use Rattle.mesa_history_spec.proofs.mesa_schema.Lists.{all_filter, all_map, all_so, got_map, got_push, got_set}
 use Rattle.mesa_history_laws.proofs.Moves.{viewed}
 
 -- ---- a table more

@@ -1,30 +1,30 @@
 -- What commands make of a table's columns keeps the rules.
 use Rattle.std.proofs.Common.{◌≡◌, ◌<◌, length, Bool, true, false, refl, Result, Ok, Err, is_ok, nat_le, subst}
 use Rattle.std.proofs.lemmas.Bool.{leb-false}
-use Rattle.mesa_list.specs.Checks.{◌>>◌, refuse_unless, refused_as}
-use Rattle.mesa_schema.specs.declared.columns.KeyColumn.{KeyColumn}
-use Rattle.mesa_schema.specs.declared.views.View.{View}
-use Rattle.mesa_schema.specs.declared.views.ViewError.{ViewError}
-use Rattle.mesa_schema.specs.declared.changes.Change.{Change}
-use Rattle.mesa_schema.specs.declared.changes.Change.TheVariants.{AddKey, AddValue, DropValue}
-use Rattle.mesa_schema.specs.declared.changes.ChangeError.TheVariants.{BadDefault}
-use Rattle.mesa_value.specs.Agg.{IsNarrow}
-use Rattle.mesa_schema.specs.Numbers.{any_signed, key_value_of, signed_of}
-use Rattle.mesa_schema.specs.Columns.{key_names, value_names}
-use Rattle.mesa_schema.specs.Changes.{Lineage, columns_of, is_default, new_name_checked, rule_checked}
-use Rattle.mesa_schema.specs.Views.{max_views, view_checked}
-use Rattle.mesa_schema.specs.Lineages.{HasDefault, IsLineage}
-use Rattle.mesa_schema.proofs.LineageChanges.{default_fits, lineage_viewed as lineage_with_view}
-use Rattle.mesa_schema.proofs.Passing.{passed_first, passed_last}
-use Rattle.mesa_model.specs.declared.commands.ChangeWords.{ChangeWords}
-use Rattle.mesa_model.specs.declared.commands.ChangeWords.TheVariants as words
-use Rattle.mesa_model.specs.declared.commands.ViewWords.{ViewWords}
-use Rattle.mesa_model.specs.declared.replies.Refusal.{Refusal}
-use Rattle.mesa_model.specs.declared.replies.Refusal.TheVariants as no
-use Rattle.mesa_model.specs.Warehouse.{Table}
-use Rattle.mesa_model.specs.Refusals.{view_refusal}
-use Rattle.mesa_model.specs.Tables.{change_asked, new_column_checked, view_of_table_checked}
-use Rattle.mesa_batch.proofs.RowForms.{then_fits}
+use Rattle.mesa_history_spec.specs.mesa_list.Checks.{◌>>◌, refuse_unless, refused_as}
+use Rattle.mesa_history_spec.specs.mesa_schema.declared.columns.KeyColumn.{KeyColumn}
+use Rattle.mesa_history_spec.specs.mesa_schema.declared.views.View.{View}
+use Rattle.mesa_history_spec.specs.mesa_schema.declared.views.ViewError.{ViewError}
+use Rattle.mesa_history_spec.specs.mesa_schema.declared.changes.Change.{Change}
+use Rattle.mesa_history_spec.specs.mesa_schema.declared.changes.Change.TheVariants.{AddKey, AddValue, DropValue}
+use Rattle.mesa_history_spec.specs.mesa_schema.declared.changes.ChangeError.TheVariants.{BadDefault}
+use Rattle.mesa_history_spec.specs.mesa_value.Agg.{IsNarrow}
+use Rattle.mesa_history_spec.specs.mesa_schema.Numbers.{any_signed, key_value_of, signed_of}
+use Rattle.mesa_history_spec.specs.mesa_schema.Columns.{key_names, value_names}
+use Rattle.mesa_history_spec.specs.mesa_schema.Changes.{Lineage, columns_of, is_default, new_name_checked, rule_checked}
+use Rattle.mesa_history_spec.specs.mesa_schema.Views.{max_views, view_checked}
+use Rattle.mesa_history_spec.specs.mesa_schema.Lineages.{HasDefault, IsLineage}
+use Rattle.mesa_history_spec.proofs.mesa_schema.LineageChanges.{default_fits, lineage_viewed as lineage_with_view}
+use Rattle.mesa_history_spec.proofs.mesa_schema.Passing.{passed_first, passed_last}
+use Rattle.mesa_history_spec.specs.mesa_model.declared.commands.ChangeWords.{ChangeWords}
+use Rattle.mesa_history_spec.specs.mesa_model.declared.commands.ChangeWords.TheVariants as words
+use Rattle.mesa_history_spec.specs.mesa_model.declared.commands.ViewWords.{ViewWords}
+use Rattle.mesa_history_spec.specs.mesa_model.declared.replies.Refusal.{Refusal}
+use Rattle.mesa_history_spec.specs.mesa_model.declared.replies.Refusal.TheVariants as no
+use Rattle.mesa_history_spec.specs.mesa_model.Warehouse.{Table}
+use Rattle.mesa_history_spec.specs.mesa_model.Refusals.{view_refusal}
+use Rattle.mesa_history_spec.specs.mesa_model.Tables.{change_asked, new_column_checked, view_of_table_checked}
+use Rattle.mesa_history_spec.proofs.mesa_batch.RowForms.{then_fits}
 use Rattle.mesa_history_laws.proofs.Batches.{read_value}
 use Rattle.mesa_history_laws.proofs.Checks.{bound_some, passed}
 use Rattle.mesa_history_laws.proofs.Moves.{viewed}

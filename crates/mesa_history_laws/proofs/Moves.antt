@@ -1,32 +1,32 @@
 -- What a turn makes of the tables and the number of versions, and what it does to the rows that are written: nothing, or what one of seven commands makes of them.
 use Rattle.std.proofs.Common.{◌≡◌, ℕ, ◌+◌, List, [], ◌∷◌, ◌++◌, length, true, false, subst, sym, Option, Some, None, Result, Ok, Err, is_none, is_ok, nat_le}
-use Rattle.mesa_schema.specs.declared.changes.Change.{Change}
-use Rattle.mesa_schema.specs.Changes.{change_checked, columns_of}
-use Rattle.mesa_schema.specs.Names.{is_name}
-use Rattle.mesa_schema.specs.Recasts.{Recast, recast_checked}
-use Rattle.mesa_schema.specs.Schema.{schema_checked}
-use Rattle.mesa_batch.specs.declared.words.RowWords.{RowWords}
-use Rattle.mesa_batch.specs.declared.words.BatchError.{BatchError}
-use Rattle.mesa_batch.specs.Batch.{Placed, batch_of}
-use Rattle.mesa_filter.specs.declared.words.VersionWord.{VersionWord}
-use Rattle.mesa_list.specs.Checks.{◌>>◌}
-use Rattle.mesa_model.specs.declared.commands.AlterWords.{AlterWords}
-use Rattle.mesa_model.specs.declared.commands.Command.{Command}
-use Rattle.mesa_model.specs.declared.commands.Command.TheVariants as command
-use Rattle.mesa_model.specs.declared.commands.RecastWords.{RecastWords}
-use Rattle.mesa_model.specs.declared.commands.TableWords.{TableWords}
-use Rattle.mesa_model.specs.declared.commands.ViewWords.{ViewWords}
-use Rattle.mesa_model.specs.declared.replies.Refusal.{Refusal}
-use Rattle.mesa_model.specs.declared.replies.Reply.{Reply}
-use Rattle.mesa_model.specs.declared.replies.Reply.TheVariants as reply
-use Rattle.mesa_model.specs.Warehouse.{Store, Table, Warehouse, max_pins, max_tables, max_versions, table_at, with_table, with_tables}
-use Rattle.mesa_model.specs.Load.{bounds_checked, load_batch, tables_named, with_batch}
-use Rattle.mesa_model.specs.Relations.{is_taken, table_number}
-use Rattle.mesa_model.specs.Step.{done_or_refused, step}
-use Rattle.mesa_model.specs.Tables.{alter_table, change_asked, columns_asked, make_table, make_view, names_are_good, new_table, recast_asked, recast_table, table_changed, view_of_table_checked, with_recast}
-use Rattle.mesa_model.specs.Versions.{common_oldest, expire_to, store_from, table_from, version_asked, version_checked}
-use Rattle.mesa_model.specs.Pins.{make_pin, pin_of, release_pin}
-use Rattle.mesa_model.specs.Refusals.{refuse_closed}
+use Rattle.mesa_history_spec.specs.mesa_schema.declared.changes.Change.{Change}
+use Rattle.mesa_history_spec.specs.mesa_schema.Changes.{change_checked, columns_of}
+use Rattle.mesa_history_spec.specs.mesa_schema.Names.{is_name}
+use Rattle.mesa_history_spec.specs.mesa_schema.Recasts.{Recast, recast_checked}
+use Rattle.mesa_history_spec.specs.mesa_schema.Schema.{schema_checked}
+use Rattle.mesa_history_spec.specs.mesa_batch.declared.words.RowWords.{RowWords}
+use Rattle.mesa_history_spec.specs.mesa_batch.declared.words.BatchError.{BatchError}
+use Rattle.mesa_history_spec.specs.mesa_batch.Batch.{Placed, batch_of}
+use Rattle.mesa_history_spec.specs.mesa_filter.declared.words.VersionWord.{VersionWord}
+use Rattle.mesa_history_spec.specs.mesa_list.Checks.{◌>>◌}
+use Rattle.mesa_history_spec.specs.mesa_model.declared.commands.AlterWords.{AlterWords}
+use Rattle.mesa_history_spec.specs.mesa_model.declared.commands.Command.{Command}
+use Rattle.mesa_history_spec.specs.mesa_model.declared.commands.Command.TheVariants as command
+use Rattle.mesa_history_spec.specs.mesa_model.declared.commands.RecastWords.{RecastWords}
+use Rattle.mesa_history_spec.specs.mesa_model.declared.commands.TableWords.{TableWords}
+use Rattle.mesa_history_spec.specs.mesa_model.declared.commands.ViewWords.{ViewWords}
+use Rattle.mesa_history_spec.specs.mesa_model.declared.replies.Refusal.{Refusal}
+use Rattle.mesa_history_spec.specs.mesa_model.declared.replies.Reply.{Reply}
+use Rattle.mesa_history_spec.specs.mesa_model.declared.replies.Reply.TheVariants as reply
+use Rattle.mesa_history_spec.specs.mesa_model.Warehouse.{Store, Table, Warehouse, max_pins, max_tables, max_versions, table_at, with_table, with_tables}
+use Rattle.mesa_history_spec.specs.mesa_model.Load.{bounds_checked, load_batch, tables_named, with_batch}
+use Rattle.mesa_history_spec.specs.mesa_model.Relations.{is_taken, table_number}
+use Rattle.mesa_history_spec.specs.mesa_model.Step.{done_or_refused, step}
+use Rattle.mesa_history_spec.specs.mesa_model.Tables.{alter_table, change_asked, columns_asked, make_table, make_view, names_are_good, new_table, recast_asked, recast_table, table_changed, view_of_table_checked, with_recast}
+use Rattle.mesa_history_spec.specs.mesa_model.Versions.{common_oldest, expire_to, store_from, table_from, version_asked, version_checked}
+use Rattle.mesa_history_spec.specs.mesa_model.Pins.{make_pin, pin_of, release_pin}
+use Rattle.mesa_history_spec.specs.mesa_model.Refusals.{refuse_closed}
 use Rattle.mesa_history_spec.specs.Law.{Accepts, Leaves, Regroups, Writing, batch_or_none, writing_as}
 use Rattle.mesa_history_spec.specs.Run.{First, Stage}
 use Rattle.mesa_history_laws.proofs.Checks.{after_value, after_check, after_refuse_if, after_refuse_unless, after_some, after_other, after_other_check}

@@ -1,37 +1,37 @@
 -- No command but a query is answered by a page.
 use Rattle.std.proofs.Common.{◌≡◌, ℕ, List, [], length, ◌∙◌, Bool, true, false, nat_lt, Option, Some, None, Result, Ok, Err, is_none, nat_le, ok_or}
-use Rattle.mesa_list.specs.Checks.{◌>>=◌, ◌>>◌, refuse_if, refused_as}
-use Rattle.mesa_span.specs.Work.{next_work}
-use Rattle.mesa_span.specs.declared.works.Work.{Work}
-use Rattle.mesa_span.specs.declared.works.Work.TheVariants as work
-use Rattle.mesa_lease.specs.Book.{holder}
-use Rattle.mesa_schema.specs.Changes.{change_checked, columns_of}
-use Rattle.mesa_schema.specs.Names.{is_name}
-use Rattle.mesa_schema.specs.Recasts.{recast_checked}
-use Rattle.mesa_schema.specs.Schema.{schema_checked}
-use Rattle.mesa_batch.specs.Batch.{batch_of}
-use Rattle.mesa_batch.specs.declared.words.RowWords.{RowWords}
-use Rattle.mesa_filter.specs.declared.words.VersionWord.{VersionWord}
-use Rattle.mesa_model.specs.declared.commands.AlterWords.{AlterWords}
-use Rattle.mesa_model.specs.declared.commands.Command.{Command}
-use Rattle.mesa_model.specs.declared.commands.Command.TheVariants as command
-use Rattle.mesa_model.specs.declared.commands.ExplainWords.{ExplainWords}
-use Rattle.mesa_model.specs.declared.commands.RecastWords.{RecastWords}
-use Rattle.mesa_model.specs.declared.commands.TableWords.{TableWords}
-use Rattle.mesa_model.specs.declared.commands.ViewWords.{ViewWords}
-use Rattle.mesa_model.specs.declared.replies.Page.{Page}
-use Rattle.mesa_model.specs.declared.replies.Refusal.{Refusal}
-use Rattle.mesa_model.specs.declared.replies.Reply.{Reply}
-use Rattle.mesa_model.specs.declared.replies.Reply.TheVariants as reply
-use Rattle.mesa_model.specs.Warehouse.{Table, Warehouse, max_pins, max_tables, max_versions, newest_of, table_at}
-use Rattle.mesa_model.specs.Load.{bounds_checked, load_batch, tables_named}
-use Rattle.mesa_model.specs.Relations.{is_taken, relation_of, table_number}
-use Rattle.mesa_model.specs.Step.{done_or_refused}
-use Rattle.mesa_model.specs.Tables.{alter_table, change_asked, columns_asked, make_table, make_view, names_are_good, recast_asked, recast_reply, view_of_table_checked}
-use Rattle.mesa_model.specs.Versions.{common_oldest, expire_to, version_asked, version_checked}
-use Rattle.mesa_model.specs.Pins.{make_pin, pin_of, release_pin}
-use Rattle.mesa_model.specs.Orders.{order_asked}
-use Rattle.mesa_model.specs.Refusals.{recast_refusal, refuse_closed}
+use Rattle.mesa_history_spec.specs.mesa_list.Checks.{◌>>=◌, ◌>>◌, refuse_if, refused_as}
+use Rattle.mesa_history_spec.specs.mesa_span.Work.{next_work}
+use Rattle.mesa_history_spec.specs.mesa_span.declared.works.Work.{Work}
+use Rattle.mesa_history_spec.specs.mesa_span.declared.works.Work.TheVariants as work
+use Rattle.mesa_history_spec.specs.mesa_lease.Book.{holder}
+use Rattle.mesa_history_spec.specs.mesa_schema.Changes.{change_checked, columns_of}
+use Rattle.mesa_history_spec.specs.mesa_schema.Names.{is_name}
+use Rattle.mesa_history_spec.specs.mesa_schema.Recasts.{recast_checked}
+use Rattle.mesa_history_spec.specs.mesa_schema.Schema.{schema_checked}
+use Rattle.mesa_history_spec.specs.mesa_batch.Batch.{batch_of}
+use Rattle.mesa_history_spec.specs.mesa_batch.declared.words.RowWords.{RowWords}
+use Rattle.mesa_history_spec.specs.mesa_filter.declared.words.VersionWord.{VersionWord}
+use Rattle.mesa_history_spec.specs.mesa_model.declared.commands.AlterWords.{AlterWords}
+use Rattle.mesa_history_spec.specs.mesa_model.declared.commands.Command.{Command}
+use Rattle.mesa_history_spec.specs.mesa_model.declared.commands.Command.TheVariants as command
+use Rattle.mesa_history_spec.specs.mesa_model.declared.commands.ExplainWords.{ExplainWords}
+use Rattle.mesa_history_spec.specs.mesa_model.declared.commands.RecastWords.{RecastWords}
+use Rattle.mesa_history_spec.specs.mesa_model.declared.commands.TableWords.{TableWords}
+use Rattle.mesa_history_spec.specs.mesa_model.declared.commands.ViewWords.{ViewWords}
+use Rattle.mesa_history_spec.specs.mesa_model.declared.replies.Page.{Page}
+use Rattle.mesa_history_spec.specs.mesa_model.declared.replies.Refusal.{Refusal}
+use Rattle.mesa_history_spec.specs.mesa_model.declared.replies.Reply.{Reply}
+use Rattle.mesa_history_spec.specs.mesa_model.declared.replies.Reply.TheVariants as reply
+use Rattle.mesa_history_spec.specs.mesa_model.Warehouse.{Table, Warehouse, max_pins, max_tables, max_versions, newest_of, table_at}
+use Rattle.mesa_history_spec.specs.mesa_model.Load.{bounds_checked, load_batch, tables_named}
+use Rattle.mesa_history_spec.specs.mesa_model.Relations.{is_taken, relation_of, table_number}
+use Rattle.mesa_history_spec.specs.mesa_model.Step.{done_or_refused}
+use Rattle.mesa_history_spec.specs.mesa_model.Tables.{alter_table, change_asked, columns_asked, make_table, make_view, names_are_good, recast_asked, recast_reply, view_of_table_checked}
+use Rattle.mesa_history_spec.specs.mesa_model.Versions.{common_oldest, expire_to, version_asked, version_checked}
+use Rattle.mesa_history_spec.specs.mesa_model.Pins.{make_pin, pin_of, release_pin}
+use Rattle.mesa_history_spec.specs.mesa_model.Orders.{order_asked}
+use Rattle.mesa_history_spec.specs.mesa_model.Refusals.{recast_refusal, refuse_closed}
 use Rattle.mesa_history_spec.specs.Machine.{Claim, Machine, claim_of, explained, max_deltas, ranges_at, recast_claim_of, refuse_busy, singletons_of, swapped_reply}
 use Rattle.mesa_history_spec.specs.Replay.{claim_asked}
 use Rattle.mesa_history_laws.proofs.Checks.{after_check, after_other, after_other_check, after_refuse_if, after_refuse_unless, after_some, after_value}

@@ -2,36 +2,36 @@
 use Rattle.std.proofs.Common.{◌≡◌, ℕ, ◌<◌, ◌≤◌, List, [], ◌∷◌, ◌++◌, length, refl, sym, ◌∙◌, ap, subst, append_assoc, not, is_none, nat_le, ◌⊎◌, inl, inr, Some, None, Result, Ok, Err}
 use Rattle.std.specs.List.{AllByRecursion}
 use Rattle.std.proofs.lemmas.List.{append-nil}
-use Rattle.mesa_list.specs.Checks.{◌>>◌}
-use Rattle.mesa_schema.specs.Changes.{change_checked, columns_of}
-use Rattle.mesa_schema.specs.Names.{is_name}
-use Rattle.mesa_schema.specs.Recasts.{recast_checked}
-use Rattle.mesa_schema.specs.Schema.{schema_checked}
-use Rattle.mesa_batch.specs.Batch.{batch_of}
-use Rattle.mesa_filter.specs.declared.words.VersionWord.{VersionWord}
-use Rattle.mesa_model.specs.declared.commands.Command.{Command}
-use Rattle.mesa_model.specs.declared.commands.Command.TheVariants as command
-use Rattle.mesa_model.specs.declared.commands.Script.{Script}
-use Rattle.mesa_model.specs.declared.entries.Entry.{Entry}
-use Rattle.mesa_model.specs.declared.replies.Refusal.{Refusal}
-use Rattle.mesa_model.specs.declared.replies.Reply.{Reply}
-use Rattle.mesa_model.specs.declared.replies.Reply.TheVariants as reply
-use Rattle.mesa_model.specs.Warehouse.{Pin, Warehouse, max_pins, max_tables, max_versions, table_at}
-use Rattle.mesa_model.specs.WellFormed.{IsWellFormed}
-use Rattle.mesa_model.specs.Load.{bounds_checked, load_batch, tables_named}
-use Rattle.mesa_model.specs.Relations.{is_taken, table_number}
-use Rattle.mesa_model.specs.Step.{done_or_refused, step}
-use Rattle.mesa_model.specs.Tables.{alter_table, change_asked, columns_asked, make_table, make_view, names_are_good, recast_asked, recast_table, view_of_table_checked}
-use Rattle.mesa_model.specs.Versions.{common_oldest, expire_to, version_asked, version_checked}
-use Rattle.mesa_model.specs.Pins.{is_pin, make_pin, pin_of, release_pin, store_at}
-use Rattle.mesa_model.specs.Refusals.{refuse_closed}
+use Rattle.mesa_history_spec.specs.mesa_list.Checks.{◌>>◌}
+use Rattle.mesa_history_spec.specs.mesa_schema.Changes.{change_checked, columns_of}
+use Rattle.mesa_history_spec.specs.mesa_schema.Names.{is_name}
+use Rattle.mesa_history_spec.specs.mesa_schema.Recasts.{recast_checked}
+use Rattle.mesa_history_spec.specs.mesa_schema.Schema.{schema_checked}
+use Rattle.mesa_history_spec.specs.mesa_batch.Batch.{batch_of}
+use Rattle.mesa_history_spec.specs.mesa_filter.declared.words.VersionWord.{VersionWord}
+use Rattle.mesa_history_spec.specs.mesa_model.declared.commands.Command.{Command}
+use Rattle.mesa_history_spec.specs.mesa_model.declared.commands.Command.TheVariants as command
+use Rattle.mesa_history_spec.specs.mesa_model.declared.commands.Script.{Script}
+use Rattle.mesa_history_spec.specs.mesa_model.declared.entries.Entry.{Entry}
+use Rattle.mesa_history_spec.specs.mesa_model.declared.replies.Refusal.{Refusal}
+use Rattle.mesa_history_spec.specs.mesa_model.declared.replies.Reply.{Reply}
+use Rattle.mesa_history_spec.specs.mesa_model.declared.replies.Reply.TheVariants as reply
+use Rattle.mesa_history_spec.specs.mesa_model.Warehouse.{Pin, Warehouse, max_pins, max_tables, max_versions, table_at}
+use Rattle.mesa_history_spec.specs.mesa_model.WellFormed.{IsWellFormed}
+use Rattle.mesa_history_spec.specs.mesa_model.Load.{bounds_checked, load_batch, tables_named}
+use Rattle.mesa_history_spec.specs.mesa_model.Relations.{is_taken, table_number}
+use Rattle.mesa_history_spec.specs.mesa_model.Step.{done_or_refused, step}
+use Rattle.mesa_history_spec.specs.mesa_model.Tables.{alter_table, change_asked, columns_asked, make_table, make_view, names_are_good, recast_asked, recast_table, view_of_table_checked}
+use Rattle.mesa_history_spec.specs.mesa_model.Versions.{common_oldest, expire_to, version_asked, version_checked}
+use Rattle.mesa_history_spec.specs.mesa_model.Pins.{is_pin, make_pin, pin_of, release_pin, store_at}
+use Rattle.mesa_history_spec.specs.mesa_model.Refusals.{refuse_closed}
 use Rattle.mesa_history_spec.specs.Run.{Run, State, Told, begins}
 use Rattle.mesa_history_spec.specs.Replay.{go, no_rows, runs, told_by}
 use Rattle.mesa_history_spec.proofs.More.{runs_more}
 use Rattle.mesa_history_laws.specs.Given.{WasGiven, warehouse_after}
 use Rattle.mesa_history_laws.proofs.Checks.{after_check, after_other, after_other_check, after_refuse_if, after_refuse_unless, after_some, after_value}
 use Rattle.mesa_history_laws.proofs.FromTheFold.{asked_there}
-use Rattle.mesa_schema.proofs.Lists.{all_append, all_filter, all_so}
+use Rattle.mesa_history_spec.proofs.mesa_schema.Lists.{all_append, all_filter, all_so}
 use Rattle.mesa_history_laws.proofs.TurnKinds.{Stays, Steps, turned_does}
 use Rattle.mesa_history_laws.proofs.WellFormed.{common_kept, runs_well}
 

@@ -2,13 +2,13 @@
 use Rattle.std.proofs.Common.{◌≡◌, ℕ, ◌==◌, List, [], ◌∷◌, ◌++◌, length, refl, sym, ◌∙◌, ap, subst, arith, append_assoc, true, false, inl, inr, Some, Ok}
 use Rattle.std.proofs.lemmas.Bool.{eqb-true}
 use Rattle.std.proofs.lemmas.List.{append-nil}
-use Rattle.mesa_filter.specs.declared.words.QueryWords.{QueryWords}
-use Rattle.mesa_model.specs.declared.commands.Command.TheVariants as command
-use Rattle.mesa_model.specs.declared.commands.Script.{Script}
-use Rattle.mesa_model.specs.declared.entries.Entry.{Entry}
-use Rattle.mesa_model.specs.declared.replies.Page.{Page}
-use Rattle.mesa_model.specs.declared.replies.Reply.TheVariants as reply
-use Rattle.mesa_model.specs.Query.{Answer, query_answer}
+use Rattle.mesa_history_spec.specs.mesa_filter.declared.words.QueryWords.{QueryWords}
+use Rattle.mesa_history_spec.specs.mesa_model.declared.commands.Command.TheVariants as command
+use Rattle.mesa_history_spec.specs.mesa_model.declared.commands.Script.{Script}
+use Rattle.mesa_history_spec.specs.mesa_model.declared.entries.Entry.{Entry}
+use Rattle.mesa_history_spec.specs.mesa_model.declared.replies.Page.{Page}
+use Rattle.mesa_history_spec.specs.mesa_model.declared.replies.Reply.TheVariants as reply
+use Rattle.mesa_history_spec.specs.mesa_model.Query.{Answer, query_answer}
 use Rattle.mesa_history_spec.specs.Run.{Answered, CutOff, Finished, First, Granted, Looked, Place, Renewed, Run, Stage, State, Told, begins, command_of, place_of}
 use Rattle.mesa_history_spec.specs.Replay.{go, place_after, runs, told_by}
 use Rattle.mesa_history_spec.proofs.More.{position_is, runs_more}

@@ -3,15 +3,15 @@ use Rattle.std.proofs.Common.{◌≡◌, ℕ, zero, suc, ◌+◌, ◌<◌, ◌�
 use Rattle.std.specs.Prelude.{filter, ◌&&◌}
 use Rattle.std.proofs.Math.Bool.{and-false}
 use Rattle.std.proofs.lemmas.Bool.{eqb-true, lt-leb}
-use Rattle.mesa_schema.specs.Changes.{epoch_of}
-use Rattle.mesa_schema.specs.Recasts.{Recast}
-use Rattle.mesa_batch.specs.Batch.{Placed}
-use Rattle.mesa_model.specs.declared.commands.Script.{Script}
-use Rattle.mesa_model.specs.declared.entries.Entry.{Entry}
-use Rattle.mesa_model.specs.Load.{tables_loaded}
-use Rattle.mesa_model.specs.Tables.{columns_asked, new_table, table_changed, table_recast, with_recast}
-use Rattle.mesa_model.specs.Versions.{table_from}
-use Rattle.mesa_model.specs.Warehouse.{Store, Table, Warehouse, no_table, table_at}
+use Rattle.mesa_history_spec.specs.mesa_schema.Changes.{epoch_of}
+use Rattle.mesa_history_spec.specs.mesa_schema.Recasts.{Recast}
+use Rattle.mesa_history_spec.specs.mesa_batch.Batch.{Placed}
+use Rattle.mesa_history_spec.specs.mesa_model.declared.commands.Script.{Script}
+use Rattle.mesa_history_spec.specs.mesa_model.declared.entries.Entry.{Entry}
+use Rattle.mesa_history_spec.specs.mesa_model.Load.{tables_loaded}
+use Rattle.mesa_history_spec.specs.mesa_model.Tables.{columns_asked, new_table, table_changed, table_recast, with_recast}
+use Rattle.mesa_history_spec.specs.mesa_model.Versions.{table_from}
+use Rattle.mesa_history_spec.specs.mesa_model.Warehouse.{Store, Table, Warehouse, no_table, table_at}
 use Rattle.mesa_history_spec.specs.Law.{Leaves, RangesStay, Regroups, Writing, begun_at, batch_written, writing_by, written_in, written_through}
 use Rattle.mesa_history_spec.specs.Replay.{go, runs}
 use Rattle.mesa_history_spec.specs.Run.{Run}

@@ -1,20 +1,20 @@
 -- Answers at any version, also by a pin, are pages of what the fold law gives, and so is whatever is printed.
 use Rattle.std.proofs.Common.{◌≡◌, ◌≤◌, ℕ, zero, suc, ◌-◌, List, [], ◌∷◌, refl, sym, ◌∙◌, ap, subst, arith, Some, Ok, get_or, slice_get}
-use Rattle.mesa_list.specs.Checks.{◌>>=◌}
-use Rattle.mesa_filter.specs.declared.words.QueryWords.{QueryWords}
-use Rattle.mesa_filter.specs.declared.words.VersionWord.{VersionWord}
-use Rattle.mesa_filter.specs.declared.words.VersionWord.TheVariants as asks
-use Rattle.mesa_model.specs.declared.commands.Script.{Script}
-use Rattle.mesa_model.specs.declared.entries.Entry.{Entry}
-use Rattle.mesa_model.specs.declared.replies.Page.{Page}
-use Rattle.mesa_model.specs.declared.replies.Refusal.TheVariants as no
-use Rattle.mesa_model.specs.declared.replies.Reply.TheVariants as reply
-use Rattle.mesa_model.specs.Versions.{oldest_among}
-use Rattle.mesa_model.specs.Warehouse.{Pin, Store, Table, Warehouse, content_at}
-use Rattle.mesa_model.specs.WellFormed.{IsWellFormed}
-use Rattle.mesa_model.specs.Pins.{is_pin, pin_of, store_at, table_pinned}
-use Rattle.mesa_model.specs.Refusals.{refuse_closed}
-use Rattle.mesa_model.specs.Query.{Answer, query_answer, store_asked}
+use Rattle.mesa_history_spec.specs.mesa_list.Checks.{◌>>=◌}
+use Rattle.mesa_history_spec.specs.mesa_filter.declared.words.QueryWords.{QueryWords}
+use Rattle.mesa_history_spec.specs.mesa_filter.declared.words.VersionWord.{VersionWord}
+use Rattle.mesa_history_spec.specs.mesa_filter.declared.words.VersionWord.TheVariants as asks
+use Rattle.mesa_history_spec.specs.mesa_model.declared.commands.Script.{Script}
+use Rattle.mesa_history_spec.specs.mesa_model.declared.entries.Entry.{Entry}
+use Rattle.mesa_history_spec.specs.mesa_model.declared.replies.Page.{Page}
+use Rattle.mesa_history_spec.specs.mesa_model.declared.replies.Refusal.TheVariants as no
+use Rattle.mesa_history_spec.specs.mesa_model.declared.replies.Reply.TheVariants as reply
+use Rattle.mesa_history_spec.specs.mesa_model.Versions.{oldest_among}
+use Rattle.mesa_history_spec.specs.mesa_model.Warehouse.{Pin, Store, Table, Warehouse, content_at}
+use Rattle.mesa_history_spec.specs.mesa_model.WellFormed.{IsWellFormed}
+use Rattle.mesa_history_spec.specs.mesa_model.Pins.{is_pin, pin_of, store_at, table_pinned}
+use Rattle.mesa_history_spec.specs.mesa_model.Refusals.{refuse_closed}
+use Rattle.mesa_history_spec.specs.mesa_model.Query.{Answer, query_answer, store_asked}
 use Rattle.mesa_history_spec.specs.Law.{law_content}
 use Rattle.mesa_history_spec.specs.Run.{State, Told, begins}
 use Rattle.mesa_history_spec.specs.Replay.{runs, told_by}
@@ -26,7 +26,7 @@ use Rattle.mesa_history_laws.proofs.Checks.{bound, bound_some, passed}
 use Rattle.mesa_history_laws.proofs.FoldLaw.{law_holds}
 use Rattle.mesa_history_laws.proofs.FromTheFold.{answer_folds, present_folds, seen_in}
 use Rattle.mesa_history_laws.proofs.LaterRelations.{relation_there}
-use Rattle.mesa_schema.proofs.Lists.{all_found}
+use Rattle.mesa_history_spec.proofs.mesa_schema.Lists.{all_found}
 use Rattle.mesa_history_laws.proofs.Pinning.{pins_given}
 use Rattle.mesa_history_laws.proofs.Printing.{pages_answered}
 

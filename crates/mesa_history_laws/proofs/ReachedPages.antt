@@ -1,20 +1,20 @@
 -- Pages of a query after any history.
 use Rattle.std.proofs.Common.{◌≡◌, ℕ, ◌<◌, List, [], sym, subst, Ok}
-use Rattle.mesa_filter.specs.declared.words.QueryWords.{QueryWords}
-use Rattle.mesa_filter.specs.declared.words.VersionWord.{VersionWord}
-use Rattle.mesa_filter.specs.declared.words.VersionWord.TheVariants as asks
-use Rattle.mesa_model.specs.declared.commands.Script.{Script}
-use Rattle.mesa_model.specs.declared.entries.Entry.{Entry}
-use Rattle.mesa_model.specs.declared.replies.Refusal.TheVariants as no
-use Rattle.mesa_model.specs.Warehouse.{Pin, Store, Warehouse}
-use Rattle.mesa_model.specs.WellFormed.{IsWellFormed}
-use Rattle.mesa_model.specs.Pins.{is_pin, pin_of}
-use Rattle.mesa_model.specs.Query.{Answer, store_asked}
+use Rattle.mesa_history_spec.specs.mesa_filter.declared.words.QueryWords.{QueryWords}
+use Rattle.mesa_history_spec.specs.mesa_filter.declared.words.VersionWord.{VersionWord}
+use Rattle.mesa_history_spec.specs.mesa_filter.declared.words.VersionWord.TheVariants as asks
+use Rattle.mesa_history_spec.specs.mesa_model.declared.commands.Script.{Script}
+use Rattle.mesa_history_spec.specs.mesa_model.declared.entries.Entry.{Entry}
+use Rattle.mesa_history_spec.specs.mesa_model.declared.replies.Refusal.TheVariants as no
+use Rattle.mesa_history_spec.specs.mesa_model.Warehouse.{Pin, Store, Warehouse}
+use Rattle.mesa_history_spec.specs.mesa_model.WellFormed.{IsWellFormed}
+use Rattle.mesa_history_spec.specs.mesa_model.Pins.{is_pin, pin_of}
+use Rattle.mesa_history_spec.specs.mesa_model.Query.{Answer, store_asked}
 use Rattle.mesa_history_spec.specs.Run.{State, begins}
 use Rattle.mesa_history_laws.specs.Given.{WasGiven, warehouse_after}
 use Rattle.mesa_history_laws.specs.Pages.{ArePagesOf, IsWholeAnswer, from_first, pages_asked}
 use Rattle.mesa_history_laws.proofs.Checks.{bound_some}
-use Rattle.mesa_schema.proofs.Lists.{all_found}
+use Rattle.mesa_history_spec.proofs.mesa_schema.Lists.{all_found}
 use Rattle.mesa_history_laws.proofs.Pinning.{pins_given}
 use Rattle.mesa_history_laws.proofs.QueryPages.{pages_of_place}
 use Rattle.mesa_history_laws.proofs.StoredRows.{IsStored, pin_stored, well_stored}

@@ -1,9 +1,9 @@
 -- What the rules of a recast say, once they have passed.
 use Rattle.std.proofs.Common.{◌≡◌, ◌⊎◌, inl, inr, ℕ, zero, suc, List, [], ◌∷◌, true, refl, subst, Result, Ok, Err, Some, is_ok, slice_get, get_or}
-use Rattle.mesa_schema.specs.Changes.{Lineage, columns_of}
-use Rattle.mesa_schema.specs.Recasts.{IsRecastOf, Recast, recast_checked}
-use Rattle.mesa_schema.proofs.LineageRecasts.{recast_allowed}
-use Rattle.mesa_model.specs.Warehouse.{Store, Table, no_table, table_at}
+use Rattle.mesa_history_spec.specs.mesa_schema.Changes.{Lineage, columns_of}
+use Rattle.mesa_history_spec.specs.mesa_schema.Recasts.{IsRecastOf, Recast, recast_checked}
+use Rattle.mesa_history_spec.proofs.mesa_schema.LineageRecasts.{recast_allowed}
+use Rattle.mesa_history_spec.specs.mesa_model.Warehouse.{Store, Table, no_table, table_at}
 
 pub ok_is : {E : Type 0} (c : Result (Unit {0}) E) → is_ok c ≡ true → c ≡ Ok tt
 ok_is (Ok x) h = refl

@@ -1,24 +1,24 @@
 -- A refused command changes nothing.
 use Rattle.std.proofs.Common.{◌≡◌, ℕ, length, refl, Some, None, Result, Ok, Err, is_none, nat_le}
-use Rattle.mesa_list.specs.Checks.{◌>>◌}
-use Rattle.mesa_schema.specs.Changes.{change_checked, columns_of}
-use Rattle.mesa_schema.specs.Names.{is_name}
-use Rattle.mesa_schema.specs.Recasts.{recast_checked}
-use Rattle.mesa_schema.specs.Schema.{schema_checked}
-use Rattle.mesa_batch.specs.Batch.{batch_of}
-use Rattle.mesa_model.specs.declared.commands.Command.{Command}
-use Rattle.mesa_model.specs.declared.commands.Command.TheVariants as command
-use Rattle.mesa_model.specs.declared.replies.Refusal.{Refusal}
-use Rattle.mesa_model.specs.declared.replies.Reply.{Reply}
-use Rattle.mesa_model.specs.declared.replies.Reply.TheVariants as reply
-use Rattle.mesa_model.specs.Warehouse.{Warehouse, max_pins, max_tables, max_versions, table_at}
-use Rattle.mesa_model.specs.Load.{bounds_checked, load_batch, tables_named}
-use Rattle.mesa_model.specs.Relations.{is_taken, table_number}
-use Rattle.mesa_model.specs.Step.{done_or_refused, step}
-use Rattle.mesa_model.specs.Tables.{alter_table, change_asked, columns_asked, make_table, make_view, names_are_good, recast_asked, recast_table, view_of_table_checked}
-use Rattle.mesa_model.specs.Versions.{common_oldest, expire_to, version_asked, version_checked}
-use Rattle.mesa_model.specs.Pins.{make_pin, pin_of, release_pin}
-use Rattle.mesa_model.specs.Refusals.{refuse_closed}
+use Rattle.mesa_history_spec.specs.mesa_list.Checks.{◌>>◌}
+use Rattle.mesa_history_spec.specs.mesa_schema.Changes.{change_checked, columns_of}
+use Rattle.mesa_history_spec.specs.mesa_schema.Names.{is_name}
+use Rattle.mesa_history_spec.specs.mesa_schema.Recasts.{recast_checked}
+use Rattle.mesa_history_spec.specs.mesa_schema.Schema.{schema_checked}
+use Rattle.mesa_history_spec.specs.mesa_batch.Batch.{batch_of}
+use Rattle.mesa_history_spec.specs.mesa_model.declared.commands.Command.{Command}
+use Rattle.mesa_history_spec.specs.mesa_model.declared.commands.Command.TheVariants as command
+use Rattle.mesa_history_spec.specs.mesa_model.declared.replies.Refusal.{Refusal}
+use Rattle.mesa_history_spec.specs.mesa_model.declared.replies.Reply.{Reply}
+use Rattle.mesa_history_spec.specs.mesa_model.declared.replies.Reply.TheVariants as reply
+use Rattle.mesa_history_spec.specs.mesa_model.Warehouse.{Warehouse, max_pins, max_tables, max_versions, table_at}
+use Rattle.mesa_history_spec.specs.mesa_model.Load.{bounds_checked, load_batch, tables_named}
+use Rattle.mesa_history_spec.specs.mesa_model.Relations.{is_taken, table_number}
+use Rattle.mesa_history_spec.specs.mesa_model.Step.{done_or_refused, step}
+use Rattle.mesa_history_spec.specs.mesa_model.Tables.{alter_table, change_asked, columns_asked, make_table, make_view, names_are_good, recast_asked, recast_table, view_of_table_checked}
+use Rattle.mesa_history_spec.specs.mesa_model.Versions.{common_oldest, expire_to, version_asked, version_checked}
+use Rattle.mesa_history_spec.specs.mesa_model.Pins.{make_pin, pin_of, release_pin}
+use Rattle.mesa_history_spec.specs.mesa_model.Refusals.{refuse_closed}
 use Rattle.mesa_history_laws.proofs.Checks.{after_check, after_other, after_other_check, after_refuse_if, after_refuse_unless, after_some, after_value}
 
 -- the warehouse is the same where the reply is a refusal

@@ -3,18 +3,18 @@ use Rattle.std.proofs.Common.{◌≡◌, ℕ, zero, suc, ◌+◌, List, [], ◌�
 use Rattle.std.proofs.lemmas.Grind.{flat_map-append}
 use Rattle.std.proofs.lemmas.List.{append-nil, map-append}
 use Rattle.std.proofs.lemmas.List.Folds.{list_any-append}
-use Rattle.mesa_list.specs.Bytes.{same_bytes}
-use Rattle.mesa_schema.specs.declared.views.View.{View}
-use Rattle.mesa_schema.specs.declared.changes.Change.{Change}
-use Rattle.mesa_schema.specs.Names.{has_name, repeated}
-use Rattle.mesa_batch.specs.Batch.{Placed}
-use Rattle.mesa_model.specs.declared.commands.ViewWords.{ViewWords}
-use Rattle.mesa_model.specs.Warehouse.{Store, Table}
-use Rattle.mesa_model.specs.WellFormed.{relation_names}
-use Rattle.mesa_model.specs.Relations.{Relation, is_taken, relation_from}
-use Rattle.mesa_model.specs.Load.{tables_loaded}
-use Rattle.mesa_model.specs.Tables.{table_changed}
-use Rattle.mesa_schema.proofs.Apart.{apart, apart_insert, unrepeated}
+use Rattle.mesa_history_spec.specs.mesa_list.Bytes.{same_bytes}
+use Rattle.mesa_history_spec.specs.mesa_schema.declared.views.View.{View}
+use Rattle.mesa_history_spec.specs.mesa_schema.declared.changes.Change.{Change}
+use Rattle.mesa_history_spec.specs.mesa_schema.Names.{has_name, repeated}
+use Rattle.mesa_history_spec.specs.mesa_batch.Batch.{Placed}
+use Rattle.mesa_history_spec.specs.mesa_model.declared.commands.ViewWords.{ViewWords}
+use Rattle.mesa_history_spec.specs.mesa_model.Warehouse.{Store, Table}
+use Rattle.mesa_history_spec.specs.mesa_model.WellFormed.{relation_names}
+use Rattle.mesa_history_spec.specs.mesa_model.Relations.{Relation, is_taken, relation_from}
+use Rattle.mesa_history_spec.specs.mesa_model.Load.{tables_loaded}
+use Rattle.mesa_history_spec.specs.mesa_model.Tables.{table_changed}
+use Rattle.mesa_history_spec.proofs.mesa_schema.Apart.{apart, apart_insert, unrepeated}
 use Rattle.mesa_history_laws.proofs.Moves.{viewed}
 
 -- a table's name and its views'

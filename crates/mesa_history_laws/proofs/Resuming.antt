@@ -5,16 +5,16 @@ use Rattle.std.proofs.lemmas.List.{length-append}
 use Rattle.std.proofs.Math.Seq.{drop-append_seam, take-append_seam}
 use Rattle.std.proofs.lemmas.Cmp.{nat_list_eq_equiv}
 use lib.Pointwise.{pointwise}
-use Rattle.mesa_list.specs.Checks.{◌>>=◌, ◌>>◌, refuse_unless}
-use Rattle.mesa_key.specs.declared.KeyType.{KeyType}
-use Rattle.mesa_key.specs.Spelling.{is_spelling, key_of}
-use Rattle.mesa_key.proofs.Keys.{spelling_passes}
-use Rattle.mesa_schema.specs.Columns.{Columns, chosen, key_names, kinds_of}
-use Rattle.mesa_schema.proofs.KeyLifts.{Spells}
-use Rattle.mesa_filter.specs.declared.words.QueryError.{QueryError}
-use Rattle.mesa_filter.specs.declared.words.QueryError.TheVariants.{BadResume}
-use Rattle.mesa_filter.specs.Hex.{bytes_of_hex, hex_of}
-use Rattle.mesa_filter.specs.Resume.{resume_of, resume_prefix}
+use Rattle.mesa_history_spec.specs.mesa_list.Checks.{◌>>=◌, ◌>>◌, refuse_unless}
+use Rattle.mesa_history_spec.specs.mesa_key.declared.KeyType.{KeyType}
+use Rattle.mesa_history_spec.specs.mesa_key.Spelling.{is_spelling, key_of}
+use Rattle.mesa_history_spec.proofs.mesa_key.Keys.{spelling_passes}
+use Rattle.mesa_history_spec.specs.mesa_schema.Columns.{Columns, chosen, key_names, kinds_of}
+use Rattle.mesa_history_spec.proofs.mesa_schema.KeyLifts.{Spells}
+use Rattle.mesa_history_spec.specs.mesa_filter.declared.words.QueryError.{QueryError}
+use Rattle.mesa_history_spec.specs.mesa_filter.declared.words.QueryError.TheVariants.{BadResume}
+use Rattle.mesa_history_spec.specs.mesa_filter.Hex.{bytes_of_hex, hex_of}
+use Rattle.mesa_history_spec.specs.mesa_filter.Resume.{resume_of, resume_prefix}
 use Rattle.mesa_history_laws.proofs.KeyBytes.{Bytes, hex_read, key_bytes}
 
 begins_with : (xs ys : List ℕ) → starts_with nat_eq (xs ++ ys) xs ≡ true

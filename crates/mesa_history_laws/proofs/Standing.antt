@@ -1,7 +1,7 @@
 -- What a turn that stands does, of a command that is due in a warehouse that isn't closed.
 use Rattle.std.proofs.Common.{◌≡◌, ℕ, ◌+◌, ◌*◌, ◌≤◌, ◌&&◌, ◌||◌, List, length, true, not, false, IsTrue, refl, sym, arith, ok_or, nat_le, is_none, Option, Some, None}
 use Rattle.std.specs.Prelude.{Result, Ok, Err, IfOk}
-use Rattle.mesa_history_spec.specs.mesa_span.mesa_list.Checks.{◌>>◌, refuse_if, refuse_unless, refused_as}
+use Rattle.mesa_history_spec.specs.mesa_list.Checks.{◌>>◌, refuse_if, refuse_unless, refused_as}
 use Rattle.mesa_history_spec.specs.mesa_schema.Names.{is_name}
 use Rattle.mesa_history_spec.specs.mesa_schema.Schema.{schema_checked}
 use Rattle.mesa_history_spec.specs.mesa_schema.Changes.{columns_of, change_checked}

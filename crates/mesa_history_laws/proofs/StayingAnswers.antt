@@ -2,26 +2,26 @@
 use Rattle.std.proofs.Common.{◌≡◌, ℕ, ◌<◌, ◌≤◌, List, sym, ◌∙◌, ap, subst, arith, Option, Some, Result, Ok, option_map, slice_get, nat_le}
 use Rattle.std.specs.Prelude.{IfSome}
 use Rattle.std.proofs.lemmas.Bool.{le-ltb, lt-leb}
-use Rattle.mesa_list.specs.Checks.{◌>>=◌, ◌>>◌, refuse_if, refused_as}
-use Rattle.mesa_schema.specs.declared.rows.Row.{Row}
-use Rattle.mesa_schema.specs.declared.views.View.{View}
-use Rattle.mesa_schema.specs.Columns.{Columns}
-use Rattle.mesa_schema.specs.Changes.{columns_of, epoch_of}
-use Rattle.mesa_filter.specs.declared.words.QueryWords.{QueryWords}
-use Rattle.mesa_filter.specs.declared.words.VersionWord.TheVariants as asks
-use Rattle.mesa_filter.specs.Asked.{asked_of}
-use Rattle.mesa_filter.specs.Resume.{resume_of}
-use Rattle.mesa_model.specs.declared.commands.Script.{Script}
-use Rattle.mesa_model.specs.declared.entries.Entry.{Entry}
-use Rattle.mesa_model.specs.declared.replies.Refusal.{Refusal}
-use Rattle.mesa_model.specs.declared.replies.Refusal.TheVariants as no
-use Rattle.mesa_model.specs.Warehouse.{Store, Table, Warehouse, content_at, newest_of}
-use Rattle.mesa_model.specs.WellFormed.{IsWellFormed}
-use Rattle.mesa_model.specs.Page.{page_of}
-use Rattle.mesa_model.specs.Relations.{Relation, relation_of}
-use Rattle.mesa_model.specs.Refusals.{query_refusal, refuse_closed}
-use Rattle.mesa_model.specs.Versions.{version_asked, version_checked}
-use Rattle.mesa_model.specs.Query.{Answer, answer_rows, heading_of, query_answer}
+use Rattle.mesa_history_spec.specs.mesa_list.Checks.{◌>>=◌, ◌>>◌, refuse_if, refused_as}
+use Rattle.mesa_history_spec.specs.mesa_schema.declared.rows.Row.{Row}
+use Rattle.mesa_history_spec.specs.mesa_schema.declared.views.View.{View}
+use Rattle.mesa_history_spec.specs.mesa_schema.Columns.{Columns}
+use Rattle.mesa_history_spec.specs.mesa_schema.Changes.{columns_of, epoch_of}
+use Rattle.mesa_history_spec.specs.mesa_filter.declared.words.QueryWords.{QueryWords}
+use Rattle.mesa_history_spec.specs.mesa_filter.declared.words.VersionWord.TheVariants as asks
+use Rattle.mesa_history_spec.specs.mesa_filter.Asked.{asked_of}
+use Rattle.mesa_history_spec.specs.mesa_filter.Resume.{resume_of}
+use Rattle.mesa_history_spec.specs.mesa_model.declared.commands.Script.{Script}
+use Rattle.mesa_history_spec.specs.mesa_model.declared.entries.Entry.{Entry}
+use Rattle.mesa_history_spec.specs.mesa_model.declared.replies.Refusal.{Refusal}
+use Rattle.mesa_history_spec.specs.mesa_model.declared.replies.Refusal.TheVariants as no
+use Rattle.mesa_history_spec.specs.mesa_model.Warehouse.{Store, Table, Warehouse, content_at, newest_of}
+use Rattle.mesa_history_spec.specs.mesa_model.WellFormed.{IsWellFormed}
+use Rattle.mesa_history_spec.specs.mesa_model.Page.{page_of}
+use Rattle.mesa_history_spec.specs.mesa_model.Relations.{Relation, relation_of}
+use Rattle.mesa_history_spec.specs.mesa_model.Refusals.{query_refusal, refuse_closed}
+use Rattle.mesa_history_spec.specs.mesa_model.Versions.{version_asked, version_checked}
+use Rattle.mesa_history_spec.specs.mesa_model.Query.{Answer, answer_rows, heading_of, query_answer}
 use Rattle.mesa_history_spec.specs.Run.{Run}
 use Rattle.mesa_history_spec.specs.Replay.{runs}
 use Rattle.mesa_history_laws.specs.Later.{IsLater, IsStillThere, epoch_named, oldest_named}

@@ -1,25 +1,25 @@
 -- The rows that a query sees have keys of the relation's types, in the present tables and in those of a pin.
 use Rattle.std.proofs.Common.{◌≡◌, ℕ, ◌-◌, List, [], ◌∷◌, refl, subst, Option, Some, None}
 use Rattle.std.specs.List.{AllByRecursion}
-use Rattle.mesa_key.specs.declared.KeyType.{KeyType}
-use Rattle.mesa_schema.specs.declared.columns.KeyColumn.{KeyColumn}
-use Rattle.mesa_schema.specs.declared.rows.Row.{Row}
-use Rattle.mesa_schema.specs.declared.views.View.{View}
-use Rattle.mesa_schema.specs.Columns.{Columns, chosen, kinds_of}
-use Rattle.mesa_schema.specs.Changes.{columns_of}
-use Rattle.mesa_schema.specs.Views.{view_key_places, view_rows, view_value_places}
-use Rattle.mesa_schema.proofs.KeyLifts.{Spells}
-use Rattle.mesa_filter.specs.Asked.{Asked}
-use Rattle.mesa_filter.specs.Filter.{filtered}
-use Rattle.mesa_model.specs.Warehouse.{Store, Table, Warehouse, content_at}
-use Rattle.mesa_model.specs.WellFormed.{IsContent, IsTable, IsWellFormed}
-use Rattle.mesa_model.specs.Relations.{Relation, relation_columns, relation_content, relation_of}
-use Rattle.mesa_model.specs.Pins.{store_at, table_pinned}
-use Rattle.mesa_model.specs.Query.{answer_rows}
+use Rattle.mesa_history_spec.specs.mesa_key.declared.KeyType.{KeyType}
+use Rattle.mesa_history_spec.specs.mesa_schema.declared.columns.KeyColumn.{KeyColumn}
+use Rattle.mesa_history_spec.specs.mesa_schema.declared.rows.Row.{Row}
+use Rattle.mesa_history_spec.specs.mesa_schema.declared.views.View.{View}
+use Rattle.mesa_history_spec.specs.mesa_schema.Columns.{Columns, chosen, kinds_of}
+use Rattle.mesa_history_spec.specs.mesa_schema.Changes.{columns_of}
+use Rattle.mesa_history_spec.specs.mesa_schema.Views.{view_key_places, view_rows, view_value_places}
+use Rattle.mesa_history_spec.proofs.mesa_schema.KeyLifts.{Spells}
+use Rattle.mesa_history_spec.specs.mesa_filter.Asked.{Asked}
+use Rattle.mesa_history_spec.specs.mesa_filter.Filter.{filtered}
+use Rattle.mesa_history_spec.specs.mesa_model.Warehouse.{Store, Table, Warehouse, content_at}
+use Rattle.mesa_history_spec.specs.mesa_model.WellFormed.{IsContent, IsTable, IsWellFormed}
+use Rattle.mesa_history_spec.specs.mesa_model.Relations.{Relation, relation_columns, relation_content, relation_of}
+use Rattle.mesa_history_spec.specs.mesa_model.Pins.{store_at, table_pinned}
+use Rattle.mesa_history_spec.specs.mesa_model.Query.{answer_rows}
 use Rattle.mesa_history_laws.proofs.AnswersOver.{columns_seen, rows_seen}
 use Rattle.mesa_history_laws.proofs.LaterRelations.{relation_there}
-use Rattle.mesa_schema.proofs.GroupKeys.{AllSpell, chosen_mapped, grouped_spell, rows_spell}
-use Rattle.mesa_schema.proofs.Lists.{all_at, all_filter, all_got, all_map, all_so}
+use Rattle.mesa_history_spec.proofs.mesa_schema.GroupKeys.{AllSpell, chosen_mapped, grouped_spell, rows_spell}
+use Rattle.mesa_history_spec.proofs.mesa_schema.Lists.{all_at, all_filter, all_got, all_map, all_so}
 
 -- each content of each table has the form of its columns
 abbrev HasContents : Table → Type 0

@@ -1,20 +1,20 @@
 -- What a turn is to the pins: they stay, or the turn is a command's step and tells its reply.
 use Rattle.std.proofs.Common.{◌≡◌, ℕ, [], refl, Bool, true, false, Option, Some, None, Result, Ok, Err}
-use Rattle.mesa_model.specs.declared.commands.Command.{Command}
-use Rattle.mesa_model.specs.declared.commands.Command.TheVariants as command
-use Rattle.mesa_model.specs.declared.commands.Script.{Script}
-use Rattle.mesa_model.specs.declared.entries.Entry.{Entry}
-use Rattle.mesa_model.specs.declared.entries.Kind.{Kind}
-use Rattle.mesa_model.specs.declared.entries.Kind.TheVariants as kind
-use Rattle.mesa_model.specs.declared.entries.Outcome.{Outcome}
-use Rattle.mesa_model.specs.declared.entries.Outcome.TheVariants as outcome
-use Rattle.mesa_model.specs.declared.replies.Refusal.{Refusal}
-use Rattle.mesa_model.specs.declared.replies.Refusal.TheVariants as no
-use Rattle.mesa_model.specs.declared.replies.Reply.{Reply}
-use Rattle.mesa_schema.specs.Recasts.{Recast}
-use Rattle.mesa_model.specs.Warehouse.{Warehouse, table_at}
-use Rattle.mesa_model.specs.Query.{Answer, query_answer}
-use Rattle.mesa_model.specs.Step.{step}
+use Rattle.mesa_history_spec.specs.mesa_model.declared.commands.Command.{Command}
+use Rattle.mesa_history_spec.specs.mesa_model.declared.commands.Command.TheVariants as command
+use Rattle.mesa_history_spec.specs.mesa_model.declared.commands.Script.{Script}
+use Rattle.mesa_history_spec.specs.mesa_model.declared.entries.Entry.{Entry}
+use Rattle.mesa_history_spec.specs.mesa_model.declared.entries.Kind.{Kind}
+use Rattle.mesa_history_spec.specs.mesa_model.declared.entries.Kind.TheVariants as kind
+use Rattle.mesa_history_spec.specs.mesa_model.declared.entries.Outcome.{Outcome}
+use Rattle.mesa_history_spec.specs.mesa_model.declared.entries.Outcome.TheVariants as outcome
+use Rattle.mesa_history_spec.specs.mesa_model.declared.replies.Refusal.{Refusal}
+use Rattle.mesa_history_spec.specs.mesa_model.declared.replies.Refusal.TheVariants as no
+use Rattle.mesa_history_spec.specs.mesa_model.declared.replies.Reply.{Reply}
+use Rattle.mesa_history_spec.specs.mesa_schema.Recasts.{Recast}
+use Rattle.mesa_history_spec.specs.mesa_model.Warehouse.{Warehouse, table_at}
+use Rattle.mesa_history_spec.specs.mesa_model.Query.{Answer, query_answer}
+use Rattle.mesa_history_spec.specs.mesa_model.Step.{step}
 use Rattle.mesa_history_spec.specs.Machine.{Claim, Errand, Merges, Recasts, claim_checked, explained, still_checked}
 use Rattle.mesa_history_spec.specs.Run.{Answered, CutOff, Finished, First, Granted, Looked, Renewed, Run, Stage, State, command_of, place_of}
 use Rattle.mesa_history_spec.specs.Replay.{Turned, claim_asked, close, closed_if, closes, completes, decide, decided_explain, decided_query, does, grants, no_rows, recasts, refused_turn, renew, renews, some_damage, standing, turn_as, turn_of, turned}

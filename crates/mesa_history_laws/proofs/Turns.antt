@@ -1,35 +1,35 @@
 -- What an entry of a history makes of the tables and the number of versions, and what it does to the rows that are written.
 use Rattle.std.proofs.Common.{◌≡◌, ℕ, ◌==◌, List, [], Bool, true, false, Option, Some, None, Result, Ok, Err, is_ok, nat_lt, ok_or, refl, subst, sym}
-use Rattle.mesa_list.specs.Checks.{◌>>=◌, ◌>>◌, refuse_if, refused_as}
-use Rattle.mesa_span.specs.Work.{next_work}
-use Rattle.mesa_span.specs.declared.works.Work.{Work}
-use Rattle.mesa_span.specs.declared.works.Work.TheVariants as work
-use Rattle.mesa_model.specs.declared.commands.Command.{Command}
-use Rattle.mesa_model.specs.declared.commands.Command.TheVariants as command
-use Rattle.mesa_lease.specs.Book.{holder}
-use Rattle.mesa_schema.specs.declared.recasts.RecastError.{RecastError}
-use Rattle.mesa_schema.specs.Changes.{Lineage, epoch_of}
-use Rattle.mesa_schema.specs.Recasts.{Recast, recast_checked}
-use Rattle.mesa_schema.proofs.Passing.{passed_unless}
-use Rattle.mesa_model.specs.declared.commands.ExplainWords.{ExplainWords}
-use Rattle.mesa_model.specs.declared.commands.RecastWords.{RecastWords}
-use Rattle.mesa_model.specs.declared.commands.Script.{Script}
-use Rattle.mesa_model.specs.declared.entries.Entry.{Entry}
-use Rattle.mesa_model.specs.declared.entries.Kind.{Kind}
-use Rattle.mesa_model.specs.declared.entries.Kind.TheVariants as kind
-use Rattle.mesa_model.specs.declared.entries.Outcome.{Outcome}
-use Rattle.mesa_model.specs.declared.entries.Outcome.TheVariants as outcome
-use Rattle.mesa_model.specs.declared.replies.Refusal.{Refusal}
-use Rattle.mesa_model.specs.declared.replies.Refusal.TheVariants as no
-use Rattle.mesa_model.specs.declared.replies.Reply.{Reply}
-use Rattle.mesa_model.specs.declared.replies.Reply.TheVariants as reply
-use Rattle.mesa_model.specs.Warehouse.{Store, newest_of, table_at}
-use Rattle.mesa_model.specs.Query.{Answer, query_answer}
-use Rattle.mesa_model.specs.Orders.{order_asked}
-use Rattle.mesa_model.specs.Refusals.{recast_refusal, refuse_closed}
-use Rattle.mesa_model.specs.Relations.{relation_of, table_number}
-use Rattle.mesa_model.specs.Tables.{recast_asked, with_recast}
-use Rattle.mesa_model.specs.Versions.{version_asked}
+use Rattle.mesa_history_spec.specs.mesa_list.Checks.{◌>>=◌, ◌>>◌, refuse_if, refused_as}
+use Rattle.mesa_history_spec.specs.mesa_span.Work.{next_work}
+use Rattle.mesa_history_spec.specs.mesa_span.declared.works.Work.{Work}
+use Rattle.mesa_history_spec.specs.mesa_span.declared.works.Work.TheVariants as work
+use Rattle.mesa_history_spec.specs.mesa_model.declared.commands.Command.{Command}
+use Rattle.mesa_history_spec.specs.mesa_model.declared.commands.Command.TheVariants as command
+use Rattle.mesa_history_spec.specs.mesa_lease.Book.{holder}
+use Rattle.mesa_history_spec.specs.mesa_schema.declared.recasts.RecastError.{RecastError}
+use Rattle.mesa_history_spec.specs.mesa_schema.Changes.{Lineage, epoch_of}
+use Rattle.mesa_history_spec.specs.mesa_schema.Recasts.{Recast, recast_checked}
+use Rattle.mesa_history_spec.proofs.mesa_schema.Passing.{passed_unless}
+use Rattle.mesa_history_spec.specs.mesa_model.declared.commands.ExplainWords.{ExplainWords}
+use Rattle.mesa_history_spec.specs.mesa_model.declared.commands.RecastWords.{RecastWords}
+use Rattle.mesa_history_spec.specs.mesa_model.declared.commands.Script.{Script}
+use Rattle.mesa_history_spec.specs.mesa_model.declared.entries.Entry.{Entry}
+use Rattle.mesa_history_spec.specs.mesa_model.declared.entries.Kind.{Kind}
+use Rattle.mesa_history_spec.specs.mesa_model.declared.entries.Kind.TheVariants as kind
+use Rattle.mesa_history_spec.specs.mesa_model.declared.entries.Outcome.{Outcome}
+use Rattle.mesa_history_spec.specs.mesa_model.declared.entries.Outcome.TheVariants as outcome
+use Rattle.mesa_history_spec.specs.mesa_model.declared.replies.Refusal.{Refusal}
+use Rattle.mesa_history_spec.specs.mesa_model.declared.replies.Refusal.TheVariants as no
+use Rattle.mesa_history_spec.specs.mesa_model.declared.replies.Reply.{Reply}
+use Rattle.mesa_history_spec.specs.mesa_model.declared.replies.Reply.TheVariants as reply
+use Rattle.mesa_history_spec.specs.mesa_model.Warehouse.{Store, newest_of, table_at}
+use Rattle.mesa_history_spec.specs.mesa_model.Query.{Answer, query_answer}
+use Rattle.mesa_history_spec.specs.mesa_model.Orders.{order_asked}
+use Rattle.mesa_history_spec.specs.mesa_model.Refusals.{recast_refusal, refuse_closed}
+use Rattle.mesa_history_spec.specs.mesa_model.Relations.{relation_of, table_number}
+use Rattle.mesa_history_spec.specs.mesa_model.Tables.{recast_asked, with_recast}
+use Rattle.mesa_history_spec.specs.mesa_model.Versions.{version_asked}
 use Rattle.mesa_history_spec.specs.Law.{Writing, Leaves, recast_at, recast_for, regroups, writing_by, writing_if_told}
 use Rattle.mesa_history_spec.specs.Machine.{Claim, Errand, Machine, Merges, Recasts, claim_checked, claim_ended, claim_merged, claim_of, explained, max_deltas, ranges_at, recast_claim_of, refuse_busy, singletons_of, still_checked, swapped_reply}
 use Rattle.mesa_history_spec.specs.Run.{Answered, CutOff, Finished, First, Granted, Looked, Renewed, Run, Stage, State, command_of, place_of}

@@ -5,45 +5,45 @@ use Rattle.std.specs.Prelude.{max}
 use Rattle.std.proofs.lemmas.Bool.{and_parts, eqb-true, leb-false, lt-ltb, ltb-false, ltb-true, or_cases, or_left}
 use Rattle.std.proofs.lemmas.List.{length-append, length-drop, length-map, length-replicate}
 use Rattle.std.proofs.lemmas.Option.{slice_get-get_or}
-use Rattle.mesa_schema.specs.declared.rows.Row.{Row}
-use Rattle.mesa_schema.specs.declared.changes.Change.{Change}
-use Rattle.mesa_schema.specs.Columns.{Columns, aggs_of}
-use Rattle.mesa_schema.specs.Changes.{change_checked, changed, columns_of, lifted_once, rule_checked}
-use Rattle.mesa_schema.specs.Folded.{folded, rows_of}
-use Rattle.mesa_schema.specs.Recasts.{Recast, recast_checked, recast_columns, recast_rows}
-use Rattle.mesa_schema.specs.Names.{repeated}
-use Rattle.mesa_schema.specs.Schema.{schema_checked}
-use Rattle.mesa_schema.specs.Lineages.{HasDefault}
-use Rattle.mesa_schema.specs.Rows.{AreRowsOf, IsRowOf}
-use Rattle.mesa_schema.proofs.Forms.{folded_form}
-use Rattle.mesa_schema.proofs.Passing.{passed_first, passed_if, passed_last}
-use Rattle.mesa_schema.proofs.Places.{place_named}
-use Rattle.mesa_batch.specs.declared.words.RowWords.{RowWords}
-use Rattle.mesa_batch.specs.Batch.{Placed, batch_of, rows_for}
-use Rattle.mesa_model.specs.declared.commands.Command.{Command}
-use Rattle.mesa_model.specs.declared.commands.Script.{Script}
-use Rattle.mesa_model.specs.declared.commands.TableWords.{TableWords}
-use Rattle.mesa_model.specs.declared.commands.ViewWords.{ViewWords}
-use Rattle.mesa_model.specs.declared.entries.Entry.{Entry}
-use Rattle.mesa_model.specs.Warehouse.{Store, Table, Warehouse, empty_warehouse, no_table, table_at}
-use Rattle.mesa_model.specs.Load.{newest_content, table_loaded, tables_loaded, tables_named}
-use Rattle.mesa_model.specs.Relations.{is_taken, table_number}
-use Rattle.mesa_model.specs.Step.{step}
-use Rattle.mesa_model.specs.Tables.{columns_asked, new_table, table_changed, table_recast, view_of_table_checked}
-use Rattle.mesa_model.specs.Versions.{common_oldest, oldest_among, store_from, table_from, version_checked}
-use Rattle.mesa_model.specs.WellFormed.{IsContent, IsTable, IsWellFormed, is_kept, relation_names}
+use Rattle.mesa_history_spec.specs.mesa_schema.declared.rows.Row.{Row}
+use Rattle.mesa_history_spec.specs.mesa_schema.declared.changes.Change.{Change}
+use Rattle.mesa_history_spec.specs.mesa_schema.Columns.{Columns, aggs_of}
+use Rattle.mesa_history_spec.specs.mesa_schema.Changes.{change_checked, changed, columns_of, lifted_once, rule_checked}
+use Rattle.mesa_history_spec.specs.mesa_schema.Folded.{folded, rows_of}
+use Rattle.mesa_history_spec.specs.mesa_schema.Recasts.{Recast, recast_checked, recast_columns, recast_rows}
+use Rattle.mesa_history_spec.specs.mesa_schema.Names.{repeated}
+use Rattle.mesa_history_spec.specs.mesa_schema.Schema.{schema_checked}
+use Rattle.mesa_history_spec.specs.mesa_schema.Lineages.{HasDefault}
+use Rattle.mesa_history_spec.specs.mesa_schema.Rows.{AreRowsOf, IsRowOf}
+use Rattle.mesa_history_spec.proofs.mesa_schema.Forms.{folded_form}
+use Rattle.mesa_history_spec.proofs.mesa_schema.Passing.{passed_first, passed_if, passed_last}
+use Rattle.mesa_history_spec.proofs.mesa_schema.Places.{place_named}
+use Rattle.mesa_history_spec.specs.mesa_batch.declared.words.RowWords.{RowWords}
+use Rattle.mesa_history_spec.specs.mesa_batch.Batch.{Placed, batch_of, rows_for}
+use Rattle.mesa_history_spec.specs.mesa_model.declared.commands.Command.{Command}
+use Rattle.mesa_history_spec.specs.mesa_model.declared.commands.Script.{Script}
+use Rattle.mesa_history_spec.specs.mesa_model.declared.commands.TableWords.{TableWords}
+use Rattle.mesa_history_spec.specs.mesa_model.declared.commands.ViewWords.{ViewWords}
+use Rattle.mesa_history_spec.specs.mesa_model.declared.entries.Entry.{Entry}
+use Rattle.mesa_history_spec.specs.mesa_model.Warehouse.{Store, Table, Warehouse, empty_warehouse, no_table, table_at}
+use Rattle.mesa_history_spec.specs.mesa_model.Load.{newest_content, table_loaded, tables_loaded, tables_named}
+use Rattle.mesa_history_spec.specs.mesa_model.Relations.{is_taken, table_number}
+use Rattle.mesa_history_spec.specs.mesa_model.Step.{step}
+use Rattle.mesa_history_spec.specs.mesa_model.Tables.{columns_asked, new_table, table_changed, table_recast, view_of_table_checked}
+use Rattle.mesa_history_spec.specs.mesa_model.Versions.{common_oldest, oldest_among, store_from, table_from, version_checked}
+use Rattle.mesa_history_spec.specs.mesa_model.WellFormed.{IsContent, IsTable, IsWellFormed, is_kept, relation_names}
 use Rattle.mesa_history_spec.specs.Run.{Run}
 use Rattle.mesa_history_spec.specs.Replay.{go, runs}
 use Rattle.mesa_history_laws.proofs.Batches.{batch_forms}
 use Rattle.mesa_history_laws.proofs.LawLoads.{got_loaded}
-use Rattle.mesa_schema.proofs.PresentRows.{columns_more, forms_more}
+use Rattle.mesa_history_spec.proofs.mesa_schema.PresentRows.{columns_more, forms_more}
 use Rattle.mesa_history_laws.proofs.Lineages.{change_default, lineage_viewed}
-use Rattle.mesa_schema.proofs.LineageChanges.{lineage_changed, lineage_new}
-use Rattle.mesa_schema.proofs.LineageRecasts.{lineage_recast}
-use Rattle.mesa_schema.proofs.Recasting.{recast_form, recast_rise}
-use Rattle.mesa_schema.proofs.Lists.{all_append, all_drop, all_from_got, all_got, all_map, all_replicate, all_set, all_so}
+use Rattle.mesa_history_spec.proofs.mesa_schema.LineageChanges.{lineage_changed, lineage_new}
+use Rattle.mesa_history_spec.proofs.mesa_schema.LineageRecasts.{lineage_recast}
+use Rattle.mesa_history_spec.proofs.mesa_schema.Recasting.{recast_form, recast_rise}
+use Rattle.mesa_history_spec.proofs.mesa_schema.Lists.{all_append, all_drop, all_from_got, all_got, all_map, all_replicate, all_set, all_so}
 use Rattle.mesa_history_laws.proofs.Moves.{Moves, step_moves, viewed}
-use Rattle.mesa_schema.proofs.RisingRows.{folded_rise, lifted_rise}
+use Rattle.mesa_history_spec.proofs.mesa_schema.RisingRows.{folded_rise, lifted_rise}
 use Rattle.mesa_history_laws.proofs.Recasts.{ok_is, recast_there}
 use Rattle.mesa_history_laws.proofs.RelationNames.{names_changed, names_loaded, names_mapped, names_pushed, names_set, names_viewed}
 use Rattle.mesa_history_laws.proofs.Turns.{go_moves}

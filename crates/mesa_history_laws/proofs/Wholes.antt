@@ -2,27 +2,27 @@
 use Rattle.std.proofs.Common.{◌≡◌, ℕ, zero, suc, ◌+◌, ◌-◌, ◌<◌, ◌≤◌, List, [], ◌∷◌, length, get_or, refl, ◌∙◌, ap, arith, Some, Result, Ok, Err, nat_le, inl, inr}
 use Rattle.std.proofs.lemmas.List.{get_or_append_left, get_or_push}
 use Rattle.std.proofs.lemmas.Option.{slice_get-get_or}
-use Rattle.mesa_schema.specs.declared.rows.Row.{Row}
-use Rattle.mesa_schema.specs.declared.views.View.{View}
-use Rattle.mesa_schema.specs.Columns.{aggs_of}
-use Rattle.mesa_schema.specs.Views.{view_key_places, view_value_places}
-use Rattle.mesa_schema.specs.Changes.{columns_of}
-use Rattle.mesa_schema.specs.Folded.{folded, grouped}
-use Rattle.mesa_batch.specs.declared.words.RowWords.{RowWords}
-use Rattle.mesa_batch.specs.Batch.{Placed, batch_of, rows_for}
-use Rattle.mesa_model.specs.declared.commands.Command.TheVariants as command
-use Rattle.mesa_model.specs.declared.replies.Refusal.{Refusal}
-use Rattle.mesa_model.specs.declared.replies.Reply.{Reply}
-use Rattle.mesa_model.specs.Relations.{relation_content}
-use Rattle.mesa_model.specs.Warehouse.{Table, Warehouse, content_at, max_versions, no_table, table_at}
-use Rattle.mesa_model.specs.WellFormed.{IsTable, IsWellFormed}
-use Rattle.mesa_model.specs.Load.{bounds_checked, load_batch, newest_content, table_loaded, tables_loaded, tables_named, with_batch}
-use Rattle.mesa_model.specs.Step.{done_or_refused, step}
-use Rattle.mesa_model.specs.Refusals.{refuse_closed}
+use Rattle.mesa_history_spec.specs.mesa_schema.declared.rows.Row.{Row}
+use Rattle.mesa_history_spec.specs.mesa_schema.declared.views.View.{View}
+use Rattle.mesa_history_spec.specs.mesa_schema.Columns.{aggs_of}
+use Rattle.mesa_history_spec.specs.mesa_schema.Views.{view_key_places, view_value_places}
+use Rattle.mesa_history_spec.specs.mesa_schema.Changes.{columns_of}
+use Rattle.mesa_history_spec.specs.mesa_schema.Folded.{folded, grouped}
+use Rattle.mesa_history_spec.specs.mesa_batch.declared.words.RowWords.{RowWords}
+use Rattle.mesa_history_spec.specs.mesa_batch.Batch.{Placed, batch_of, rows_for}
+use Rattle.mesa_history_spec.specs.mesa_model.declared.commands.Command.TheVariants as command
+use Rattle.mesa_history_spec.specs.mesa_model.declared.replies.Refusal.{Refusal}
+use Rattle.mesa_history_spec.specs.mesa_model.declared.replies.Reply.{Reply}
+use Rattle.mesa_history_spec.specs.mesa_model.Relations.{relation_content}
+use Rattle.mesa_history_spec.specs.mesa_model.Warehouse.{Table, Warehouse, content_at, max_versions, no_table, table_at}
+use Rattle.mesa_history_spec.specs.mesa_model.WellFormed.{IsTable, IsWellFormed}
+use Rattle.mesa_history_spec.specs.mesa_model.Load.{bounds_checked, load_batch, newest_content, table_loaded, tables_loaded, tables_named, with_batch}
+use Rattle.mesa_history_spec.specs.mesa_model.Step.{done_or_refused, step}
+use Rattle.mesa_history_spec.specs.mesa_model.Refusals.{refuse_closed}
 use Rattle.mesa_history_laws.specs.Whole.{HasBatch, HasWhole, IsWholeOrNone}
 use Rattle.mesa_history_laws.proofs.Checks.{after_check, after_other, after_refuse_if}
 use Rattle.mesa_history_laws.proofs.LawLoads.{length_loaded, newest_last}
-use Rattle.mesa_schema.proofs.Lists.{all_got}
+use Rattle.mesa_history_spec.proofs.mesa_schema.Lists.{all_got}
 use Rattle.mesa_history_laws.proofs.WellFormed.{kept_there}
 
 -- the table of a number after a load

@@ -1,23 +1,23 @@
 -- Answers over the contents that the fold law gives.
 use Rattle.std.specs.Prelude.{◌≡◌, ℕ, List, Option, Some, None, Ok}
-use Rattle.mesa_schema.specs.declared.rows.Row.{Row}
-use Rattle.mesa_schema.specs.declared.views.View.{View}
-use Rattle.mesa_schema.specs.Columns.{Columns}
-use Rattle.mesa_schema.specs.Changes.{columns_of, epoch_of}
-use Rattle.mesa_schema.specs.Views.{view_rows}
-use Rattle.mesa_filter.specs.declared.words.QueryWords.{QueryWords}
-use Rattle.mesa_filter.specs.declared.words.VersionWord.{VersionWord}
-use Rattle.mesa_filter.specs.declared.words.VersionWord.TheVariants as asks
-use Rattle.mesa_filter.specs.Asked.{Asked, asked_of}
-use Rattle.mesa_filter.specs.Resume.{resume_of}
-use Rattle.mesa_model.specs.declared.commands.Script.{Script}
-use Rattle.mesa_model.specs.declared.entries.Entry.{Entry}
-use Rattle.mesa_model.specs.Warehouse.{Pin, Store, Table}
-use Rattle.mesa_model.specs.Versions.{version_asked}
-use Rattle.mesa_model.specs.Pins.{pin_of}
-use Rattle.mesa_model.specs.Page.{page_of}
-use Rattle.mesa_model.specs.Relations.{Relation, relation_columns, relation_of}
-use Rattle.mesa_model.specs.Query.{Answer, answer_rows, heading_of}
+use Rattle.mesa_history_spec.specs.mesa_schema.declared.rows.Row.{Row}
+use Rattle.mesa_history_spec.specs.mesa_schema.declared.views.View.{View}
+use Rattle.mesa_history_spec.specs.mesa_schema.Columns.{Columns}
+use Rattle.mesa_history_spec.specs.mesa_schema.Changes.{columns_of, epoch_of}
+use Rattle.mesa_history_spec.specs.mesa_schema.Views.{view_rows}
+use Rattle.mesa_history_spec.specs.mesa_filter.declared.words.QueryWords.{QueryWords}
+use Rattle.mesa_history_spec.specs.mesa_filter.declared.words.VersionWord.{VersionWord}
+use Rattle.mesa_history_spec.specs.mesa_filter.declared.words.VersionWord.TheVariants as asks
+use Rattle.mesa_history_spec.specs.mesa_filter.Asked.{Asked, asked_of}
+use Rattle.mesa_history_spec.specs.mesa_filter.Resume.{resume_of}
+use Rattle.mesa_history_spec.specs.mesa_model.declared.commands.Script.{Script}
+use Rattle.mesa_history_spec.specs.mesa_model.declared.entries.Entry.{Entry}
+use Rattle.mesa_history_spec.specs.mesa_model.Warehouse.{Pin, Store, Table}
+use Rattle.mesa_history_spec.specs.mesa_model.Versions.{version_asked}
+use Rattle.mesa_history_spec.specs.mesa_model.Pins.{pin_of}
+use Rattle.mesa_history_spec.specs.mesa_model.Page.{page_of}
+use Rattle.mesa_history_spec.specs.mesa_model.Relations.{Relation, relation_columns, relation_of}
+use Rattle.mesa_history_spec.specs.mesa_model.Query.{Answer, answer_rows, heading_of}
 use Rattle.mesa_history_spec.specs.Law.{law_content}
 use Rattle.mesa_history_spec.specs.Run.{State}
 use Rattle.mesa_history_laws.specs.Given.{WasGiven, warehouse_after}

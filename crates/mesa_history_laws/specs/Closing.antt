@@ -1,12 +1,12 @@
 -- The close of a recast.
 use Rattle.std.specs.Prelude.{◌≡◌, ℕ, List, ◌⊎◌}
-use Rattle.mesa_list.specs.Checks.{refused_as}
-use Rattle.mesa_schema.specs.Changes.{Lineage, epoch_of}
-use Rattle.mesa_schema.specs.Recasts.{Recast, views_kept}
-use Rattle.mesa_model.specs.declared.commands.Script.{Script}
-use Rattle.mesa_model.specs.declared.entries.Entry.{Entry}
-use Rattle.mesa_model.specs.Refusals.{recast_refusal}
-use Rattle.mesa_model.specs.Warehouse.{table_at}
+use Rattle.mesa_history_spec.specs.mesa_list.Checks.{refused_as}
+use Rattle.mesa_history_spec.specs.mesa_schema.Changes.{Lineage, epoch_of}
+use Rattle.mesa_history_spec.specs.mesa_schema.Recasts.{Recast, views_kept}
+use Rattle.mesa_history_spec.specs.mesa_model.declared.commands.Script.{Script}
+use Rattle.mesa_history_spec.specs.mesa_model.declared.entries.Entry.{Entry}
+use Rattle.mesa_history_spec.specs.mesa_model.Refusals.{recast_refusal}
+use Rattle.mesa_history_spec.specs.mesa_model.Warehouse.{table_at}
 use Rattle.mesa_history_spec.specs.Claims.{HasRanges}
 use Rattle.mesa_history_spec.specs.Machine.{Claim, Recasts, still_checked}
 use Rattle.mesa_history_spec.specs.Replay.{runs}

@@ -1,11 +1,11 @@
 -- Pins that a history gave.
 use Rattle.std.specs.Prelude.{◌≡◌, ◌<◌, ◌≤◌, List, ◌∷◌, ◌++◌, Some}
-use Rattle.mesa_model.specs.declared.commands.Script.{Script}
-use Rattle.mesa_model.specs.declared.entries.Entry.{Entry}
-use Rattle.mesa_model.specs.declared.replies.Reply.TheVariants as reply
-use Rattle.mesa_model.specs.Warehouse.{Pin, Warehouse}
-use Rattle.mesa_model.specs.Pins.{store_at}
-use Rattle.mesa_model.specs.Versions.{common_oldest}
+use Rattle.mesa_history_spec.specs.mesa_model.declared.commands.Script.{Script}
+use Rattle.mesa_history_spec.specs.mesa_model.declared.entries.Entry.{Entry}
+use Rattle.mesa_history_spec.specs.mesa_model.declared.replies.Reply.TheVariants as reply
+use Rattle.mesa_history_spec.specs.mesa_model.Warehouse.{Pin, Warehouse}
+use Rattle.mesa_history_spec.specs.mesa_model.Pins.{store_at}
+use Rattle.mesa_history_spec.specs.mesa_model.Versions.{common_oldest}
 use Rattle.mesa_history_spec.specs.Run.{State, Told, begins}
 use Rattle.mesa_history_spec.specs.Replay.{runs, told_by}
 

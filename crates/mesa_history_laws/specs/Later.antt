@@ -1,11 +1,11 @@
 -- Tables and relations later on.
 use Rattle.std.specs.Prelude.{◌≡◌, ℕ, ◌<◌, ◌≤◌, List, ◌++◌, Option, None, IfSome, option_map}
-use Rattle.mesa_schema.specs.declared.views.View.{View}
-use Rattle.mesa_schema.specs.Changes.{columns_of, epoch_of}
-use Rattle.mesa_model.specs.declared.commands.Script.{Script}
-use Rattle.mesa_model.specs.declared.entries.Entry.{Entry}
-use Rattle.mesa_model.specs.Warehouse.{Store, Table, Warehouse, content_at}
-use Rattle.mesa_model.specs.Relations.{relation_of}
+use Rattle.mesa_history_spec.specs.mesa_schema.declared.views.View.{View}
+use Rattle.mesa_history_spec.specs.mesa_schema.Changes.{columns_of, epoch_of}
+use Rattle.mesa_history_spec.specs.mesa_model.declared.commands.Script.{Script}
+use Rattle.mesa_history_spec.specs.mesa_model.declared.entries.Entry.{Entry}
+use Rattle.mesa_history_spec.specs.mesa_model.Warehouse.{Store, Table, Warehouse, content_at}
+use Rattle.mesa_history_spec.specs.mesa_model.Relations.{relation_of}
 use Rattle.mesa_history_spec.specs.Run.{Run}
 use Rattle.mesa_history_spec.specs.Replay.{runs}
 use Rattle.mesa_history_laws.specs.Pages.{Asking}

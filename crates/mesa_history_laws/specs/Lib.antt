@@ -1,4 +1,3 @@
-pub use Rattle.mesa_history_spec.specs as mesa_history_spec
 pub mod Answers
 pub mod Given
 pub mod Later

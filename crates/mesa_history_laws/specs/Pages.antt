@@ -1,13 +1,13 @@
 -- Pages of one answer that are asked for one after another.
 use Rattle.std.specs.Prelude.{IsTrue, ◌≡◌, ◌<◌, length, ℕ, replicate, List, [], ◌∷◌, ◌++◌, flat_map, Option, Some, None, Ok, Err}
-use Rattle.mesa_schema.specs.declared.rows.Row.{Row}
-use Rattle.mesa_filter.specs.Hex.{hex_of}
-use Rattle.mesa_filter.specs.declared.words.QueryWords.{QueryWords}
-use Rattle.mesa_model.specs.declared.replies.Page.{Page}
-use Rattle.mesa_model.specs.Warehouse.{Warehouse}
-use Rattle.mesa_schema.specs.Rows.{keys_rise}
-use Rattle.mesa_model.specs.Query.{Answer, query_answer}
-use Rattle.mesa_model.specs.Page.{page_of, rows_after}
+use Rattle.mesa_history_spec.specs.mesa_schema.declared.rows.Row.{Row}
+use Rattle.mesa_history_spec.specs.mesa_filter.Hex.{hex_of}
+use Rattle.mesa_history_spec.specs.mesa_filter.declared.words.QueryWords.{QueryWords}
+use Rattle.mesa_history_spec.specs.mesa_model.declared.replies.Page.{Page}
+use Rattle.mesa_history_spec.specs.mesa_model.Warehouse.{Warehouse}
+use Rattle.mesa_history_spec.specs.mesa_schema.Rows.{keys_rise}
+use Rattle.mesa_history_spec.specs.mesa_model.Query.{Answer, query_answer}
+use Rattle.mesa_history_spec.specs.mesa_model.Page.{page_of, rows_after}
 
 -- The pages that come of asking with these limits one after another: each after the resume key that the page before it gave, until one gives none.
 abbrev pub pages_from : ℕ → List Row → Option (List ℕ) → List ℕ → List Page

@@ -1,9 +1,9 @@
 -- Versions that outlive an expiry.
 use Rattle.std.specs.Prelude.{ℕ, List, Bool, true, false, ◌==◌, not, nat_le, Option, Some, None}
-use Rattle.mesa_filter.specs.declared.words.VersionWord.{VersionWord}
-use Rattle.mesa_filter.specs.declared.words.VersionWord.TheVariants as asks
-use Rattle.mesa_model.specs.Warehouse.{Store}
-use Rattle.mesa_model.specs.Relations.{Relation, relation_of, table_number}
+use Rattle.mesa_history_spec.specs.mesa_filter.declared.words.VersionWord.{VersionWord}
+use Rattle.mesa_history_spec.specs.mesa_filter.declared.words.VersionWord.TheVariants as asks
+use Rattle.mesa_history_spec.specs.mesa_model.Warehouse.{Store}
+use Rattle.mesa_history_spec.specs.mesa_model.Relations.{Relation, relation_of, table_number}
 
 -- whether a version is still one to ask for once those below the oldest are let go: the newest and a pin's always are
 abbrev pub outlives : ℕ → VersionWord → Bool

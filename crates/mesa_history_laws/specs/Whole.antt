@@ -1,14 +1,14 @@
 -- A batch is seen whole: in all tables at once, or in none.
 use Rattle.std.specs.Prelude.{◌≡◌, ℕ, ◌+◌, ◌-◌, ◌<◌, ◌≤◌, List, [], ◌∷◌, length, Ok}
-use Rattle.mesa_schema.specs.Columns.{aggs_of}
-use Rattle.mesa_schema.specs.Changes.{columns_of}
-use Rattle.mesa_schema.specs.Folded.{folded}
-use Rattle.mesa_batch.specs.declared.words.RowWords.{RowWords}
-use Rattle.mesa_batch.specs.Batch.{Placed, batch_of, rows_for}
-use Rattle.mesa_model.specs.declared.replies.Reply.{Reply}
-use Rattle.mesa_model.specs.declared.replies.Reply.TheVariants as reply
-use Rattle.mesa_model.specs.Warehouse.{Warehouse, content_at, table_at}
-use Rattle.mesa_model.specs.Load.{tables_named}
+use Rattle.mesa_history_spec.specs.mesa_schema.Columns.{aggs_of}
+use Rattle.mesa_history_spec.specs.mesa_schema.Changes.{columns_of}
+use Rattle.mesa_history_spec.specs.mesa_schema.Folded.{folded}
+use Rattle.mesa_history_spec.specs.mesa_batch.declared.words.RowWords.{RowWords}
+use Rattle.mesa_history_spec.specs.mesa_batch.Batch.{Placed, batch_of, rows_for}
+use Rattle.mesa_history_spec.specs.mesa_model.declared.replies.Reply.{Reply}
+use Rattle.mesa_history_spec.specs.mesa_model.declared.replies.Reply.TheVariants as reply
+use Rattle.mesa_history_spec.specs.mesa_model.Warehouse.{Warehouse, content_at, table_at}
+use Rattle.mesa_history_spec.specs.mesa_model.Load.{tables_named}
 
 -- A table's contents after a batch: at the new version the fold of the newest content and of the batch's rows of the table, at the versions before it what was there; its name, columns, views and oldest version stay.
 pub record HasBatch (w : Warehouse) (batch : List Placed) (after : Warehouse) (number : ℕ) : Type 0 where

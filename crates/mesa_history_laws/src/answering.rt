@@ -1,17 +1,17 @@
 // Laws of answers.
 ghost use Rattle.std.specs.Prelude.{◌≡◌, ℕ, List, [], Some, Ok};
-ghost use Rattle.mesa_filter.specs.declared.words.QueryWords.{QueryWords};
+ghost use Rattle.mesa_history_spec.specs.mesa_filter.declared.words.QueryWords.{QueryWords};
 ghost use Rattle.mesa_history_spec.specs.Replay.{runs, told_by};
 ghost use Rattle.mesa_history_spec.specs.Run.{State, Told, begins};
 ghost use Rattle.mesa_history_laws.specs.Answers.{IsFromItsVersion};
 ghost use Rattle.mesa_history_laws.specs.Given.{warehouse_after};
 ghost use Rattle.mesa_history_laws.specs.Printed.{IsPrintedFromTheFold};
-ghost use Rattle.mesa_model.specs.Query.{Answer, query_answer};
-ghost use Rattle.mesa_model.specs.WellFormed.{IsWellFormed};
-ghost use Rattle.mesa_model.specs.declared.commands.Script.{Script};
-ghost use Rattle.mesa_model.specs.declared.entries.Entry.{Entry};
-ghost use Rattle.mesa_model.specs.declared.replies.Page.{Page};
-ghost use Rattle.mesa_model.specs.declared.replies.Reply.TheVariants as reply;
+ghost use Rattle.mesa_history_spec.specs.mesa_model.Query.{Answer, query_answer};
+ghost use Rattle.mesa_history_spec.specs.mesa_model.WellFormed.{IsWellFormed};
+ghost use Rattle.mesa_history_spec.specs.mesa_model.declared.commands.Script.{Script};
+ghost use Rattle.mesa_history_spec.specs.mesa_model.declared.entries.Entry.{Entry};
+ghost use Rattle.mesa_history_spec.specs.mesa_model.declared.replies.Page.{Page};
+ghost use Rattle.mesa_history_spec.specs.mesa_model.declared.replies.Reply.TheVariants as reply;
 
 /// From a well-formed start without pins and after any history, whatever a query is answered is the
 /// page that it asks for of the fold of the batches accepted until then, filtered and grouped; by a

@@ -4,12 +4,12 @@ ghost use Rattle.mesa_history_spec.specs.Law.{FoldLaw, RangesStay};
 ghost use Rattle.mesa_history_laws.specs.Closing.{RecastsCloseByViews};
 ghost use Rattle.mesa_history_spec.specs.Replay.{go, runs};
 ghost use Rattle.mesa_history_spec.specs.Run.{Run};
-ghost use Rattle.mesa_model.specs.declared.commands.Command.{Command};
-ghost use Rattle.mesa_model.specs.declared.commands.Script.{Script};
-ghost use Rattle.mesa_model.specs.declared.entries.Entry.{Entry};
-ghost use Rattle.mesa_model.specs.Step.{step};
-ghost use Rattle.mesa_model.specs.Warehouse.{Warehouse, empty_warehouse};
-ghost use Rattle.mesa_model.specs.WellFormed.{IsWellFormed};
+ghost use Rattle.mesa_history_spec.specs.mesa_model.declared.commands.Command.{Command};
+ghost use Rattle.mesa_history_spec.specs.mesa_model.declared.commands.Script.{Script};
+ghost use Rattle.mesa_history_spec.specs.mesa_model.declared.entries.Entry.{Entry};
+ghost use Rattle.mesa_history_spec.specs.mesa_model.Step.{step};
+ghost use Rattle.mesa_history_spec.specs.mesa_model.Warehouse.{Warehouse, empty_warehouse};
+ghost use Rattle.mesa_history_spec.specs.mesa_model.WellFormed.{IsWellFormed};
 
 /// From a well-formed start every history leaves each content as the fold of what stood at the
 /// start and of the batches accepted since, each carried to the present: lifted through the changes

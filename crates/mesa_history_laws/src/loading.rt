@@ -1,24 +1,24 @@
 // Laws of batches.
 ghost use Rattle.std.specs.Prelude.{◌≡◌, ℕ, ◌+◌, List, [], length, Some};
-ghost use Rattle.mesa_batch.specs.declared.words.RowWords.{RowWords};
+ghost use Rattle.mesa_history_spec.specs.mesa_batch.declared.words.RowWords.{RowWords};
 ghost use Rattle.mesa_history_spec.specs.Law.{written_in};
 ghost use Rattle.mesa_history_spec.specs.Replay.{runs};
 ghost use Rattle.mesa_history_spec.specs.Run.{Run};
 ghost use Rattle.mesa_history_laws.specs.Whole.{IsWholeOrNone};
-ghost use Rattle.mesa_model.specs.declared.commands.Command.{Command};
-ghost use Rattle.mesa_model.specs.declared.commands.Command.TheVariants as command;
-ghost use Rattle.mesa_model.specs.declared.commands.Script.{Script};
-ghost use Rattle.mesa_model.specs.declared.entries.Entry.{Entry};
-ghost use Rattle.mesa_model.specs.declared.replies.Refusal.{Refusal};
-ghost use Rattle.mesa_model.specs.declared.replies.Reply.TheVariants as reply;
-ghost use Rattle.mesa_model.specs.Relations.{relation_content};
-ghost use Rattle.mesa_model.specs.Step.{step};
-ghost use Rattle.mesa_model.specs.Warehouse.{Table, Warehouse, content_at};
-ghost use Rattle.mesa_model.specs.WellFormed.{IsWellFormed};
-ghost use Rattle.mesa_schema.specs.Changes.{columns_of};
-ghost use Rattle.mesa_schema.specs.Folded.{grouped};
-ghost use Rattle.mesa_schema.specs.Views.{view_key_places, view_value_places};
-ghost use Rattle.mesa_schema.specs.declared.views.View.{View};
+ghost use Rattle.mesa_history_spec.specs.mesa_model.declared.commands.Command.{Command};
+ghost use Rattle.mesa_history_spec.specs.mesa_model.declared.commands.Command.TheVariants as command;
+ghost use Rattle.mesa_history_spec.specs.mesa_model.declared.commands.Script.{Script};
+ghost use Rattle.mesa_history_spec.specs.mesa_model.declared.entries.Entry.{Entry};
+ghost use Rattle.mesa_history_spec.specs.mesa_model.declared.replies.Refusal.{Refusal};
+ghost use Rattle.mesa_history_spec.specs.mesa_model.declared.replies.Reply.TheVariants as reply;
+ghost use Rattle.mesa_history_spec.specs.mesa_model.Relations.{relation_content};
+ghost use Rattle.mesa_history_spec.specs.mesa_model.Step.{step};
+ghost use Rattle.mesa_history_spec.specs.mesa_model.Warehouse.{Table, Warehouse, content_at};
+ghost use Rattle.mesa_history_spec.specs.mesa_model.WellFormed.{IsWellFormed};
+ghost use Rattle.mesa_history_spec.specs.mesa_schema.Changes.{columns_of};
+ghost use Rattle.mesa_history_spec.specs.mesa_schema.Folded.{grouped};
+ghost use Rattle.mesa_history_spec.specs.mesa_schema.Views.{view_key_places, view_value_places};
+ghost use Rattle.mesa_history_spec.specs.mesa_schema.declared.views.View.{View};
 
 /// A load adds its batch to all tables at once, or to none, and there are as many versions more as
 /// batches were accepted, which are written of every table; whatever is refused changes nothing; and

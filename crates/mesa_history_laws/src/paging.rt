@@ -1,22 +1,22 @@
 // Laws of pages.
 ghost use Rattle.std.specs.Prelude.{◌≡◌, ℕ, ◌<◌, ◌++◌, List, [], drop, length, Option, Some, None, Ok, nat_lt, IsTrue};
 ghost use Rattle.std.specs.List.{AllByRecursion, list_all};
-ghost use Rattle.mesa_filter.specs.Asked.{Asked};
-ghost use Rattle.mesa_filter.specs.declared.words.QueryWords.{QueryWords};
-ghost use Rattle.mesa_filter.specs.declared.words.VersionWord.TheVariants as asks;
+ghost use Rattle.mesa_history_spec.specs.mesa_filter.Asked.{Asked};
+ghost use Rattle.mesa_history_spec.specs.mesa_filter.declared.words.QueryWords.{QueryWords};
+ghost use Rattle.mesa_history_spec.specs.mesa_filter.declared.words.VersionWord.TheVariants as asks;
 ghost use Rattle.mesa_history_spec.specs.Run.{Run, State};
 ghost use Rattle.mesa_history_laws.specs.Later.{IsLaterPlace};
 ghost use Rattle.mesa_history_laws.specs.Given.{warehouse_after};
 ghost use Rattle.mesa_history_laws.specs.Pages.{ArePagesOf, Asking, IsWholeAnswer, from_first, pages_asked, pages_asked_at, pages_from, rows_left, rows_of_pages};
-ghost use Rattle.mesa_model.specs.declared.commands.Script.{Script};
-ghost use Rattle.mesa_model.specs.declared.entries.Entry.{Entry};
-ghost use Rattle.mesa_model.specs.Page.{page_of, rows_after};
-ghost use Rattle.mesa_model.specs.Query.{Answer, answer_rows, query_answer};
-ghost use Rattle.mesa_model.specs.Warehouse.{Warehouse};
-ghost use Rattle.mesa_schema.specs.Rows.{keys_rise};
-ghost use Rattle.mesa_model.specs.WellFormed.{IsWellFormed};
-ghost use Rattle.mesa_schema.specs.Columns.{Columns};
-ghost use Rattle.mesa_schema.specs.declared.rows.Row.{Row};
+ghost use Rattle.mesa_history_spec.specs.mesa_model.declared.commands.Script.{Script};
+ghost use Rattle.mesa_history_spec.specs.mesa_model.declared.entries.Entry.{Entry};
+ghost use Rattle.mesa_history_spec.specs.mesa_model.Page.{page_of, rows_after};
+ghost use Rattle.mesa_history_spec.specs.mesa_model.Query.{Answer, answer_rows, query_answer};
+ghost use Rattle.mesa_history_spec.specs.mesa_model.Warehouse.{Warehouse};
+ghost use Rattle.mesa_history_spec.specs.mesa_schema.Rows.{keys_rise};
+ghost use Rattle.mesa_history_spec.specs.mesa_model.WellFormed.{IsWellFormed};
+ghost use Rattle.mesa_history_spec.specs.mesa_schema.Columns.{Columns};
+ghost use Rattle.mesa_history_spec.specs.mesa_schema.declared.rows.Row.{Row};
 
 /// Pages of one answer, each asked for after the resume key of the page before it, are consecutive
 /// parts of the answer's rows, and no row comes twice. A limit of 0 would skip a row whose key has

@@ -1,18 +1,18 @@
 // Laws of versions.
 ghost use Rattle.std.specs.Prelude.{◌≡◌, ℕ, List, Option, Some, Ok, slice_get, IsTrue};
-ghost use Rattle.mesa_filter.specs.declared.words.QueryWords.{QueryWords};
-ghost use Rattle.mesa_filter.specs.declared.words.VersionWord.TheVariants as asks;
+ghost use Rattle.mesa_history_spec.specs.mesa_filter.declared.words.QueryWords.{QueryWords};
+ghost use Rattle.mesa_history_spec.specs.mesa_filter.declared.words.VersionWord.TheVariants as asks;
 ghost use Rattle.mesa_history_spec.specs.Replay.{runs};
 ghost use Rattle.mesa_history_spec.specs.Run.{Run};
 ghost use Rattle.mesa_history_laws.specs.Later.{IsLater, IsStillThere};
 ghost use Rattle.mesa_history_laws.specs.Versions.{is_of_another, outlives};
-ghost use Rattle.mesa_model.specs.declared.commands.Command.TheVariants as command;
-ghost use Rattle.mesa_model.specs.declared.commands.Script.{Script};
-ghost use Rattle.mesa_model.specs.declared.entries.Entry.{Entry};
-ghost use Rattle.mesa_model.specs.Query.{Answer, query_answer};
-ghost use Rattle.mesa_model.specs.Step.{step};
-ghost use Rattle.mesa_model.specs.Warehouse.{Table, Warehouse};
-ghost use Rattle.mesa_model.specs.WellFormed.{IsWellFormed};
+ghost use Rattle.mesa_history_spec.specs.mesa_model.declared.commands.Command.TheVariants as command;
+ghost use Rattle.mesa_history_spec.specs.mesa_model.declared.commands.Script.{Script};
+ghost use Rattle.mesa_history_spec.specs.mesa_model.declared.entries.Entry.{Entry};
+ghost use Rattle.mesa_history_spec.specs.mesa_model.Query.{Answer, query_answer};
+ghost use Rattle.mesa_history_spec.specs.mesa_model.Step.{step};
+ghost use Rattle.mesa_history_spec.specs.mesa_model.Warehouse.{Table, Warehouse};
+ghost use Rattle.mesa_history_spec.specs.mesa_model.WellFormed.{IsWellFormed};
 
 /// Letting old versions go, of one table or of all, changes no session's answer at a version that
 /// stays: the newest one, one that isn't below the new oldest, or a pin's. Where one table lets them

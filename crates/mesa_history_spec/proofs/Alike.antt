@@ -2,18 +2,18 @@
 use Rattle.std.proofs.Common.{◌≡◌, ℕ, List, [], ◌∷◌, Bool, true, false, not, ◌&&◌, ◌||◌, ◌==◌, refl, sym, ◌∙◌, ap, subst, Option, Some, None, IsTrue, is_some, is_none, is_ok}
 use Rattle.std.specs.Prelude.{option_map, if◌then◌else◌}
 use Rattle.std.specs.List.{list_all}
-use Rattle.mesa_history_spec.specs.mesa_schema.Changes.{columns_of}
-use Rattle.mesa_history_spec.specs.mesa_batch.Batch.{Named, batch_of}
-use Rattle.mesa_history_spec.specs.mesa_model.Warehouse.{Table, Store}
-use Rattle.mesa_history_spec.specs.mesa_model.Load.{tables_named}
-use Rattle.mesa_history_spec.specs.mesa_model.declared.commands.Command.{Command}
-use Rattle.mesa_history_spec.specs.mesa_model.declared.commands.Command.TheVariants as command
-use Rattle.mesa_history_spec.specs.mesa_model.declared.commands.Script.{Script}
-use Rattle.mesa_history_spec.specs.mesa_model.declared.entries.Entry.{Entry}
-use Rattle.mesa_history_spec.specs.mesa_model.declared.entries.Kind.{Kind}
-use Rattle.mesa_history_spec.specs.mesa_model.declared.entries.Kind.TheVariants as kind
-use Rattle.mesa_history_spec.specs.mesa_model.declared.replies.Reply.{Reply}
-use Rattle.mesa_history_spec.specs.mesa_model.declared.replies.Reply.TheVariants as reply
+use Rattle.mesa_script.specs.mesa_schema.Changes.{columns_of}
+use Rattle.mesa_script.specs.mesa_batch.Batch.{Named, batch_of}
+use Rattle.mesa_script.specs.mesa_model.Warehouse.{Table, Store}
+use Rattle.mesa_script.specs.mesa_model.Load.{tables_named}
+use Rattle.mesa_script.specs.mesa_model.declared.commands.Command.{Command}
+use Rattle.mesa_script.specs.mesa_model.declared.commands.Command.TheVariants as command
+use Rattle.mesa_script.specs.mesa_model.declared.commands.Script.{Script}
+use Rattle.mesa_script.specs.mesa_model.declared.entries.Entry.{Entry}
+use Rattle.mesa_script.specs.mesa_model.declared.entries.Kind.{Kind}
+use Rattle.mesa_script.specs.mesa_model.declared.entries.Kind.TheVariants as kind
+use Rattle.mesa_script.specs.mesa_model.declared.replies.Reply.{Reply}
+use Rattle.mesa_script.specs.mesa_model.declared.replies.Reply.TheVariants as reply
 use Rattle.mesa_history_spec.specs.Run.{State, Stage, First, Looked, Answered, Granted, Renewed, Finished, CutOff, Place, Told, Last, Silent, Printed, Skipped, Run, place_of, command_of, begins}
 use Rattle.mesa_history_spec.specs.Replay.{Turned, closes, stood, is_later, turned, told_by, is_skipped, after, with_place, place_after, last_of, go, runs}
 use Rattle.mesa_history_spec.specs.Legal.{same_kind, is_stands, Fits, AllFit, IsLegal, ends_well, fits_moment, fits_sink, is_answered, is_complete, is_cut_off, is_due, is_due_at, is_due_of, is_unrenewed, is_written, wrote, sessions_of, fits_renewal, is_unread, is_unwritten, is_same_moment, would_write, builds_files, builds_files_in}

@@ -1,7 +1,7 @@
 -- Checks of two kinds side by side, and lists of which each element loses its rows.
 use Rattle.std.proofs.Common.{◌≡◌, ℕ, zero, suc, List, [], ◌∷◌, ◌++◌, map, length, Bool, true, false, refl, sym, ◌∙◌, ap, Option, Some, None, option_map, Result, Ok, Err, ok_or, set, get_or, filter, find, cond, is_some}
-use Rattle.mesa_list.specs.Checks.{◌>>=◌, ◌>>◌}
-use Rattle.mesa_history_spec.specs.mesa_model.declared.replies.Refusal.{Refusal}
+use Rattle.mesa_script.specs.mesa_list.Checks.{◌>>=◌, ◌>>◌}
+use Rattle.mesa_script.specs.mesa_model.declared.replies.Refusal.{Refusal}
 use Rattle.mesa_history_spec.specs.Bare.{bare_result}
 
 module _ {B C E : Type 0} (F : Result B E → C) where

@@ -1,46 +1,46 @@
 -- Each command does the same to a warehouse without rows.
 use Rattle.std.proofs.Common.{◌≡◌, ℕ, ◌+◌, List, [], ◌∷◌, ◌++◌, map, length, Bool, true, false, refl, sym, ◌∙◌, ap, Option, Some, None, option_map, Result, Ok, Err, ok_or, set, filter, find, is_some, is_none, nat_le, nat_lt, not}
 use Rattle.std.specs.Prelude.{if◌then◌else◌, max}
-use Rattle.mesa_list.specs.Bytes.{same_bytes}
-use Rattle.mesa_list.specs.Checks.{◌>>=◌, ◌>>◌, refuse_if, refuse_unless, refused_as}
-use Rattle.mesa_history_spec.specs.mesa_schema.declared.views.View.{View}
-use Rattle.mesa_history_spec.specs.mesa_schema.Names.{is_name}
-use Rattle.mesa_history_spec.specs.mesa_schema.Columns.{place_of}
-use Rattle.mesa_history_spec.specs.mesa_schema.Schema.{schema_checked}
-use Rattle.mesa_history_spec.specs.mesa_schema.Changes.{Lineage, columns_of, epoch_of, change_checked}
-use Rattle.mesa_history_spec.specs.mesa_schema.Recasts.{Recast, recast_checked}
-use Rattle.mesa_history_spec.specs.mesa_batch.declared.words.RowWords.{RowWords}
-use Rattle.mesa_history_spec.specs.mesa_batch.Batch.{Named, Placed, batch_of, rows_for}
-use Rattle.mesa_history_spec.specs.mesa_filter.declared.words.QueryWords.{QueryWords}
-use Rattle.mesa_history_spec.specs.mesa_filter.declared.words.VersionWord.{VersionWord}
-use Rattle.mesa_history_spec.specs.mesa_filter.declared.words.VersionWord.TheVariants as asks
-use Rattle.mesa_history_spec.specs.mesa_filter.Asked.{asked_of}
-use Rattle.mesa_history_spec.specs.mesa_filter.Resume.{resume_of}
-use Rattle.mesa_history_spec.specs.mesa_model.declared.commands.TableWords.{TableWords}
-use Rattle.mesa_history_spec.specs.mesa_model.declared.commands.ViewWords.{ViewWords}
-use Rattle.mesa_history_spec.specs.mesa_model.declared.commands.AlterWords.{AlterWords}
-use Rattle.mesa_history_spec.specs.mesa_model.declared.commands.ExplainWords.{ExplainWords}
-use Rattle.mesa_history_spec.specs.mesa_model.declared.commands.RecastWords.{RecastWords}
-use Rattle.mesa_history_spec.specs.mesa_model.declared.commands.Command.{Command}
-use Rattle.mesa_history_spec.specs.mesa_model.declared.commands.Command.TheVariants as command
-use Rattle.mesa_history_spec.specs.mesa_model.declared.replies.Refusal.{Refusal}
-use Rattle.mesa_history_spec.specs.mesa_model.declared.replies.Refusal.TheVariants as no
-use Rattle.mesa_history_spec.specs.mesa_model.declared.replies.Reply.{Reply}
-use Rattle.mesa_history_spec.specs.mesa_model.declared.replies.Reply.TheVariants as reply
-use Rattle.mesa_history_spec.specs.mesa_model.Warehouse.{Table, Store, Pin, Warehouse, max_pins, max_tables, max_versions, newest_of, no_table, table_at}
-use Rattle.mesa_history_spec.specs.mesa_model.Refusals.{refuse_closed, no_such_table, query_refusal, batch_refusal, schema_refusal, change_refusal, recast_refusal}
-use Rattle.mesa_history_spec.specs.mesa_model.Relations.{Relation, relation_from, relation_of, relation_columns, is_taken, table_number}
-use Rattle.mesa_history_spec.specs.mesa_model.Orders.{order_asked}
-use Rattle.mesa_history_spec.specs.mesa_model.Versions.{common_oldest, oldest_among, version_asked, version_checked, table_from, expire_all, expire_table, expire_to}
-use Rattle.mesa_history_spec.specs.mesa_model.Pins.{is_pin, pin_of, next_token, table_pinned, store_at, make_pin, release_pin}
-use Rattle.mesa_history_spec.specs.mesa_model.Load.{tables_named, bound_checked, bounds_checked, table_loaded, tables_loaded, load_batch}
-use Rattle.mesa_history_spec.specs.mesa_model.Tables.{columns_asked, names_are_good, new_table, make_table, view_of_table_checked, make_view, change_asked, changed_name, table_changed, alter_table, recast_asked, recast_reply, recast_table, table_recast, with_recast}
-use Rattle.mesa_history_spec.specs.mesa_model.Query.{Answer, store_asked, version_seen, query_answer}
-use Rattle.mesa_history_spec.specs.mesa_model.Step.{done_or_refused, nothing_done, reply_to_query, step}
+use Rattle.mesa_script.specs.mesa_list.Bytes.{same_bytes}
+use Rattle.mesa_script.specs.mesa_list.Checks.{◌>>=◌, ◌>>◌, refuse_if, refuse_unless, refused_as}
+use Rattle.mesa_script.specs.mesa_schema.declared.views.View.{View}
+use Rattle.mesa_script.specs.mesa_schema.Names.{is_name}
+use Rattle.mesa_script.specs.mesa_schema.Columns.{place_of}
+use Rattle.mesa_script.specs.mesa_schema.Schema.{schema_checked}
+use Rattle.mesa_script.specs.mesa_schema.Changes.{Lineage, columns_of, epoch_of, change_checked}
+use Rattle.mesa_script.specs.mesa_schema.Recasts.{Recast, recast_checked}
+use Rattle.mesa_script.specs.mesa_batch.declared.words.RowWords.{RowWords}
+use Rattle.mesa_script.specs.mesa_batch.Batch.{Named, Placed, batch_of, rows_for}
+use Rattle.mesa_script.specs.mesa_filter.declared.words.QueryWords.{QueryWords}
+use Rattle.mesa_script.specs.mesa_filter.declared.words.VersionWord.{VersionWord}
+use Rattle.mesa_script.specs.mesa_filter.declared.words.VersionWord.TheVariants as asks
+use Rattle.mesa_script.specs.mesa_filter.Asked.{asked_of}
+use Rattle.mesa_script.specs.mesa_filter.Resume.{resume_of}
+use Rattle.mesa_script.specs.mesa_model.declared.commands.TableWords.{TableWords}
+use Rattle.mesa_script.specs.mesa_model.declared.commands.ViewWords.{ViewWords}
+use Rattle.mesa_script.specs.mesa_model.declared.commands.AlterWords.{AlterWords}
+use Rattle.mesa_script.specs.mesa_model.declared.commands.ExplainWords.{ExplainWords}
+use Rattle.mesa_script.specs.mesa_model.declared.commands.RecastWords.{RecastWords}
+use Rattle.mesa_script.specs.mesa_model.declared.commands.Command.{Command}
+use Rattle.mesa_script.specs.mesa_model.declared.commands.Command.TheVariants as command
+use Rattle.mesa_script.specs.mesa_model.declared.replies.Refusal.{Refusal}
+use Rattle.mesa_script.specs.mesa_model.declared.replies.Refusal.TheVariants as no
+use Rattle.mesa_script.specs.mesa_model.declared.replies.Reply.{Reply}
+use Rattle.mesa_script.specs.mesa_model.declared.replies.Reply.TheVariants as reply
+use Rattle.mesa_script.specs.mesa_model.Warehouse.{Table, Store, Pin, Warehouse, max_pins, max_tables, max_versions, newest_of, no_table, table_at}
+use Rattle.mesa_script.specs.mesa_model.Refusals.{refuse_closed, no_such_table, query_refusal, batch_refusal, schema_refusal, change_refusal, recast_refusal}
+use Rattle.mesa_script.specs.mesa_model.Relations.{Relation, relation_from, relation_of, relation_columns, is_taken, table_number}
+use Rattle.mesa_script.specs.mesa_model.Orders.{order_asked}
+use Rattle.mesa_script.specs.mesa_model.Versions.{common_oldest, oldest_among, version_asked, version_checked, table_from, expire_all, expire_table, expire_to}
+use Rattle.mesa_script.specs.mesa_model.Pins.{is_pin, pin_of, next_token, table_pinned, store_at, make_pin, release_pin}
+use Rattle.mesa_script.specs.mesa_model.Load.{tables_named, bound_checked, bounds_checked, table_loaded, tables_loaded, load_batch}
+use Rattle.mesa_script.specs.mesa_model.Tables.{columns_asked, names_are_good, new_table, make_table, view_of_table_checked, make_view, change_asked, changed_name, table_changed, alter_table, recast_asked, recast_reply, recast_table, table_recast, with_recast}
+use Rattle.mesa_script.specs.mesa_model.Query.{Answer, store_asked, version_seen, query_answer}
+use Rattle.mesa_script.specs.mesa_model.Step.{done_or_refused, nothing_done, reply_to_query, step}
 use Rattle.mesa_history_spec.specs.Machine.{Machine, Claim, Merges, Recasts, claim_of, explained, max_deltas, ranges_at, recast_claim_of, refuse_busy, singletons_of}
 use Rattle.mesa_history_spec.specs.Replay.{claim_asked}
-use Rattle.mesa_history_spec.specs.mesa_span.Work.{next_work}
-use Rattle.mesa_history_spec.specs.mesa_lease.Book.{holder}
+use Rattle.mesa_span.specs.Work.{next_work}
+use Rattle.mesa_lease.specs.Book.{holder}
 use Rattle.mesa_history_spec.specs.Bare.{bare, bare_table, bare_store, bare_pin, bare_done, bare_reply, bare_answer, bare_result}
 use Rattle.mesa_history_spec.proofs.BareLists.{same_check, same_value, same_bare, some_bare, is_some_same, maps_same, length_same, at_same, set_same, append_same, find_same, filter_same}
 

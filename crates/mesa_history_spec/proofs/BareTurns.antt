@@ -1,21 +1,21 @@
 -- A turn does the same to a run without rows: it tells the same but for a page's rows, leaves the session at the same stage, and the same projection.
 use Rattle.std.proofs.Common.{◌≡◌, ℕ, Bool, true, false, refl, sym, ◌∙◌, ap, Option, Some, None, Result, Ok, Err}
-use Rattle.mesa_history_spec.specs.mesa_model.declared.commands.Command.{Command}
-use Rattle.mesa_history_spec.specs.mesa_model.declared.commands.Command.TheVariants as command
-use Rattle.mesa_history_spec.specs.mesa_model.declared.commands.Script.{Script}
-use Rattle.mesa_history_spec.specs.mesa_model.declared.entries.Entry.{Entry}
-use Rattle.mesa_history_spec.specs.mesa_model.declared.entries.Kind.{Kind}
-use Rattle.mesa_history_spec.specs.mesa_model.declared.entries.Kind.TheVariants as kind
-use Rattle.mesa_history_spec.specs.mesa_model.declared.entries.Outcome.{Outcome}
-use Rattle.mesa_history_spec.specs.mesa_model.declared.entries.Outcome.TheVariants as outcome
-use Rattle.mesa_history_spec.specs.mesa_model.declared.replies.Refusal.{Refusal}
-use Rattle.mesa_history_spec.specs.mesa_model.declared.replies.Refusal.TheVariants as no
-use Rattle.mesa_history_spec.specs.mesa_model.declared.replies.Reply.{Reply}
-use Rattle.mesa_history_spec.specs.mesa_model.declared.replies.Reply.TheVariants as reply
-use Rattle.mesa_history_spec.specs.mesa_schema.Recasts.{Recast}
-use Rattle.mesa_history_spec.specs.mesa_model.Warehouse.{Table, Warehouse, table_at}
-use Rattle.mesa_history_spec.specs.mesa_model.Query.{Answer, query_answer}
-use Rattle.mesa_history_spec.specs.mesa_model.Tables.{recast_reply}
+use Rattle.mesa_script.specs.mesa_model.declared.commands.Command.{Command}
+use Rattle.mesa_script.specs.mesa_model.declared.commands.Command.TheVariants as command
+use Rattle.mesa_script.specs.mesa_model.declared.commands.Script.{Script}
+use Rattle.mesa_script.specs.mesa_model.declared.entries.Entry.{Entry}
+use Rattle.mesa_script.specs.mesa_model.declared.entries.Kind.{Kind}
+use Rattle.mesa_script.specs.mesa_model.declared.entries.Kind.TheVariants as kind
+use Rattle.mesa_script.specs.mesa_model.declared.entries.Outcome.{Outcome}
+use Rattle.mesa_script.specs.mesa_model.declared.entries.Outcome.TheVariants as outcome
+use Rattle.mesa_script.specs.mesa_model.declared.replies.Refusal.{Refusal}
+use Rattle.mesa_script.specs.mesa_model.declared.replies.Refusal.TheVariants as no
+use Rattle.mesa_script.specs.mesa_model.declared.replies.Reply.{Reply}
+use Rattle.mesa_script.specs.mesa_model.declared.replies.Reply.TheVariants as reply
+use Rattle.mesa_script.specs.mesa_schema.Recasts.{Recast}
+use Rattle.mesa_script.specs.mesa_model.Warehouse.{Table, Warehouse, table_at}
+use Rattle.mesa_script.specs.mesa_model.Query.{Answer, query_answer}
+use Rattle.mesa_script.specs.mesa_model.Tables.{recast_reply}
 use Rattle.mesa_history_spec.specs.Machine.{Machine, Claim, Errand, Merges, Recasts, claim_checked, claim_ended, claim_recast, still_checked, explained}
 use Rattle.mesa_history_spec.specs.Run.{State, Stage, First, Looked, Answered, Granted, Renewed, Finished, CutOff, Run, place_of, command_of}
 use Rattle.mesa_history_spec.specs.Replay.{turned, turn_as, turn_of, standing, decide, decided, decided_query, decided_explain, grants, claim_asked, renews, renew, completes, does, recasts, close, prints, leaves, refused_turn, closed_if, closes, machine_after, no_rows, some_damage, with_machine}

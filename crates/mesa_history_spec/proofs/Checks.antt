@@ -1,7 +1,7 @@
 -- What holds of an outcome that passed checks one after another.
 use Rattle.std.proofs.Common.{◌≡◌, Bool, true, false, refl}
 use Rattle.std.specs.Prelude.{Result, Ok, Err, IfOk}
-use Rattle.mesa_span.specs.mesa_list.Checks.{◌>>=◌, ◌>>◌, refuse_if, refused_as}
+use Rattle.mesa_script.specs.mesa_list.Checks.{◌>>=◌, ◌>>◌, refuse_if, refused_as}
 
 pub ok_bind : {A B E : Type 0} (P : B → Type 0) (x : Result A E) (f : A → Result B E) → ((a : A) → x ≡ Ok a → IfOk (f a) P) → IfOk (x >>= f) P
 ok_bind P (Ok a) f all = all a refl

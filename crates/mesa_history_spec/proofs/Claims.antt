@@ -5,36 +5,36 @@ use Rattle.std.proofs.lemmas.List.{length-append, length-set, length-map}
 use Rattle.std.proofs.lemmas.List.Quantifiers.{position-Some}
 use mathlib.Core.Logic.{dite}
 use native.Mathlib.Decide.{ℕ_discrete}
-use Rattle.mesa_span.specs.mesa_list.Bytes.{same_bytes}
+use Rattle.mesa_script.specs.mesa_list.Bytes.{same_bytes}
 use Rattle.mesa_span.specs.declared.ranges.Ranges.{Ranges}
 use Rattle.mesa_span.specs.declared.works.Work.{Work}
-use Rattle.mesa_span.specs.mesa_list.Checks.{refuse_if, refuse_unless, refused_as}
+use Rattle.mesa_script.specs.mesa_list.Checks.{refuse_if, refuse_unless, refused_as}
 use Rattle.mesa_span.specs.Work.{next_work, swapped}
 use Rattle.mesa_lease.specs.Book.{holder, is_held, other_holder}
-use Rattle.mesa_model.specs.declared.commands.Command.{Command}
-use Rattle.mesa_model.specs.declared.commands.Command.TheVariants as command
-use Rattle.mesa_model.specs.declared.commands.Script.{Script}
-use Rattle.mesa_model.specs.declared.entries.Entry.{Entry}
-use Rattle.mesa_model.specs.declared.entries.Kind.{Kind}
-use Rattle.mesa_model.specs.declared.entries.Kind.TheVariants as kind
-use Rattle.mesa_model.specs.declared.entries.Outcome.{Outcome}
-use Rattle.mesa_model.specs.declared.entries.Outcome.TheVariants as outcome
-use Rattle.mesa_model.specs.declared.replies.Reply.{Reply}
-use Rattle.mesa_model.specs.declared.replies.Reply.TheVariants as reply
-use Rattle.mesa_model.specs.declared.replies.Refusal.{Refusal}
-use Rattle.mesa_model.specs.declared.replies.Refusal.TheVariants as no
-use Rattle.mesa_model.specs.mesa_schema.Changes.{columns_of, epoch_of}
-use Rattle.mesa_model.specs.mesa_schema.Recasts.{Recast, recast_checked}
-use Rattle.mesa_model.specs.declared.commands.RecastWords.{RecastWords}
-use Rattle.mesa_model.specs.Warehouse.{Table, Store, Warehouse, newest_of, no_table, table_at}
-use Rattle.mesa_model.specs.Relations.{table_number}
-use Rattle.mesa_model.specs.Refusals.{no_such_table, recast_refusal, refuse_closed}
-use Rattle.mesa_model.specs.Tables.{alter_table, make_table, make_view, recast_asked, table_recast}
-use Rattle.mesa_model.specs.Load.{load_batch}
-use Rattle.mesa_model.specs.Versions.{expire_to}
-use Rattle.mesa_model.specs.Pins.{make_pin, release_pin}
-use Rattle.mesa_model.specs.Step.{nothing_done}
-use Rattle.mesa_model.specs.Query.{Answer, query_answer}
+use Rattle.mesa_script.specs.mesa_model.declared.commands.Command.{Command}
+use Rattle.mesa_script.specs.mesa_model.declared.commands.Command.TheVariants as command
+use Rattle.mesa_script.specs.mesa_model.declared.commands.Script.{Script}
+use Rattle.mesa_script.specs.mesa_model.declared.entries.Entry.{Entry}
+use Rattle.mesa_script.specs.mesa_model.declared.entries.Kind.{Kind}
+use Rattle.mesa_script.specs.mesa_model.declared.entries.Kind.TheVariants as kind
+use Rattle.mesa_script.specs.mesa_model.declared.entries.Outcome.{Outcome}
+use Rattle.mesa_script.specs.mesa_model.declared.entries.Outcome.TheVariants as outcome
+use Rattle.mesa_script.specs.mesa_model.declared.replies.Reply.{Reply}
+use Rattle.mesa_script.specs.mesa_model.declared.replies.Reply.TheVariants as reply
+use Rattle.mesa_script.specs.mesa_model.declared.replies.Refusal.{Refusal}
+use Rattle.mesa_script.specs.mesa_model.declared.replies.Refusal.TheVariants as no
+use Rattle.mesa_script.specs.mesa_schema.Changes.{columns_of, epoch_of}
+use Rattle.mesa_script.specs.mesa_schema.Recasts.{Recast, recast_checked}
+use Rattle.mesa_script.specs.mesa_model.declared.commands.RecastWords.{RecastWords}
+use Rattle.mesa_script.specs.mesa_model.Warehouse.{Table, Store, Warehouse, newest_of, no_table, table_at}
+use Rattle.mesa_script.specs.mesa_model.Relations.{table_number}
+use Rattle.mesa_script.specs.mesa_model.Refusals.{no_such_table, recast_refusal, refuse_closed}
+use Rattle.mesa_script.specs.mesa_model.Tables.{alter_table, make_table, make_view, recast_asked, table_recast}
+use Rattle.mesa_script.specs.mesa_model.Load.{load_batch}
+use Rattle.mesa_script.specs.mesa_model.Versions.{expire_to}
+use Rattle.mesa_script.specs.mesa_model.Pins.{make_pin, release_pin}
+use Rattle.mesa_script.specs.mesa_model.Step.{nothing_done}
+use Rattle.mesa_script.specs.mesa_model.Query.{Answer, query_answer}
 use Rattle.mesa_history_spec.specs.Machine.{Machine, Claim, Errand, Merges, Recasts, new_ranges, ranges_at, claim_of, recast_claim_of, claimed, claim_checked, claim_renewed, claim_ended, claim_merged, claim_recast, max_deltas, refuse_busy, singletons_of, still_checked, without_cumulatives, explained}
 use Rattle.mesa_history_spec.specs.Run.{State, Stage, First, Looked, Answered, Granted, Renewed, Finished, CutOff, Place, Run, place_of, command_of, begins}
 use Rattle.mesa_history_spec.specs.Replay.{Turned, turned, turn_as, turn_of, standing, decide, decided, decided_query, decided_explain, grants, renews, renew, completes, claim_asked, does, recasts, recasted, close, leaves, prints, refused_turn, closed_if, closes, some_damage, machine_after, work_name, place_after, with_machine, go, runs}

@@ -1,14 +1,14 @@
 -- A closed warehouse answers `closed` to everything but what was begun.
 use Rattle.std.proofs.Common.{◌≡◌, ℕ, false, IsTrue, refl, ap, ◌∙◌, Some}
-use Rattle.mesa_model.specs.declared.commands.Command.{Command}
-use Rattle.mesa_model.specs.declared.commands.Command.TheVariants as command
-use Rattle.mesa_model.specs.declared.commands.Script.{Script}
-use Rattle.mesa_model.specs.declared.entries.Entry.{Entry}
-use Rattle.mesa_model.specs.declared.entries.Kind.{Kind}
-use Rattle.mesa_model.specs.declared.entries.Kind.TheVariants as kind
-use Rattle.mesa_model.specs.declared.entries.Outcome.TheVariants as outcome
-use Rattle.mesa_model.specs.declared.replies.Refusal.TheVariants as no
-use Rattle.mesa_model.proofs.Closed.{step-closed}
+use Rattle.mesa_script.specs.mesa_model.declared.commands.Command.{Command}
+use Rattle.mesa_script.specs.mesa_model.declared.commands.Command.TheVariants as command
+use Rattle.mesa_script.specs.mesa_model.declared.commands.Script.{Script}
+use Rattle.mesa_script.specs.mesa_model.declared.entries.Entry.{Entry}
+use Rattle.mesa_script.specs.mesa_model.declared.entries.Kind.{Kind}
+use Rattle.mesa_script.specs.mesa_model.declared.entries.Kind.TheVariants as kind
+use Rattle.mesa_script.specs.mesa_model.declared.entries.Outcome.TheVariants as outcome
+use Rattle.mesa_script.specs.mesa_model.declared.replies.Refusal.TheVariants as no
+use Rattle.mesa_script.proofs.mesa_model.Closed.{step-closed}
 use Rattle.mesa_history_spec.specs.Run.{State, Stage, First, Looked, Answered, Granted, Renewed, Finished, CutOff, Run, place_of}
 use Rattle.mesa_history_spec.specs.Replay.{turned, turn_of, standing, decide, decided, grant, refuses}
 use Rattle.mesa_history_spec.specs.Legal.{Fits, is_due_at, is_answered, same_kind}

@@ -1,9 +1,9 @@
 -- What is known of an entry whose turn is due.
 use Rattle.std.specs.List.{AllByRecursion}
 use Rattle.std.proofs.Common.{◌≡◌, ◌==◌, ◌&&◌, ◌<◌, ◌≤◌, ℕ, zero, suc, List, [], ◌∷◌, length, get_or, slice_get, sym, ap, ◌∙◌, ◌+◌, add-one, arith, Bool, true, false, IsTrue, refl, Option, Some, None}
-use Rattle.mesa_model.specs.declared.commands.Command.{Command}
-use Rattle.mesa_model.specs.declared.commands.Script.{Script}
-use Rattle.mesa_model.specs.declared.entries.Entry.{Entry}
+use Rattle.mesa_script.specs.mesa_model.declared.commands.Command.{Command}
+use Rattle.mesa_script.specs.mesa_model.declared.commands.Script.{Script}
+use Rattle.mesa_script.specs.mesa_model.declared.entries.Entry.{Entry}
 use Rattle.mesa_history_spec.specs.Run.{Place, Run, place_of, commands_of, command_at, command_of}
 use Rattle.mesa_history_spec.specs.Replay.{go}
 use Rattle.mesa_history_spec.specs.Legal.{AllFit, is_due, is_due_of, is_due_at}

@@ -1,8 +1,8 @@
 -- What a crash may have left, with one entry more at the history's end.
 use Rattle.std.proofs.Common.{◌≡◌, inl, inr, ⊎_elim, ℕ, ◌<◌, ◌≤◌, List, [], ◌∷◌, ◌++◌, true, refl, sym, ◌∙◌, ap, subst, arith, append_assoc, append-nil}
 use Rattle.std.specs.List.{AllByRecursion}
-use Rattle.mesa_model.specs.declared.commands.Script.{Script}
-use Rattle.mesa_model.specs.declared.entries.Entry.{Entry}
+use Rattle.mesa_script.specs.mesa_model.declared.commands.Script.{Script}
+use Rattle.mesa_script.specs.mesa_model.declared.entries.Entry.{Entry}
 use Rattle.mesa_history_spec.specs.Run.{Run}
 use Rattle.mesa_history_spec.specs.Replay.{closes, stood, go, runs}
 use Rattle.mesa_history_spec.specs.Found.{Kept, kept_in, WasTried, Found}

@@ -1,9 +1,9 @@
 -- Tables go on: where tables are added, set or changed in place, no table's oldest version or epoch falls, and each has the first epoch that it had, and its columns as long as it has its epoch.
 use Rattle.std.proofs.Common.{◌≡◌, ℕ, zero, suc, ◌+◌, ◌<◌, ◌≤◌, List, [], ◌∷◌, ◌++◌, length, map, set, get_or, refl, arith}
-use Rattle.mesa_model.specs.mesa_schema.Changes.{columns_of, epoch_of}
-use Rattle.mesa_model.specs.mesa_batch.Batch.{Placed}
-use Rattle.mesa_model.specs.Warehouse.{Table, no_table}
-use Rattle.mesa_model.specs.Load.{tables_loaded}
+use Rattle.mesa_script.specs.mesa_schema.Changes.{columns_of, epoch_of}
+use Rattle.mesa_script.specs.mesa_batch.Batch.{Placed}
+use Rattle.mesa_script.specs.mesa_model.Warehouse.{Table, no_table}
+use Rattle.mesa_script.specs.mesa_model.Load.{tables_loaded}
 
 -- a table later on, which wasn't recast
 pub record GoesOn (t later : Table) : Type 0 where

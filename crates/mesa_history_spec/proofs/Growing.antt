@@ -2,31 +2,31 @@
 use Rattle.std.proofs.Common.{◌≡◌, ℕ, suc, ◌+◌, ◌<◌, ◌≤◌, List, [], ◌∷◌, length, refl, ap, arith, ok_or, nat_le, is_none, set, Option, Some, None}
 use Rattle.std.specs.Prelude.{Result, Ok, Err, IfOk}
 use Rattle.std.proofs.lemmas.List.{length-append, length-set, length-map}
-use Rattle.mesa_span.specs.mesa_list.Checks.{◌>>◌, refuse_if, refuse_unless, refused_as}
-use Rattle.mesa_model.specs.mesa_schema.Names.{is_name}
-use Rattle.mesa_model.specs.mesa_schema.Schema.{schema_checked}
-use Rattle.mesa_model.specs.mesa_schema.declared.changes.Change.{Change}
-use Rattle.mesa_model.specs.mesa_schema.Changes.{columns_of, change_checked}
-use Rattle.mesa_model.specs.mesa_batch.declared.words.RowWords.{RowWords}
-use Rattle.mesa_model.specs.mesa_batch.Batch.{Placed, batch_of}
-use Rattle.mesa_model.specs.mesa_filter.declared.words.VersionWord.{VersionWord}
-use Rattle.mesa_model.specs.mesa_filter.declared.words.VersionWord.TheVariants as asks
-use Rattle.mesa_model.specs.declared.commands.TableWords.{TableWords}
-use Rattle.mesa_model.specs.declared.commands.ViewWords.{ViewWords}
-use Rattle.mesa_model.specs.declared.commands.AlterWords.{AlterWords}
-use Rattle.mesa_model.specs.declared.replies.Reply.{Reply}
-use Rattle.mesa_model.specs.declared.replies.Reply.TheVariants as reply
-use Rattle.mesa_model.specs.declared.replies.Refusal.{Refusal}
-use Rattle.mesa_model.specs.declared.replies.Refusal.TheVariants as no
-use Rattle.mesa_model.specs.declared.replies.SchemaFault.TheVariants as fault
-use Rattle.mesa_model.specs.Warehouse.{Table, Warehouse, max_tables, max_versions, max_pins, table_at, newest_of}
-use Rattle.mesa_model.specs.Relations.{table_number, is_taken}
-use Rattle.mesa_model.specs.Refusals.{bad_schema, batch_refusal, change_refusal, no_such_table, refuse_closed, schema_refusal}
-use Rattle.mesa_model.specs.Tables.{columns_asked, names_are_good, new_table, make_table, make_view, view_of_table_checked, change_asked, changed_name, alter_table, table_changed}
-use Rattle.mesa_model.specs.Load.{tables_named, bounds_checked, tables_loaded, load_batch}
-use Rattle.mesa_model.specs.Versions.{common_oldest, version_asked, version_checked, table_from, expire_all, expire_table, expire_to}
-use Rattle.mesa_model.specs.Pins.{make_pin, pin_of, release_pin}
-use Rattle.mesa_model.specs.Step.{done_or_refused}
+use Rattle.mesa_script.specs.mesa_list.Checks.{◌>>◌, refuse_if, refuse_unless, refused_as}
+use Rattle.mesa_script.specs.mesa_schema.Names.{is_name}
+use Rattle.mesa_script.specs.mesa_schema.Schema.{schema_checked}
+use Rattle.mesa_script.specs.mesa_schema.declared.changes.Change.{Change}
+use Rattle.mesa_script.specs.mesa_schema.Changes.{columns_of, change_checked}
+use Rattle.mesa_script.specs.mesa_batch.declared.words.RowWords.{RowWords}
+use Rattle.mesa_script.specs.mesa_batch.Batch.{Placed, batch_of}
+use Rattle.mesa_script.specs.mesa_filter.declared.words.VersionWord.{VersionWord}
+use Rattle.mesa_script.specs.mesa_filter.declared.words.VersionWord.TheVariants as asks
+use Rattle.mesa_script.specs.mesa_model.declared.commands.TableWords.{TableWords}
+use Rattle.mesa_script.specs.mesa_model.declared.commands.ViewWords.{ViewWords}
+use Rattle.mesa_script.specs.mesa_model.declared.commands.AlterWords.{AlterWords}
+use Rattle.mesa_script.specs.mesa_model.declared.replies.Reply.{Reply}
+use Rattle.mesa_script.specs.mesa_model.declared.replies.Reply.TheVariants as reply
+use Rattle.mesa_script.specs.mesa_model.declared.replies.Refusal.{Refusal}
+use Rattle.mesa_script.specs.mesa_model.declared.replies.Refusal.TheVariants as no
+use Rattle.mesa_script.specs.mesa_model.declared.replies.SchemaFault.TheVariants as fault
+use Rattle.mesa_script.specs.mesa_model.Warehouse.{Table, Warehouse, max_tables, max_versions, max_pins, table_at, newest_of}
+use Rattle.mesa_script.specs.mesa_model.Relations.{table_number, is_taken}
+use Rattle.mesa_script.specs.mesa_model.Refusals.{bad_schema, batch_refusal, change_refusal, no_such_table, refuse_closed, schema_refusal}
+use Rattle.mesa_script.specs.mesa_model.Tables.{columns_asked, names_are_good, new_table, make_table, make_view, view_of_table_checked, change_asked, changed_name, alter_table, table_changed}
+use Rattle.mesa_script.specs.mesa_model.Load.{tables_named, bounds_checked, tables_loaded, load_batch}
+use Rattle.mesa_script.specs.mesa_model.Versions.{common_oldest, version_asked, version_checked, table_from, expire_all, expire_table, expire_to}
+use Rattle.mesa_script.specs.mesa_model.Pins.{make_pin, pin_of, release_pin}
+use Rattle.mesa_script.specs.mesa_model.Step.{done_or_refused}
 use Rattle.mesa_history_spec.proofs.Checks.{ok_bind, ok_then}
 use Rattle.mesa_history_spec.proofs.Going.{GoesOn, pushed, set_later, stays_so, mapped, loaded}
 

@@ -1,3 +1,6 @@
+pub use Rattle.mesa_script.proofs.mesa_batch as mesa_batch
+pub use Rattle.mesa_script.proofs.mesa_key as mesa_key
+pub use Rattle.mesa_script.proofs.mesa_schema as mesa_schema
 pub use Rattle.mesa_span.proofs as mesa_span
 pub mod BareLists
 pub mod BareSteps

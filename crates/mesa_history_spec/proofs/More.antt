@@ -1,8 +1,8 @@
 -- One entry more at a history's end.
 use Rattle.std.proofs.Common.{◌≡◌, ◌+◌, ◌∙◌, List, [], ◌∷◌, ◌++◌, length, refl, ap, arith, Some}
-use Rattle.mesa_model.specs.declared.commands.Command.{Command}
-use Rattle.mesa_model.specs.declared.commands.Script.{Script}
-use Rattle.mesa_model.specs.declared.entries.Entry.{Entry}
+use Rattle.mesa_script.specs.mesa_model.declared.commands.Command.{Command}
+use Rattle.mesa_script.specs.mesa_model.declared.commands.Script.{Script}
+use Rattle.mesa_script.specs.mesa_model.declared.entries.Entry.{Entry}
 use Rattle.mesa_history_spec.specs.Run.{Run, place_of, command_of}
 use Rattle.mesa_history_spec.specs.Replay.{turned, turn_of, turn_as, is_skipped, last_of, last_moment_of, go, runs}
 use Rattle.mesa_history_spec.specs.Legal.{Fits, AllFit}

@@ -1,13 +1,13 @@
 -- What is printed with one entry more at a history's end.
 use Rattle.std.proofs.Common.{◌≡◌, ℕ, List, [], ◌∷◌, ◌++◌, refl, sym, ap, ◌∙◌, append_assoc, append-nil, arith, Option, Some, None}
-use Rattle.mesa_history_spec.specs.mesa_model.declared.commands.Command.{Command}
-use Rattle.mesa_history_spec.specs.mesa_model.declared.commands.Script.{Script}
-use Rattle.mesa_history_spec.specs.mesa_model.declared.entries.Entry.{Entry}
-use Rattle.mesa_history_spec.specs.mesa_model.declared.entries.Kind.{Kind}
-use Rattle.mesa_history_spec.specs.mesa_model.declared.entries.Kind.TheVariants as kind
-use Rattle.mesa_history_spec.specs.mesa_model.declared.entries.Outcome.{Outcome}
-use Rattle.mesa_history_spec.specs.mesa_model.declared.entries.Outcome.TheVariants as outcome
-use Rattle.mesa_history_spec.specs.mesa_model.declared.replies.Refusal.TheVariants as no
+use Rattle.mesa_script.specs.mesa_model.declared.commands.Command.{Command}
+use Rattle.mesa_script.specs.mesa_model.declared.commands.Script.{Script}
+use Rattle.mesa_script.specs.mesa_model.declared.entries.Entry.{Entry}
+use Rattle.mesa_script.specs.mesa_model.declared.entries.Kind.{Kind}
+use Rattle.mesa_script.specs.mesa_model.declared.entries.Kind.TheVariants as kind
+use Rattle.mesa_script.specs.mesa_model.declared.entries.Outcome.{Outcome}
+use Rattle.mesa_script.specs.mesa_model.declared.entries.Outcome.TheVariants as outcome
+use Rattle.mesa_script.specs.mesa_model.declared.replies.Refusal.TheVariants as no
 use Rattle.mesa_history_spec.specs.Run.{Stage, Run, place_of, command_of}
 use Rattle.mesa_history_spec.specs.Replay.{refused_turn, some_damage, turn_of, turn_as, turned, told_by, go, runs}
 use Rattle.mesa_history_spec.specs.Output.{block, retold, IsDamage, IsBlock, IsBlockAs, IsOutput, output}

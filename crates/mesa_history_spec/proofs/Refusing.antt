@@ -1,7 +1,7 @@
 -- Whether a history with one entry more prints a refusal.
 use Rattle.std.proofs.Common.{◌≡◌, ◌||◌, List, [], ◌∷◌, ◌++◌, Bool, true, false, refl, sym, ap, ◌∙◌}
-use Rattle.mesa_model.specs.declared.commands.Script.{Script}
-use Rattle.mesa_model.specs.declared.entries.Entry.{Entry}
+use Rattle.mesa_script.specs.mesa_model.declared.commands.Script.{Script}
+use Rattle.mesa_script.specs.mesa_model.declared.entries.Entry.{Entry}
 use Rattle.mesa_history_spec.specs.Run.{Run}
 use Rattle.mesa_history_spec.specs.Replay.{told_by, go, runs}
 use Rattle.mesa_history_spec.specs.Refused.{tells_refusal, some_refused}

@@ -1,14 +1,14 @@
 -- A work that closes without renewal is refused, and not as lost.
 use Rattle.std.proofs.Common.{◌≡◌, ℕ, true, IsTrue, refl, subst, ap, ◌∙◌, ◌&&◌, ◌||◌, Option, Some, None}
 use Rattle.std.specs.Prelude.{not, is_some}
-use Rattle.mesa_model.specs.declared.commands.Script.{Script}
-use Rattle.mesa_model.specs.declared.entries.Entry.{Entry}
-use Rattle.mesa_model.specs.declared.entries.Kind.{Kind}
-use Rattle.mesa_model.specs.declared.entries.Kind.TheVariants as kind
-use Rattle.mesa_model.specs.declared.entries.Outcome.{Outcome}
-use Rattle.mesa_model.specs.declared.entries.Outcome.TheVariants as outcome
-use Rattle.mesa_model.specs.declared.replies.Refusal.{Refusal}
-use Rattle.mesa_model.specs.declared.replies.Refusal.TheVariants as no
+use Rattle.mesa_script.specs.mesa_model.declared.commands.Script.{Script}
+use Rattle.mesa_script.specs.mesa_model.declared.entries.Entry.{Entry}
+use Rattle.mesa_script.specs.mesa_model.declared.entries.Kind.{Kind}
+use Rattle.mesa_script.specs.mesa_model.declared.entries.Kind.TheVariants as kind
+use Rattle.mesa_script.specs.mesa_model.declared.entries.Outcome.{Outcome}
+use Rattle.mesa_script.specs.mesa_model.declared.entries.Outcome.TheVariants as outcome
+use Rattle.mesa_script.specs.mesa_model.declared.replies.Refusal.{Refusal}
+use Rattle.mesa_script.specs.mesa_model.declared.replies.Refusal.TheVariants as no
 use Rattle.mesa_history_spec.specs.Machine.{Claim}
 use Rattle.mesa_history_spec.specs.Run.{State, Stage, Granted, Run, place_of}
 use Rattle.mesa_history_spec.specs.Replay.{Turned, turned, turn_of, refused_turn, closed_if, closes, some_damage, told_by}

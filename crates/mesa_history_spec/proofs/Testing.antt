@@ -1,7 +1,7 @@
 -- A history that passes the tests is legal.
 use Rattle.std.proofs.Common.{List, [], ◌∷◌, Bool, true, false, IsTrue, ◌&&◌, refl}
-use Rattle.mesa_model.specs.declared.commands.Script.{Script}
-use Rattle.mesa_model.specs.declared.entries.Entry.{Entry}
+use Rattle.mesa_script.specs.mesa_model.declared.commands.Script.{Script}
+use Rattle.mesa_script.specs.mesa_model.declared.entries.Entry.{Entry}
 use Rattle.mesa_history_spec.specs.Run.{State, Run, begins}
 use Rattle.mesa_history_spec.specs.Replay.{told_by, is_skipped, go, runs}
 use Rattle.mesa_history_spec.specs.Legal.{Fits, AllFit, IsLegal, fits_prologue, is_due, fits_renewal, fits_sink, fits_moment, fits_outcome, fits_reading, fits_writing, fits_closed, is_fit, are_fit, ends_well, is_legal}

@@ -1,13 +1,13 @@
 -- One turn of a session's command at a history's end.
 use Rattle.std.proofs.Common.{◌≡◌, ℕ, ◌==◌, ◌&&◌, ◌||◌, List, [], ◌∷◌, ◌++◌, Bool, true, false, not, IsTrue, refl, sym, ap, ◌∙◌, subst, arith, Option}
 use Rattle.std.specs.Prelude.{is_some, is_none}
-use Rattle.mesa_model.specs.declared.commands.Command.{Command}
-use Rattle.mesa_model.specs.declared.commands.Script.{Script}
-use Rattle.mesa_model.specs.declared.entries.Entry.{Entry}
-use Rattle.mesa_model.specs.declared.entries.Kind.{Kind}
-use Rattle.mesa_model.specs.declared.entries.Kind.TheVariants as kind
-use Rattle.mesa_model.specs.declared.entries.Outcome.{Outcome}
-use Rattle.mesa_model.specs.declared.entries.Outcome.TheVariants as ends
+use Rattle.mesa_script.specs.mesa_model.declared.commands.Command.{Command}
+use Rattle.mesa_script.specs.mesa_model.declared.commands.Script.{Script}
+use Rattle.mesa_script.specs.mesa_model.declared.entries.Entry.{Entry}
+use Rattle.mesa_script.specs.mesa_model.declared.entries.Kind.{Kind}
+use Rattle.mesa_script.specs.mesa_model.declared.entries.Kind.TheVariants as kind
+use Rattle.mesa_script.specs.mesa_model.declared.entries.Outcome.{Outcome}
+use Rattle.mesa_script.specs.mesa_model.declared.entries.Outcome.TheVariants as ends
 use Rattle.mesa_history_spec.specs.Run.{Stage, Place, Told, Run, place_of}
 use Rattle.mesa_history_spec.specs.Replay.{Turned, turned, turn_of, told_by, is_skip, is_skipped, closes, stood, place_after, go, runs}
 use Rattle.mesa_history_spec.specs.Legal.{Fits, is_due_of, is_due_at, is_unrenewed, same_kind, is_stands, is_answered, outcome_fits, outcome_fits_in, is_unread, is_unwritten, wrote, is_same_moment, builds_files, builds_files_in, fits_sink, fits_moment}

@@ -1,11 +1,11 @@
 -- The history in which every turn stands, every work that is granted is renewed, and the sessions run one after another.
 use Rattle.std.specs.Prelude.{ℕ, zero, suc, ◌+◌, ◌*◌, List, [], ◌∷◌, ◌++◌, length, if◌then◌else◌, Option, Some, None}
-use Rattle.mesa_model.specs.declared.commands.Command.{Command}
-use Rattle.mesa_model.specs.declared.commands.Script.{Script}
-use Rattle.mesa_model.specs.declared.entries.Entry.{Entry}
-use Rattle.mesa_model.specs.declared.entries.Kind.{Kind}
-use Rattle.mesa_model.specs.declared.entries.Kind.TheVariants as kind
-use Rattle.mesa_model.specs.declared.entries.Outcome.TheVariants as outcome
+use Rattle.mesa_script.specs.mesa_model.declared.commands.Command.{Command}
+use Rattle.mesa_script.specs.mesa_model.declared.commands.Script.{Script}
+use Rattle.mesa_script.specs.mesa_model.declared.entries.Entry.{Entry}
+use Rattle.mesa_script.specs.mesa_model.declared.entries.Kind.{Kind}
+use Rattle.mesa_script.specs.mesa_model.declared.entries.Kind.TheVariants as kind
+use Rattle.mesa_script.specs.mesa_model.declared.entries.Outcome.TheVariants as outcome
 use Rattle.mesa_history_spec.specs.Run.{State, Stage, First, Looked, Answered, Granted, Renewed, Finished, CutOff, Run, place_of, command_at, begins}
 use Rattle.mesa_history_spec.specs.Replay.{told_by, go}
 use Rattle.mesa_history_spec.specs.Legal.{first_kind, wrote}

@@ -1,11 +1,11 @@
 -- Projections: a warehouse without its rows, by which commands are refused, and all of a reply but a page's rows.
 use Rattle.std.specs.Prelude.{[], map, None, option_map, Result, Ok, Err}
-use Rattle.mesa_history_spec.specs.mesa_model.declared.replies.Page.{Page}
-use Rattle.mesa_history_spec.specs.mesa_model.declared.replies.Refusal.{Refusal}
-use Rattle.mesa_history_spec.specs.mesa_model.declared.replies.Reply.{Reply}
-use Rattle.mesa_history_spec.specs.mesa_model.declared.replies.Reply.TheVariants as reply
-use Rattle.mesa_history_spec.specs.mesa_model.Warehouse.{Table, Store, Pin, Warehouse}
-use Rattle.mesa_history_spec.specs.mesa_model.Query.{Answer}
+use Rattle.mesa_script.specs.mesa_model.declared.replies.Page.{Page}
+use Rattle.mesa_script.specs.mesa_model.declared.replies.Refusal.{Refusal}
+use Rattle.mesa_script.specs.mesa_model.declared.replies.Reply.{Reply}
+use Rattle.mesa_script.specs.mesa_model.declared.replies.Reply.TheVariants as reply
+use Rattle.mesa_script.specs.mesa_model.Warehouse.{Table, Store, Pin, Warehouse}
+use Rattle.mesa_script.specs.mesa_model.Query.{Answer}
 use Rattle.mesa_history_spec.specs.Run.{State, Stage, First, Looked, Answered, Granted, Renewed, Finished, CutOff, Place, Run, Told}
 use Rattle.mesa_history_spec.specs.Replay.{Turned}
 

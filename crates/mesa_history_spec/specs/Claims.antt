@@ -3,9 +3,9 @@ use Rattle.std.specs.Prelude.{◌≡◌, ℕ, ◌-◌, ◌<◌, ◌≤◌, lengt
 use Rattle.mesa_span.specs.declared.ranges.Ranges.{Ranges}
 use Rattle.mesa_span.specs.declared.works.Work.{Work}
 use Rattle.mesa_span.specs.Work.{next_work}
-use Rattle.mesa_model.specs.mesa_schema.Changes.{Lineage, columns_of, epoch_of}
-use Rattle.mesa_model.specs.mesa_schema.Recasts.{Recast, recast_checked}
-use Rattle.mesa_model.specs.Warehouse.{table_at}
+use Rattle.mesa_script.specs.mesa_schema.Changes.{Lineage, columns_of, epoch_of}
+use Rattle.mesa_script.specs.mesa_schema.Recasts.{Recast, recast_checked}
+use Rattle.mesa_script.specs.mesa_model.Warehouse.{table_at}
 use Rattle.mesa_lease.specs.declared.lease.Lease.{Lease}
 use Rattle.mesa_lease.specs.Book.{Book, last_of}
 use Rattle.mesa_history_spec.specs.Machine.{Machine, Claim, Errand, Merges, Recasts, ranges_at}

@@ -1,21 +1,21 @@
 -- The fold law: after any history each content is the fold of what stood at the start and of the batches accepted since, each carried to the present.
 use Rattle.std.specs.Prelude.{◌≡◌, ℕ, ◌-◌, ◌<◌, ◌≤◌, ◌==◌, List, [], ◌∷◌, ◌++◌, map, nat_lt, if◌then◌else◌, Option, Some, None, slice_get, Result, Ok, Err}
-use Rattle.mesa_model.specs.mesa_schema.declared.rows.Row.{Row}
-use Rattle.mesa_model.specs.mesa_schema.Columns.{aggs_of}
-use Rattle.mesa_model.specs.mesa_schema.Changes.{Lineage, columns_of, epoch_of}
-use Rattle.mesa_model.specs.mesa_schema.Folded.{folded}
-use Rattle.mesa_model.specs.mesa_schema.Recasts.{Recast}
-use Rattle.mesa_model.specs.mesa_batch.declared.words.BatchError.{BatchError}
-use Rattle.mesa_model.specs.mesa_batch.Batch.{Placed, batch_of, rows_for}
-use Rattle.mesa_model.specs.declared.commands.Command.{Command}
-use Rattle.mesa_model.specs.declared.commands.Command.TheVariants as command
-use Rattle.mesa_model.specs.declared.commands.Script.{Script}
-use Rattle.mesa_model.specs.declared.entries.Entry.{Entry}
-use Rattle.mesa_model.specs.declared.replies.Reply.{Reply}
-use Rattle.mesa_model.specs.declared.replies.Reply.TheVariants as reply
-use Rattle.mesa_model.specs.Warehouse.{Table, Store, Warehouse, content_at, table_at}
-use Rattle.mesa_model.specs.Load.{tables_named}
-use Rattle.mesa_model.specs.WellFormed.{IsWellFormed}
+use Rattle.mesa_script.specs.mesa_schema.declared.rows.Row.{Row}
+use Rattle.mesa_script.specs.mesa_schema.Columns.{aggs_of}
+use Rattle.mesa_script.specs.mesa_schema.Changes.{Lineage, columns_of, epoch_of}
+use Rattle.mesa_script.specs.mesa_schema.Folded.{folded}
+use Rattle.mesa_script.specs.mesa_schema.Recasts.{Recast}
+use Rattle.mesa_script.specs.mesa_batch.declared.words.BatchError.{BatchError}
+use Rattle.mesa_script.specs.mesa_batch.Batch.{Placed, batch_of, rows_for}
+use Rattle.mesa_script.specs.mesa_model.declared.commands.Command.{Command}
+use Rattle.mesa_script.specs.mesa_model.declared.commands.Command.TheVariants as command
+use Rattle.mesa_script.specs.mesa_model.declared.commands.Script.{Script}
+use Rattle.mesa_script.specs.mesa_model.declared.entries.Entry.{Entry}
+use Rattle.mesa_script.specs.mesa_model.declared.replies.Reply.{Reply}
+use Rattle.mesa_script.specs.mesa_model.declared.replies.Reply.TheVariants as reply
+use Rattle.mesa_script.specs.mesa_model.Warehouse.{Table, Store, Warehouse, content_at, table_at}
+use Rattle.mesa_script.specs.mesa_model.Load.{tables_named}
+use Rattle.mesa_script.specs.mesa_model.WellFormed.{IsWellFormed}
 use Rattle.mesa_history_spec.specs.Machine.{Claim, Errand, Merges, Recasts}
 use Rattle.mesa_history_spec.specs.Run.{State, Stage, Granted, Renewed, Told, Run, command_of, place_of, begins}
 use Rattle.mesa_history_spec.specs.Replay.{told_by, go, runs}

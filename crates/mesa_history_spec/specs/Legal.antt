@@ -1,21 +1,21 @@
 -- Legal: which histories a run may have.
 use Rattle.std.specs.Prelude.{ℕ, List, [], ◌∷◌, length, Bool, true, false, ◌&&◌, ◌||◌, ◌==◌, not, if◌then◌else◌, Option, Some, None, is_some, is_none, is_ok, IsTrue}
 use Rattle.std.specs.List.{list_all, range_with_len}
-use Rattle.mesa_model.specs.declared.commands.Command.{Command}
-use Rattle.mesa_model.specs.declared.commands.Command.TheVariants as command
-use Rattle.mesa_model.specs.declared.commands.Script.{Script}
-use Rattle.mesa_model.specs.declared.entries.Entry.{Entry}
-use Rattle.mesa_model.specs.declared.entries.Kind.{Kind}
-use Rattle.mesa_model.specs.declared.entries.Kind.TheVariants as kind
-use Rattle.mesa_model.specs.declared.entries.Outcome.{Outcome}
-use Rattle.mesa_model.specs.declared.entries.Outcome.TheVariants as outcome
-use Rattle.mesa_model.specs.declared.replies.Reply.{Reply}
-use Rattle.mesa_model.specs.declared.replies.Reply.TheVariants as reply
-use Rattle.mesa_model.specs.declared.replies.Refusal.{Refusal}
-use Rattle.mesa_model.specs.declared.replies.Refusal.TheVariants as no
-use Rattle.mesa_model.specs.mesa_batch.Batch.{batch_of}
-use Rattle.mesa_model.specs.Warehouse.{Store}
-use Rattle.mesa_model.specs.Load.{tables_named}
+use Rattle.mesa_script.specs.mesa_model.declared.commands.Command.{Command}
+use Rattle.mesa_script.specs.mesa_model.declared.commands.Command.TheVariants as command
+use Rattle.mesa_script.specs.mesa_model.declared.commands.Script.{Script}
+use Rattle.mesa_script.specs.mesa_model.declared.entries.Entry.{Entry}
+use Rattle.mesa_script.specs.mesa_model.declared.entries.Kind.{Kind}
+use Rattle.mesa_script.specs.mesa_model.declared.entries.Kind.TheVariants as kind
+use Rattle.mesa_script.specs.mesa_model.declared.entries.Outcome.{Outcome}
+use Rattle.mesa_script.specs.mesa_model.declared.entries.Outcome.TheVariants as outcome
+use Rattle.mesa_script.specs.mesa_model.declared.replies.Reply.{Reply}
+use Rattle.mesa_script.specs.mesa_model.declared.replies.Reply.TheVariants as reply
+use Rattle.mesa_script.specs.mesa_model.declared.replies.Refusal.{Refusal}
+use Rattle.mesa_script.specs.mesa_model.declared.replies.Refusal.TheVariants as no
+use Rattle.mesa_script.specs.mesa_batch.Batch.{batch_of}
+use Rattle.mesa_script.specs.mesa_model.Warehouse.{Store}
+use Rattle.mesa_script.specs.mesa_model.Load.{tables_named}
 use Rattle.mesa_history_spec.specs.Run.{State, Stage, First, Looked, Answered, Granted, Renewed, Finished, CutOff, Place, Told, Last, Silent, Printed, Skipped, Run, place_of, command_at, command_of, begins}
 use Rattle.mesa_history_spec.specs.Replay.{stood, told_by, is_skipped, is_later, closes, go, runs}
 

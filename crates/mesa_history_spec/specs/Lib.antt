@@ -1,14 +1,14 @@
-pub use Rattle.mesa_history_spec.specs.mesa_batch as mesa_batch
-pub use Rattle.mesa_history_spec.specs.mesa_filter as mesa_filter
-pub use Rattle.mesa_history_spec.specs.mesa_model as mesa_model
-pub use Rattle.mesa_history_spec.specs.mesa_schema as mesa_schema
-pub use Rattle.mesa_model.specs.mesa_batch as mesa_batch
-pub use Rattle.mesa_model.specs.mesa_file as mesa_file
-pub use Rattle.mesa_model.specs.mesa_filter as mesa_filter
-pub use Rattle.mesa_model.specs as mesa_model
-pub use Rattle.mesa_model.specs.mesa_schema as mesa_schema
-pub use Rattle.mesa_span.specs as mesa_span
+pub use Rattle.mesa_script.specs.mesa_batch as mesa_batch
+pub use Rattle.mesa_script.specs.mesa_file as mesa_file
+pub use Rattle.mesa_script.specs.mesa_filter as mesa_filter
+pub use Rattle.mesa_script.specs.mesa_key as mesa_key
 pub use Rattle.mesa_lease.specs as mesa_lease
+pub use Rattle.mesa_script.specs.mesa_list as mesa_list
+pub use Rattle.mesa_script.specs.mesa_model as mesa_model
+pub use Rattle.mesa_script.specs.mesa_schema as mesa_schema
+pub use Rattle.mesa_script.specs as mesa_script
+pub use Rattle.mesa_span.specs as mesa_span
+pub use Rattle.mesa_script.specs.mesa_value as mesa_value
 pub mod Bare
 pub mod Rows
 pub mod Machine

@@ -1,7 +1,7 @@
 -- RangeMachine: each table's ranges of deltas and its lease, without any rows.
 use Rattle.std.specs.Prelude.{ℕ, ◌+◌, ◌-◌, List, [], ◌∷◌, ◌++◌, ◌==◌, nat_lt, Option, Some, None, slice_index_or, slice_set, Result, Ok, Err}
 use Rattle.std.specs.Option.{ok_or}
-use Rattle.mesa_span.specs.mesa_list.Checks.{◌>>=◌, ◌>>◌, refuse_if, refuse_unless, refused_as}
+use Rattle.mesa_script.specs.mesa_list.Checks.{◌>>=◌, ◌>>◌, refuse_if, refuse_unless, refused_as}
 use Rattle.mesa_span.specs.declared.ranges.Ranges.{Ranges}
 use Rattle.mesa_span.specs.declared.works.Work.{Work}
 use Rattle.mesa_span.specs.declared.works.Work.TheVariants as work
@@ -10,21 +10,21 @@ pub use Rattle.mesa_span.specs.Ranges.{new_ranges}
 use Rattle.mesa_span.specs.Ranges.{start_of}
 use Rattle.mesa_span.specs.Work.{next_work, swapped}
 use Rattle.mesa_lease.specs.Book.{Book, begun, holder, is_held, other_holder, granted, renewed, ended}
-use Rattle.mesa_model.specs.mesa_schema.Changes.{Lineage, epoch_of}
-use Rattle.mesa_model.specs.mesa_schema.Recasts.{Recast, recast_checked}
-use Rattle.mesa_model.specs.declared.commands.ExplainWords.{ExplainWords}
-use Rattle.mesa_model.specs.declared.commands.RecastWords.{RecastWords}
-use Rattle.mesa_model.specs.declared.commands.Script.{Script}
-use Rattle.mesa_model.specs.declared.replies.Reply.{Reply}
-use Rattle.mesa_model.specs.declared.replies.Reply.TheVariants as reply
-use Rattle.mesa_model.specs.declared.replies.Refusal.{Refusal}
-use Rattle.mesa_model.specs.declared.replies.Refusal.TheVariants as no
-use Rattle.mesa_model.specs.Warehouse.{Warehouse, max_tables, newest_of, table_at}
-use Rattle.mesa_model.specs.Relations.{table_number, relation_of}
-use Rattle.mesa_model.specs.Orders.{order_asked}
-use Rattle.mesa_model.specs.Refusals.{no_such_table, recast_refusal, refuse_closed}
-use Rattle.mesa_model.specs.Tables.{recast_asked}
-use Rattle.mesa_model.specs.Versions.{version_asked}
+use Rattle.mesa_script.specs.mesa_schema.Changes.{Lineage, epoch_of}
+use Rattle.mesa_script.specs.mesa_schema.Recasts.{Recast, recast_checked}
+use Rattle.mesa_script.specs.mesa_model.declared.commands.ExplainWords.{ExplainWords}
+use Rattle.mesa_script.specs.mesa_model.declared.commands.RecastWords.{RecastWords}
+use Rattle.mesa_script.specs.mesa_model.declared.commands.Script.{Script}
+use Rattle.mesa_script.specs.mesa_model.declared.replies.Reply.{Reply}
+use Rattle.mesa_script.specs.mesa_model.declared.replies.Reply.TheVariants as reply
+use Rattle.mesa_script.specs.mesa_model.declared.replies.Refusal.{Refusal}
+use Rattle.mesa_script.specs.mesa_model.declared.replies.Refusal.TheVariants as no
+use Rattle.mesa_script.specs.mesa_model.Warehouse.{Warehouse, max_tables, newest_of, table_at}
+use Rattle.mesa_script.specs.mesa_model.Relations.{table_number, relation_of}
+use Rattle.mesa_script.specs.mesa_model.Orders.{order_asked}
+use Rattle.mesa_script.specs.mesa_model.Refusals.{no_such_table, recast_refusal, refuse_closed}
+use Rattle.mesa_script.specs.mesa_model.Tables.{recast_asked}
+use Rattle.mesa_script.specs.mesa_model.Versions.{version_asked}
 
 -- Each table's ranges, by the table's number, and the leases.
 pub record Machine : Type 0 where

@@ -1,15 +1,15 @@
 -- Output: what a run prints.
 use Rattle.std.specs.Prelude.{◌≡◌, ◌≢◌, ◌<◌, ◌^◌, ℕ, List, [], ◌∷◌, ◌++◌, length, Option, Some, None, option_map}
 use Rattle.std.specs.List.{AllByRecursion}
-use Rattle.mesa_history_spec.specs.mesa_model.declared.commands.Script.{Script}
-use Rattle.mesa_history_spec.specs.mesa_file.declared.damage.Damage.{Damage}
-use Rattle.mesa_history_spec.specs.mesa_file.declared.damage.Seen.{Seen}
-use Rattle.mesa_history_spec.specs.mesa_file.declared.damage.Seen.TheVariants as seen
-use Rattle.mesa_history_spec.specs.mesa_model.declared.entries.Entry.{Entry}
-use Rattle.mesa_history_spec.specs.mesa_model.declared.entries.Outcome.{Outcome}
-use Rattle.mesa_history_spec.specs.mesa_model.declared.entries.Outcome.TheVariants as outcome
-use Rattle.mesa_history_spec.specs.mesa_model.declared.replies.Reply.TheVariants as reply
-use Rattle.mesa_history_spec.specs.mesa_model.declared.replies.Refusal.TheVariants as no
+use Rattle.mesa_script.specs.mesa_model.declared.commands.Script.{Script}
+use Rattle.mesa_script.specs.mesa_file.declared.damage.Damage.{Damage}
+use Rattle.mesa_script.specs.mesa_file.declared.damage.Seen.{Seen}
+use Rattle.mesa_script.specs.mesa_file.declared.damage.Seen.TheVariants as seen
+use Rattle.mesa_script.specs.mesa_model.declared.entries.Entry.{Entry}
+use Rattle.mesa_script.specs.mesa_model.declared.entries.Outcome.{Outcome}
+use Rattle.mesa_script.specs.mesa_model.declared.entries.Outcome.TheVariants as outcome
+use Rattle.mesa_script.specs.mesa_model.declared.replies.Reply.TheVariants as reply
+use Rattle.mesa_script.specs.mesa_model.declared.replies.Refusal.TheVariants as no
 use Rattle.mesa_history_spec.specs.Run.{Told, Run}
 use Rattle.mesa_history_spec.specs.Replay.{turned, told_by, after, go}
 use Rattle.mesa_script.specs.Replies.{head_line}

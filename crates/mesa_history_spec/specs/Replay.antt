@@ -1,24 +1,24 @@
 -- Replay: a run's history on the reference warehouse and the range machine.
 use Rattle.std.specs.Prelude.{ℕ, ◌+◌, ◌-◌, ◌^◌, min, List, [], ◌∷◌, Bool, true, false, ◌||◌, ◌==◌, nat_le, not, Option, Some, None, Result, Ok, Err}
-use Rattle.mesa_model.specs.declared.commands.Command.{Command}
-use Rattle.mesa_model.specs.declared.commands.Command.TheVariants as command
-use Rattle.mesa_model.specs.declared.commands.Script.{Script}
-use Rattle.mesa_model.specs.mesa_file.declared.damage.Damage.{Damage}
-use Rattle.mesa_model.specs.mesa_file.declared.damage.Seen.TheVariants as seen
-use Rattle.mesa_model.specs.declared.entries.Entry.{Entry}
-use Rattle.mesa_model.specs.declared.entries.Kind.{Kind}
-use Rattle.mesa_model.specs.declared.entries.Kind.TheVariants as kind
-use Rattle.mesa_model.specs.declared.entries.Outcome.{Outcome}
-use Rattle.mesa_model.specs.declared.entries.Outcome.TheVariants as outcome
-use Rattle.mesa_model.specs.declared.replies.Reply.{Reply}
-use Rattle.mesa_model.specs.declared.replies.Reply.TheVariants as reply
-use Rattle.mesa_model.specs.declared.replies.Refusal.{Refusal}
-use Rattle.mesa_model.specs.declared.replies.Refusal.TheVariants as no
-use Rattle.mesa_model.specs.mesa_schema.Recasts.{Recast}
-use Rattle.mesa_model.specs.Warehouse.{Warehouse, table_at}
-use Rattle.mesa_model.specs.Query.{Answer, Heading, query_answer}
-use Rattle.mesa_model.specs.Step.{done_or_refused, nothing_done, step}
-use Rattle.mesa_model.specs.Tables.{recast_reply, with_recast}
+use Rattle.mesa_script.specs.mesa_model.declared.commands.Command.{Command}
+use Rattle.mesa_script.specs.mesa_model.declared.commands.Command.TheVariants as command
+use Rattle.mesa_script.specs.mesa_model.declared.commands.Script.{Script}
+use Rattle.mesa_script.specs.mesa_file.declared.damage.Damage.{Damage}
+use Rattle.mesa_script.specs.mesa_file.declared.damage.Seen.TheVariants as seen
+use Rattle.mesa_script.specs.mesa_model.declared.entries.Entry.{Entry}
+use Rattle.mesa_script.specs.mesa_model.declared.entries.Kind.{Kind}
+use Rattle.mesa_script.specs.mesa_model.declared.entries.Kind.TheVariants as kind
+use Rattle.mesa_script.specs.mesa_model.declared.entries.Outcome.{Outcome}
+use Rattle.mesa_script.specs.mesa_model.declared.entries.Outcome.TheVariants as outcome
+use Rattle.mesa_script.specs.mesa_model.declared.replies.Reply.{Reply}
+use Rattle.mesa_script.specs.mesa_model.declared.replies.Reply.TheVariants as reply
+use Rattle.mesa_script.specs.mesa_model.declared.replies.Refusal.{Refusal}
+use Rattle.mesa_script.specs.mesa_model.declared.replies.Refusal.TheVariants as no
+use Rattle.mesa_script.specs.mesa_schema.Recasts.{Recast}
+use Rattle.mesa_script.specs.mesa_model.Warehouse.{Warehouse, table_at}
+use Rattle.mesa_script.specs.mesa_model.Query.{Answer, Heading, query_answer}
+use Rattle.mesa_script.specs.mesa_model.Step.{done_or_refused, nothing_done, step}
+use Rattle.mesa_script.specs.mesa_model.Tables.{recast_reply, with_recast}
 use Rattle.mesa_history_spec.specs.Machine.{Machine, Claim, Errand, Merges, Recasts, with_new_table, claim_of, recast_claim_of, claimed, claim_checked, claim_renewed, claim_ended, claim_merged, claim_recast, swapped_reply, still_checked, explained}
 use Rattle.mesa_history_spec.specs.Run.{State, Stage, First, Looked, Answered, Granted, Renewed, Finished, CutOff, Place, Told, Last, Silent, Printed, Skipped, Run, place_of, command_of}
 

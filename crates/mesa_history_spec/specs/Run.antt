@@ -1,11 +1,11 @@
 -- What stands after some turns of a run.
 use Rattle.std.specs.Prelude.{ℕ, zero, suc, List, [], Bool, false, Option, None, slice_get, slice_index_or}
-use Rattle.mesa_model.specs.declared.commands.Command.{Command}
-use Rattle.mesa_model.specs.declared.commands.Script.{Script}
-use Rattle.mesa_model.specs.declared.entries.Entry.{Entry}
-use Rattle.mesa_model.specs.declared.replies.Reply.{Reply}
-use Rattle.mesa_model.specs.Warehouse.{Warehouse, empty_warehouse}
-use Rattle.mesa_model.specs.Query.{Answer, Heading}
+use Rattle.mesa_script.specs.mesa_model.declared.commands.Command.{Command}
+use Rattle.mesa_script.specs.mesa_model.declared.commands.Script.{Script}
+use Rattle.mesa_script.specs.mesa_model.declared.entries.Entry.{Entry}
+use Rattle.mesa_script.specs.mesa_model.declared.replies.Reply.{Reply}
+use Rattle.mesa_script.specs.mesa_model.Warehouse.{Warehouse, empty_warehouse}
+use Rattle.mesa_script.specs.mesa_model.Query.{Answer, Heading}
 use Rattle.mesa_history_spec.specs.Machine.{Machine, Claim, machine_of}
 
 -- The reference warehouse and the range machine.

@@ -1,8 +1,8 @@
 -- One turn of a session's command: where the session stands before it and behind it.
 use Rattle.std.specs.Prelude.{◌≡◌, ℕ, Bool, true, false, ◌&&◌, ◌==◌, not, Option, Some, IsTrue}
-use Rattle.mesa_model.specs.declared.commands.Command.{Command}
-use Rattle.mesa_model.specs.declared.commands.Script.{Script}
-use Rattle.mesa_model.specs.declared.entries.Kind.{Kind}
+use Rattle.mesa_script.specs.mesa_model.declared.commands.Command.{Command}
+use Rattle.mesa_script.specs.mesa_model.declared.commands.Script.{Script}
+use Rattle.mesa_script.specs.mesa_model.declared.entries.Kind.{Kind}
 use Rattle.mesa_history_spec.specs.Run.{Stage, CutOff, Place, Told, Run, place_of, command_at}
 use Rattle.mesa_history_spec.specs.Replay.{standing, place_after}
 

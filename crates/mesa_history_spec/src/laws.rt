@@ -6,11 +6,11 @@ ghost use Rattle.mesa_history_spec.specs.Legal.{AllFit, Fits, IsLegal, fits_sink
 ghost use Rattle.mesa_history_spec.specs.Machine.{Claim};
 ghost use Rattle.mesa_history_spec.specs.Replay.{closes, refuses, runs, told_by, turned};
 ghost use Rattle.mesa_history_spec.specs.Run.{Granted, Run, Skipped, State, begins, place_of};
-ghost use Rattle.mesa_model.specs.declared.commands.Script.{Script};
-ghost use Rattle.mesa_model.specs.declared.entries.Entry.{Entry};
-ghost use Rattle.mesa_model.specs.declared.entries.Kind.TheVariants as kind;
-ghost use Rattle.mesa_model.specs.declared.entries.Outcome.TheVariants as outcome;
-ghost use Rattle.mesa_model.specs.declared.replies.Refusal.TheVariants as no;
+ghost use Rattle.mesa_script.specs.mesa_model.declared.commands.Script.{Script};
+ghost use Rattle.mesa_script.specs.mesa_model.declared.entries.Entry.{Entry};
+ghost use Rattle.mesa_script.specs.mesa_model.declared.entries.Kind.TheVariants as kind;
+ghost use Rattle.mesa_script.specs.mesa_model.declared.entries.Outcome.TheVariants as outcome;
+ghost use Rattle.mesa_script.specs.mesa_model.declared.replies.Refusal.TheVariants as no;
 
 /// A closed warehouse answers everything by the position at which it closed, and changes nothing:
 /// every turn that stands, but a load's look and the close of a query that was answered before.

@@ -1,19 +1,19 @@
 // Laws of projections.
 ghost use Rattle.std.specs.Prelude.{◌≡◌, ℕ, List, Bool};
-ghost use Rattle.mesa_history_spec.specs.mesa_filter.declared.words.QueryWords.{QueryWords};
+ghost use Rattle.mesa_script.specs.mesa_filter.declared.words.QueryWords.{QueryWords};
 ghost use Rattle.mesa_history_spec.specs.Legal.{IsLegal};
 ghost use Rattle.mesa_history_spec.specs.Machine.{Machine, claim_of, explained, recast_claim_of};
 ghost use Rattle.mesa_history_spec.specs.Refused.{some_refused};
 ghost use Rattle.mesa_history_spec.specs.Replay.{runs, turned};
 ghost use Rattle.mesa_history_spec.specs.Run.{Run, State, begins};
-ghost use Rattle.mesa_history_spec.specs.mesa_model.Query.{query_answer};
-ghost use Rattle.mesa_history_spec.specs.mesa_model.Step.{step};
-ghost use Rattle.mesa_history_spec.specs.mesa_model.Warehouse.{Warehouse};
-ghost use Rattle.mesa_history_spec.specs.mesa_model.declared.commands.Command.{Command};
-ghost use Rattle.mesa_history_spec.specs.mesa_model.declared.commands.ExplainWords.{ExplainWords};
-ghost use Rattle.mesa_history_spec.specs.mesa_model.declared.commands.RecastWords.{RecastWords};
-ghost use Rattle.mesa_history_spec.specs.mesa_model.declared.commands.Script.{Script};
-ghost use Rattle.mesa_history_spec.specs.mesa_model.declared.entries.Entry.{Entry};
+ghost use Rattle.mesa_script.specs.mesa_model.Query.{query_answer};
+ghost use Rattle.mesa_script.specs.mesa_model.Step.{step};
+ghost use Rattle.mesa_script.specs.mesa_model.Warehouse.{Warehouse};
+ghost use Rattle.mesa_script.specs.mesa_model.declared.commands.Command.{Command};
+ghost use Rattle.mesa_script.specs.mesa_model.declared.commands.ExplainWords.{ExplainWords};
+ghost use Rattle.mesa_script.specs.mesa_model.declared.commands.RecastWords.{RecastWords};
+ghost use Rattle.mesa_script.specs.mesa_model.declared.commands.Script.{Script};
+ghost use Rattle.mesa_script.specs.mesa_model.declared.entries.Entry.{Entry};
 ghost use Rattle.mesa_history_spec.specs.Bare.{bare, bare_answer, bare_done, bare_result, bare_run, bare_state, bare_turned};
 
 /// A command does the same to a warehouse and to its projection: it is refused alike, and else has the

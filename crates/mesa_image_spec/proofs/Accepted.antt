@@ -5,16 +5,16 @@ use Rattle.std.specs.Option.{ok_or}
 use Rattle.std.proofs.lemmas.Bool.{eqb-true}
 use Rattle.std.proofs.lemmas.List.{length-map}
 use Rattle.std.specs.List.{AllByRecursion}
-use Rattle.mesa_list.specs.Checks.{◌>>=◌, ◌>>◌, refused_as}
-use Rattle.mesa_batch.specs.mesa_schema.Columns.{place_of}
-use Rattle.mesa_batch.specs.mesa_schema.Changes.{columns_of}
-use Rattle.mesa_batch.specs.mesa_schema.Rows.{AreRowsOf}
-use Rattle.mesa_batch.proofs.mesa_schema.Lists.{all_append}
-use Rattle.mesa_batch.proofs.mesa_schema.Places.{place_named}
-use Rattle.mesa_batch.specs.declared.words.BatchError.TheVariants.{BadRow, NoTable}
-use Rattle.mesa_batch.specs.declared.words.RowWords.{RowWords}
-use Rattle.mesa_batch.specs.Batch.{Named, Placed, batch_from, batch_of, columns_at, is_at, placed_of, refuse_twice, row_of, rows_for}
-use Rattle.mesa_batch.proofs.RowForms.{batch_forms}
+use Rattle.mesa_history_spec.specs.mesa_list.Checks.{◌>>=◌, ◌>>◌, refused_as}
+use Rattle.mesa_history_spec.specs.mesa_schema.Columns.{place_of}
+use Rattle.mesa_history_spec.specs.mesa_schema.Changes.{columns_of}
+use Rattle.mesa_history_spec.specs.mesa_schema.Rows.{AreRowsOf}
+use Rattle.mesa_history_spec.proofs.mesa_schema.Lists.{all_append}
+use Rattle.mesa_history_spec.proofs.mesa_schema.Places.{place_named}
+use Rattle.mesa_history_spec.specs.mesa_batch.declared.words.BatchError.TheVariants.{BadRow, NoTable}
+use Rattle.mesa_history_spec.specs.mesa_batch.declared.words.RowWords.{RowWords}
+use Rattle.mesa_history_spec.specs.mesa_batch.Batch.{Named, Placed, batch_from, batch_of, columns_at, is_at, placed_of, refuse_twice, row_of, rows_for}
+use Rattle.mesa_history_spec.proofs.mesa_batch.RowForms.{batch_forms}
 use Rattle.mesa_image_spec.specs.Catalog.{Catalog, Stock, no_stock}
 use Rattle.mesa_image_spec.specs.Sourced.{AreFormed, IsAccepted, tables_read}
 use Rattle.mesa_image_spec.proofs.Views.{map_within}

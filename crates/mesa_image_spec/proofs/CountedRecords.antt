@@ -3,22 +3,22 @@ use Rattle.std.proofs.Common.{◌≡◌, ℕ, zero, suc, ◌+◌, ◌-◌, ◌<�
 use Rattle.std.proofs.lemmas.List.{take-append-le, take_all, map-append}
 use Rattle.std.specs.Prelude.{option_map, IfSome}
 use Rattle.std.specs.List.{AllByRecursion, list_all}
-use Rattle.mesa_batch.specs.mesa_schema.declared.changes.Change.{Change}
-use Rattle.mesa_batch.specs.mesa_schema.declared.changes.Change.TheVariants.{AddKey, AddValue, DropValue}
-use Rattle.mesa_batch.specs.mesa_schema.declared.changes.ChangeError.{ChangeError}
-use Rattle.mesa_batch.specs.mesa_schema.declared.changes.ChangeError.TheVariants as no
-use Rattle.mesa_batch.specs.mesa_schema.declared.views.View.{View}
-use Rattle.mesa_batch.specs.mesa_schema.Names.{has_name}
-use Rattle.mesa_batch.specs.mesa_schema.Columns.{Columns, aggs_of, value_names}
-use Rattle.mesa_batch.specs.mesa_schema.Changes.{Lineage, changed, change_checked, columns_after, columns_at, columns_of, epoch_of, refuse_used, rule_checked, with_change}
-use Rattle.mesa_batch.specs.mesa_schema.Views.{view_columns, with_view}
-use Rattle.mesa_batch.specs.mesa_schema.Laws.{Outlives}
-use Rattle.mesa_batch.proofs.mesa_schema.Lists.{all_append, all_drop, all_got, all_map, all_replicate, all_so, all_both}
-use Rattle.mesa_batch.proofs.mesa_schema.Passing.{passed_first, passed_unless}
-use Rattle.mesa_batch.proofs.mesa_schema.PresentRows.{columns_more}
-use Rattle.mesa_batch.proofs.mesa_schema.ViewChanges.{views_outlive}
-use Rattle.mesa_batch.specs.Totals.{over_bound, sum_bound, sums_in}
-use Rattle.mesa_list.specs.Checks.{◌>>◌, refuse_unless}
+use Rattle.mesa_history_spec.specs.mesa_schema.declared.changes.Change.{Change}
+use Rattle.mesa_history_spec.specs.mesa_schema.declared.changes.Change.TheVariants.{AddKey, AddValue, DropValue}
+use Rattle.mesa_history_spec.specs.mesa_schema.declared.changes.ChangeError.{ChangeError}
+use Rattle.mesa_history_spec.specs.mesa_schema.declared.changes.ChangeError.TheVariants as no
+use Rattle.mesa_history_spec.specs.mesa_schema.declared.views.View.{View}
+use Rattle.mesa_history_spec.specs.mesa_schema.Names.{has_name}
+use Rattle.mesa_history_spec.specs.mesa_schema.Columns.{Columns, aggs_of, value_names}
+use Rattle.mesa_history_spec.specs.mesa_schema.Changes.{Lineage, changed, change_checked, columns_after, columns_at, columns_of, epoch_of, refuse_used, rule_checked, with_change}
+use Rattle.mesa_history_spec.specs.mesa_schema.Views.{view_columns, with_view}
+use Rattle.mesa_history_spec.specs.mesa_schema.Laws.{Outlives}
+use Rattle.mesa_history_spec.proofs.mesa_schema.Lists.{all_append, all_drop, all_got, all_map, all_replicate, all_so, all_both}
+use Rattle.mesa_history_spec.proofs.mesa_schema.Passing.{passed_first, passed_unless}
+use Rattle.mesa_history_spec.proofs.mesa_schema.PresentRows.{columns_more}
+use Rattle.mesa_history_spec.proofs.mesa_schema.ViewChanges.{views_outlive}
+use Rattle.mesa_history_spec.specs.mesa_batch.Totals.{over_bound, sum_bound, sums_in}
+use Rattle.mesa_history_spec.specs.mesa_list.Checks.{◌>>◌, refuse_unless}
 use Rattle.mesa_history_spec.specs.mesa_span.Ranges.{base_before}
 use Rattle.mesa_history_spec.specs.mesa_file.declared.file_ref.FileRef.{FileRef}
 use Rattle.mesa_record.specs.declared.record.Files.{Files}
@@ -30,10 +30,10 @@ use Rattle.mesa_image_spec.specs.Catalog.{Delta, Stock, Catalog, empty_base, emp
 use Rattle.mesa_image_spec.specs.Fitting.{base_deltas, counts_columns, counts_view, delta_in, deltas_of, files_fit, files_fit_if_any, fits, has_epoch, is_there, is_view_ref, kind_fits, brings_new_files, max_runs, may_be_work, part_fits, swap_fits}
 use Rattle.mesa_image_spec.specs.Shape.{IsCatalog, IsShaped}
 use Rattle.mesa_image_spec.proofs.Lists.{all_back, all_front, both_true, is_at_most, is_equal, is_less, stock_found}
-use Rattle.mesa_batch.specs.mesa_schema.Schema.{is_schema}
-use Rattle.mesa_batch.specs.mesa_schema.Changes.{max_changes}
-use Rattle.mesa_batch.specs.mesa_schema.Views.{max_views}
-use Rattle.mesa_batch.specs.mesa_schema.Lineages.{is_view_of}
+use Rattle.mesa_history_spec.specs.mesa_schema.Schema.{is_schema}
+use Rattle.mesa_history_spec.specs.mesa_schema.Changes.{max_changes}
+use Rattle.mesa_history_spec.specs.mesa_schema.Views.{max_views}
+use Rattle.mesa_history_spec.specs.mesa_schema.Lineages.{is_view_of}
 use Rattle.mesa_history_spec.specs.mesa_model.Warehouse.{max_tables, max_versions}
 use Rattle.mesa_record.specs.declared.checkpoint.StatedRange.{StatedRange}
 use Rattle.mesa_record.specs.declared.checkpoint.StatedSingle.{StatedSingle}

@@ -1,19 +1,19 @@
 -- A change that was read and is allowed has a default of its column.
 use Rattle.std.proofs.Common.{◌≡◌, is_ok, true, false, Bool, refl}
-use Rattle.mesa_list.specs.Checks.{refuse_unless}
-use Rattle.mesa_batch.specs.mesa_key.declared.KeyType.{KeyType}
-use Rattle.mesa_batch.specs.mesa_key.declared.KeyType.TheVariants as kind
-use Rattle.mesa_batch.specs.mesa_key.declared.KeyValue.{KeyValue}
-use Rattle.mesa_batch.specs.mesa_key.declared.KeyValue.TheVariants as value
-use Rattle.mesa_batch.specs.mesa_key.Spelling.{IsValue}
-use Rattle.mesa_batch.specs.mesa_schema.declared.changes.Change.{Change}
-use Rattle.mesa_batch.specs.mesa_schema.declared.changes.Change.TheVariants.{AddKey, AddValue, DropValue}
-use Rattle.mesa_batch.specs.mesa_schema.declared.changes.ChangeError.TheVariants.{BadDefault}
-use Rattle.mesa_batch.specs.mesa_schema.Columns.{key_names, value_names}
-use Rattle.mesa_batch.specs.mesa_schema.Changes.{Lineage, columns_of, is_default, is_of_kind, new_name_checked, rule_checked}
-use Rattle.mesa_batch.specs.mesa_schema.Lineages.{HasDefault}
-use Rattle.mesa_batch.proofs.mesa_schema.LineageChanges.{default_fits}
-use Rattle.mesa_batch.proofs.mesa_schema.Passing.{passed_first}
+use Rattle.mesa_history_spec.specs.mesa_list.Checks.{refuse_unless}
+use Rattle.mesa_delta.specs.mesa_key.declared.KeyType.{KeyType}
+use Rattle.mesa_delta.specs.mesa_key.declared.KeyType.TheVariants as kind
+use Rattle.mesa_delta.specs.mesa_key.declared.KeyValue.{KeyValue}
+use Rattle.mesa_delta.specs.mesa_key.declared.KeyValue.TheVariants as value
+use Rattle.mesa_delta.specs.mesa_key.Spelling.{IsValue}
+use Rattle.mesa_history_spec.specs.mesa_schema.declared.changes.Change.{Change}
+use Rattle.mesa_history_spec.specs.mesa_schema.declared.changes.Change.TheVariants.{AddKey, AddValue, DropValue}
+use Rattle.mesa_history_spec.specs.mesa_schema.declared.changes.ChangeError.TheVariants.{BadDefault}
+use Rattle.mesa_history_spec.specs.mesa_schema.Columns.{key_names, value_names}
+use Rattle.mesa_history_spec.specs.mesa_schema.Changes.{Lineage, columns_of, is_default, is_of_kind, new_name_checked, rule_checked}
+use Rattle.mesa_history_spec.specs.mesa_schema.Lineages.{HasDefault}
+use Rattle.mesa_history_spec.proofs.mesa_schema.LineageChanges.{default_fits}
+use Rattle.mesa_history_spec.proofs.mesa_schema.Passing.{passed_first}
 use Rattle.mesa_record.specs.Rules.{IsKeyValue, IsTypedChange}
 
 value_fits : (k : KeyType) (v : KeyValue) → is_of_kind k v ≡ true → IsKeyValue v → IsValue k v

@@ -7,8 +7,8 @@ use Rattle.std.proofs.lemmas.List.{map-append, take-append-drop}
 use Rattle.std.proofs.lemmas.List.Sums.{sum_by-append}
 use Rattle.std.proofs.lemmas.Simd.{map-map}
 use Rattle.std.specs.List.{AllByRecursion, list_all}
-use Rattle.mesa_batch.specs.mesa_schema.Changes.{Lineage}
-use Rattle.mesa_batch.specs.mesa_schema.Recasts.{recast_lineage}
+use Rattle.mesa_history_spec.specs.mesa_schema.Changes.{Lineage}
+use Rattle.mesa_history_spec.specs.mesa_schema.Recasts.{recast_lineage}
 use Rattle.mesa_history_spec.specs.mesa_model.Warehouse.{max_versions}
 use Rattle.mesa_record.specs.declared.record.Files.{Files}
 use Rattle.mesa_record.specs.declared.record.Part.{Part}

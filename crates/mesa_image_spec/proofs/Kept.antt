@@ -3,12 +3,12 @@ use Rattle.std.proofs.Common.{◌≡◌, ℕ, zero, suc, ◌+◌, ◌-◌, ◌<�
 use Rattle.std.proofs.lemmas.List.{map-append, map-set}
 use Rattle.std.specs.Prelude.{Bool, max}
 use Rattle.std.specs.List.{AllByRecursion, range_with_len}
-use Rattle.mesa_batch.specs.mesa_schema.declared.rows.Row.{Row}
-use Rattle.mesa_batch.specs.mesa_schema.Columns.{aggs_of}
-use Rattle.mesa_batch.specs.mesa_schema.Changes.{columns_of}
-use Rattle.mesa_batch.proofs.mesa_schema.Lists.{map_at}
-use Rattle.mesa_batch.specs.Batch.{Placed, rows_for}
-use Rattle.mesa_batch.specs.Totals.{abs_total, abs_totals, sum_places, totals_with}
+use Rattle.mesa_history_spec.specs.mesa_schema.declared.rows.Row.{Row}
+use Rattle.mesa_history_spec.specs.mesa_schema.Columns.{aggs_of}
+use Rattle.mesa_history_spec.specs.mesa_schema.Changes.{columns_of}
+use Rattle.mesa_history_spec.proofs.mesa_schema.Lists.{map_at}
+use Rattle.mesa_history_spec.specs.mesa_batch.Batch.{Placed, rows_for}
+use Rattle.mesa_history_spec.specs.mesa_batch.Totals.{abs_total, abs_totals, sum_places, totals_with}
 use Rattle.mesa_history_spec.specs.mesa_span.Work.{swapped}
 use Rattle.mesa_history_spec.specs.mesa_model.Load.{table_loaded, tables_loaded}
 use Rattle.mesa_history_spec.specs.mesa_model.Versions.{table_from}

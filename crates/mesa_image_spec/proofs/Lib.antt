@@ -1,7 +1,3 @@
-pub use Rattle.mesa_history_spec.proofs as mesa_history_spec
-pub use Rattle.mesa_record.proofs as mesa_record
-pub use Rattle.mesa_history_spec.proofs.mesa_span as mesa_span
-pub use Rattle.mesa_batch.proofs.mesa_schema as mesa_schema
 mod Bodies
 mod OneRow
 mod SecondEdition

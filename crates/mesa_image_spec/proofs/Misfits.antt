@@ -2,7 +2,7 @@
 use Rattle.std.proofs.Common.{◌≡◌, refl, ℕ, List, [], ◌∷◌, ◌++◌, None, is_some, true}
 use Rattle.mesa_record.specs.Reading.{fields_of, file_ref_at, files_at}
 use Rattle.mesa_record.specs.Reading as reading
-use Rattle.mesa_commit.specs.mesa_disk.declared.area.Area.TheVariants.{Zero}
+use Rattle.mesa_delta.specs.mesa_disk.declared.area.Area.TheVariants.{Zero}
 use Rattle.mesa_image_spec.specs.Fitting.{fits, catalog_from}
 use Rattle.mesa_image_spec.specs.Journaled.{catalog}
 use Rattle.mesa_image_spec.proofs.Bodies.{half, word, long, run_1, empty_batch, expire}

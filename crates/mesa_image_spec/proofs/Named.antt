@@ -3,7 +3,7 @@ use Rattle.std.proofs.Common.{◌≡◌, ◌≢◌, ℕ, suc, ◌+◌, ◌-◌, 
 use Rattle.std.proofs.lemmas.Bool.Decides.{nat_tests}
 use Rattle.std.proofs.lemmas.List.{map-append}
 use Rattle.std.specs.List.{AllByRecursion}
-use Rattle.mesa_batch.specs.mesa_schema.Changes.{Lineage}
+use Rattle.mesa_history_spec.specs.mesa_schema.Changes.{Lineage}
 use Rattle.mesa_record.specs.declared.record.Part.{Part}
 use Rattle.mesa_record.specs.declared.record.Files.{Files}
 use Rattle.mesa_record.specs.declared.record.Record.{Record}
@@ -11,7 +11,7 @@ use Rattle.mesa_record.specs.declared.record.Record.TheVariants as record_of
 use Rattle.mesa_image_spec.specs.Catalog.{Delta, Stock, Catalog, start_in, part_of, stock_from, stock_loaded, stocks_loaded, stock_swapped, stock_at, no_stock, merged_delta, applied, empty_delta, part_delta}
 use Rattle.mesa_image_spec.specs.Fitting.{Shelved, base_deltas, delta_in, deltas_of, delta_shelved, stock_shelved, files_shelved, part_shelved, shelved, shelved_id, brought, are_new_ids, brings_new_files, fits, has_number, kind_fits}
 use Rattle.mesa_image_spec.specs.Held.{IsUnnamed}
-use Rattle.mesa_batch.proofs.mesa_schema.Lists.{all_append, all_so, all_drop, all_map, all_set}
+use Rattle.mesa_history_spec.proofs.mesa_schema.Lists.{all_append, all_so, all_drop, all_map, all_set}
 use Rattle.mesa_image_spec.proofs.Lists.{all_front, all_back, all_flat, all_unflat, all_unmap, both_true, not_true, stock_found}
 
 module _ (P : Shelved → Type 0) where

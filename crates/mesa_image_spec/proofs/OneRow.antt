@@ -1,15 +1,15 @@
 -- A store with one table, a batch of one row, and an empty batch.
-use Rattle.mesa_record.specs.mesa_key.declared.Format.TheVariants as format
+use Rattle.mesa_delta.specs.mesa_key.declared.Format.TheVariants as format
 use Rattle.std.proofs.Common.{◌≡◌, refl, ℕ, List, [], ◌∷◌, ◌++◌, Some, None}
 use Rattle.std.specs.Prelude.{pos, codes, ◌==◌, if◌then◌else◌}
-use Rattle.mesa_record.specs.mesa_value.declared.Agg.TheVariants as agg
-use Rattle.mesa_record.specs.mesa_key.declared.KeyType.TheVariants as kind
+use Rattle.mesa_delta.specs.mesa_value.declared.Agg.TheVariants as agg
+use Rattle.mesa_delta.specs.mesa_key.declared.KeyType.TheVariants as kind
 use Rattle.mesa_history_spec.specs.mesa_schema.declared.rows.Row.{Row}
 use Rattle.mesa_history_spec.specs.mesa_schema.Changes.{Lineage}
 use Rattle.mesa_history_spec.specs.mesa_file.declared.file_ref.FileRef.{FileRef}
 use Rattle.mesa_record.specs.Reading.{fields_of, file_ref_at, files_at}
 use Rattle.mesa_record.specs.Reading as reading
-use Rattle.mesa_commit.specs.mesa_disk.declared.area.Area.TheVariants.{Zero}
+use Rattle.mesa_delta.specs.mesa_disk.declared.area.Area.TheVariants.{Zero}
 use Rattle.mesa_image_spec.specs.Catalog.{Catalog, empty_delta}
 use Rattle.mesa_image_spec.specs.Fitting.{fits, catalog_from}
 use Rattle.mesa_image_spec.specs.Journaled.{catalog}

@@ -1,8 +1,8 @@
 -- A batch keeps the rows of a catalogue sound.
 use Rattle.std.proofs.Common.{◌≡◌, ℕ, suc, ◌+◌, ◌<◌, List, [], ◌∷◌, length, Some, ◌∙◌, ap, subst, arith, slice_index_or}
 use Rattle.std.specs.List.{AllByRecursion}
-use Rattle.mesa_batch.specs.Batch.{Placed, rows_for}
-use Rattle.mesa_commit.specs.mesa_disk.Image.{Image, file_of}
+use Rattle.mesa_history_spec.specs.mesa_batch.Batch.{Placed, rows_for}
+use Rattle.mesa_delta.specs.mesa_disk.Image.{Image, file_of}
 use Rattle.mesa_commit.specs.Images.{Has}
 use Rattle.mesa_record.specs.declared.record.Part.{Part}
 use Rattle.mesa_record.specs.declared.record.Record.TheVariants as record_of
@@ -12,7 +12,7 @@ use Rattle.mesa_image_spec.specs.Contents.{Rows}
 use Rattle.mesa_image_spec.specs.Sound.{wants, wanted, IsTold, IsStocked, AreStocked}
 use Rattle.mesa_image_spec.specs.Shape.{IsShaped, IsCatalog}
 use Rattle.mesa_image_spec.specs.Brought.{AreTold, BringsAll}
-use Rattle.mesa_batch.proofs.mesa_schema.Lists.{all_map}
+use Rattle.mesa_history_spec.proofs.mesa_schema.Lists.{all_map}
 use Rattle.mesa_image_spec.proofs.Lists.{all_unmap, all_unflat}
 use Rattle.mesa_image_spec.proofs.Named.{BroughtTo, found_part, named_published}
 use Rattle.mesa_image_spec.proofs.Stocked.{loaded_stocked}

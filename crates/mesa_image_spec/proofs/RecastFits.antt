@@ -2,10 +2,10 @@
 use Rattle.std.proofs.Common.{◌≡◌, ℕ, suc, ◌+◌, ◌-◌, ◌<◌, ◌≤◌, List, [], ◌∷◌, ◌++◌, length, replicate, true, false, ◌&&◌, ◌==◌, nat_lt, is_ok, Option, Some, None, Result, Ok, Err, refl, sym, ◌∙◌, ap, subst, arith}
 use Rattle.std.specs.Prelude.{option_map, IfSome, ⊤}
 use Rattle.std.specs.List.{AllByRecursion, list_all}
-use Rattle.mesa_batch.specs.mesa_schema.Columns.{aggs_of}
-use Rattle.mesa_batch.specs.mesa_schema.Changes.{Lineage, columns_at, epoch_of}
-use Rattle.mesa_batch.specs.mesa_schema.Recasts.{recast_checked, recast_lineage}
-use Rattle.mesa_batch.specs.Totals.{sum_bound, sums_in}
+use Rattle.mesa_history_spec.specs.mesa_schema.Columns.{aggs_of}
+use Rattle.mesa_history_spec.specs.mesa_schema.Changes.{Lineage, columns_at, epoch_of}
+use Rattle.mesa_history_spec.specs.mesa_schema.Recasts.{recast_checked, recast_lineage}
+use Rattle.mesa_history_spec.specs.mesa_batch.Totals.{sum_bound, sums_in}
 use Rattle.mesa_record.specs.declared.record.Files.{Files}
 use Rattle.mesa_record.specs.declared.record.ViewRef.{ViewRef}
 use Rattle.mesa_record.specs.declared.checkpoint.StatedSingle.{StatedSingle}

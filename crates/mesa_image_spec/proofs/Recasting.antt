@@ -2,10 +2,10 @@
 use Rattle.std.proofs.Common.{◌≡◌, ℕ, zero, suc, ◌+◌, List, [], ◌∷◌, ◌++◌, map, length, take, flat_map, refl, sym, ◌∙◌, ap, Option, Some, None}
 use Rattle.std.specs.Prelude.{IfSome, ⊤}
 use Rattle.std.specs.List.{AllByRecursion}
-use Rattle.mesa_batch.specs.mesa_schema.Changes.{Lineage, columns_at, columns_of, epoch_of, lifted}
-use Rattle.mesa_batch.specs.mesa_schema.Recasts.{Recast, recast_columns, recast_lineage, recast_rows}
-use Rattle.mesa_batch.specs.Totals.{abs_totals}
-use Rattle.mesa_batch.proofs.mesa_schema.LineageRecasts.{columns_first}
+use Rattle.mesa_history_spec.specs.mesa_schema.Changes.{Lineage, columns_at, columns_of, epoch_of, lifted}
+use Rattle.mesa_history_spec.specs.mesa_schema.Recasts.{Recast, recast_columns, recast_lineage, recast_rows}
+use Rattle.mesa_history_spec.specs.mesa_batch.Totals.{abs_totals}
+use Rattle.mesa_history_spec.proofs.mesa_schema.LineageRecasts.{columns_first}
 use Rattle.mesa_record.specs.declared.record.Files.{Files}
 use Rattle.mesa_record.specs.declared.recasting.Recasting.{Recasting}
 use Rattle.mesa_image_spec.specs.Catalog.{Delta, Ending, Stock, base_told, recast_in, singles_told, start_in, stock_renewed}

@@ -4,17 +4,17 @@ use Rattle.std.proofs.lemmas.Bool.Decides.{nat_tests}
 use Rattle.std.proofs.lemmas.Bool.{leb-false}
 use Rattle.std.specs.Prelude.{option_map}
 use Rattle.std.specs.List.{AllByRecursion, list_all, list_any, range_with_len}
-use Rattle.mesa_batch.specs.mesa_schema.Columns.{aggs_of}
-use Rattle.mesa_batch.specs.mesa_schema.Names.{repeated}
-use Rattle.mesa_batch.specs.mesa_schema.Changes.{columns_of, epoch_of}
-use Rattle.mesa_batch.proofs.mesa_schema.Lists.{all_found}
-use Rattle.mesa_batch.proofs.mesa_schema.Maps.{is_some_position}
-use Rattle.mesa_batch.specs.Totals.{over_bound, sum_bound, totals_with}
+use Rattle.mesa_history_spec.specs.mesa_schema.Columns.{aggs_of}
+use Rattle.mesa_history_spec.specs.mesa_schema.Names.{repeated}
+use Rattle.mesa_history_spec.specs.mesa_schema.Changes.{columns_of, epoch_of}
+use Rattle.mesa_history_spec.proofs.mesa_schema.Lists.{all_found}
+use Rattle.mesa_history_spec.proofs.mesa_schema.Maps.{is_some_position}
+use Rattle.mesa_history_spec.specs.mesa_batch.Totals.{over_bound, sum_bound, totals_with}
 use Rattle.mesa_history_spec.specs.mesa_span.declared.works.Work.TheVariants as work
 use Rattle.mesa_history_spec.specs.mesa_span.Ranges.{end_of}
 use Rattle.mesa_history_spec.specs.mesa_span.Work.{is_missing, missing_end, possible_ends}
 use Rattle.mesa_history_spec.proofs.mesa_span.Reachable.{works_keep}
-use Rattle.mesa_batch.specs.Totals.{sums_in}
+use Rattle.mesa_history_spec.specs.mesa_batch.Totals.{sums_in}
 use Rattle.mesa_history_spec.specs.mesa_model.Warehouse.{max_versions}
 use Rattle.mesa_history_spec.specs.mesa_span.Ranges.{base_before}
 use Rattle.mesa_record.specs.declared.record.Files.{Files}

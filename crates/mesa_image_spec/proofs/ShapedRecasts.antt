@@ -2,13 +2,13 @@
 use Rattle.std.proofs.Common.{◌≡◌, ℕ, zero, suc, ◌<◌, ◌≤◌, List, [], ◌∷◌, ◌++◌, length, Option, Some, None, true, false, refl, arith, cond, slice_get, slice_index_or, take}
 use Rattle.std.specs.Prelude.{IfSome}
 use Rattle.std.specs.List.{AllByRecursion}
-use Rattle.mesa_batch.specs.mesa_value.declared.Agg.{Agg}
-use Rattle.mesa_batch.specs.mesa_schema.Columns.{aggs_of}
-use Rattle.mesa_batch.specs.mesa_schema.Changes.{Lineage, columns_of, epoch_of}
-use Rattle.mesa_batch.specs.mesa_schema.Recasts.{recast_lineage, recast_values}
-use Rattle.mesa_batch.specs.Totals.{chosen_totals, is_sum, sum_bound, sums_in, with_total}
-use Rattle.mesa_batch.proofs.mesa_schema.LineageRecasts.{lineage_recast, recast_allowed}
-use Rattle.mesa_batch.proofs.RecastTotals.{totals_count}
+use Rattle.mesa_delta.specs.mesa_value.declared.Agg.{Agg}
+use Rattle.mesa_history_spec.specs.mesa_schema.Columns.{aggs_of}
+use Rattle.mesa_history_spec.specs.mesa_schema.Changes.{Lineage, columns_of, epoch_of}
+use Rattle.mesa_history_spec.specs.mesa_schema.Recasts.{recast_lineage, recast_values}
+use Rattle.mesa_history_spec.specs.mesa_batch.Totals.{chosen_totals, is_sum, sum_bound, sums_in, with_total}
+use Rattle.mesa_history_spec.proofs.mesa_schema.LineageRecasts.{lineage_recast, recast_allowed}
+use Rattle.mesa_history_spec.proofs.mesa_batch.RecastTotals.{totals_count}
 use Rattle.mesa_record.specs.declared.record.Files.{Files}
 use Rattle.mesa_record.specs.declared.recasting.Recasting.{Recasting}
 use Rattle.mesa_record.specs.declared.record.Record.TheVariants as record_of

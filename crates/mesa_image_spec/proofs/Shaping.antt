@@ -3,10 +3,10 @@ use Rattle.std.proofs.Common.{◌≡◌, inl, inr, ℕ, suc, ◌+◌, ◌-◌, �
 use Rattle.std.specs.Prelude.{flat_map, max}
 use Rattle.std.proofs.lemmas.List.{length-map, map-append}
 use Rattle.std.specs.List.{AllByRecursion}
-use Rattle.mesa_batch.specs.mesa_schema.Columns.{aggs_of}
-use Rattle.mesa_batch.specs.mesa_schema.Changes.{columns_of, epoch_of}
-use Rattle.mesa_batch.specs.Totals.{sum_bound, totals_with}
-use Rattle.mesa_batch.specs.Totals.{sums_in}
+use Rattle.mesa_history_spec.specs.mesa_schema.Columns.{aggs_of}
+use Rattle.mesa_history_spec.specs.mesa_schema.Changes.{columns_of, epoch_of}
+use Rattle.mesa_history_spec.specs.mesa_batch.Totals.{sum_bound, totals_with}
+use Rattle.mesa_history_spec.specs.mesa_batch.Totals.{sums_in}
 use Rattle.mesa_history_spec.specs.mesa_span.declared.works.Work.TheVariants as work
 use Rattle.mesa_history_spec.specs.mesa_span.Ranges.{IsReachable}
 use Rattle.mesa_history_spec.specs.mesa_span.Work.{swapped}
@@ -15,9 +15,9 @@ use Rattle.mesa_record.specs.declared.record.Record.TheVariants as record_of
 use Rattle.mesa_image_spec.specs.Catalog.{Delta, Ending, Stock, Catalog, start_in, ranges_of, stock_from, stock_loaded, stock_swapped, applied, empty_delta, part_delta}
 use Rattle.mesa_image_spec.specs.Fitting.{base_deltas, delta_in, deltas_of, names_in}
 use Rattle.mesa_history_spec.specs.mesa_model.Warehouse.{max_tables}
-use Rattle.mesa_batch.specs.mesa_schema.Names.{repeated}
+use Rattle.mesa_history_spec.specs.mesa_schema.Names.{repeated}
 use Rattle.mesa_image_spec.specs.Shape.{HasBegun, HasBegunIfAny, IsShaped, IsCatalog, IsWithinBound, merged_deltas}
-use Rattle.mesa_batch.proofs.mesa_schema.Lists.{all_append, all_drop, all_map, all_so}
+use Rattle.mesa_history_spec.proofs.mesa_schema.Lists.{all_append, all_drop, all_map, all_so}
 use Rattle.mesa_image_spec.proofs.Lists.{all_front, all_back}
 use Rattle.mesa_image_spec.proofs.Kept.{ranges_swapped}
 

@@ -4,23 +4,23 @@ use Rattle.std.proofs.lemmas.Bool.Decides.{nat_tests}
 use Rattle.std.proofs.lemmas.List.Sums.{sum_by-cons}
 use Rattle.std.proofs.lemmas.Bool.{cases_lt}
 use Rattle.std.proofs.lemmas.List.{length-replicate, append-nil}
-use Rattle.mesa_list.specs.Checks.{◌>>◌, refuse_if}
+use Rattle.mesa_history_spec.specs.mesa_list.Checks.{◌>>◌, refuse_if}
 use Rattle.std.specs.Prelude.{option_map}
 use Rattle.std.specs.List.{AllByRecursion, list_all, range_with_len}
 use Rattle.std.proofs.lemmas.List.{take_all}
-use Rattle.mesa_batch.specs.mesa_schema.declared.changes.Change.{Change}
-use Rattle.mesa_batch.specs.mesa_schema.declared.changes.Change.TheVariants.{AddKey, AddValue, DropValue}
-use Rattle.mesa_batch.specs.mesa_schema.declared.changes.ChangeError.TheVariants.{EpochsFull}
-use Rattle.mesa_batch.specs.mesa_schema.declared.views.View.{View}
-use Rattle.mesa_batch.specs.mesa_schema.Columns.{Columns, aggs_of}
-use Rattle.mesa_batch.specs.mesa_schema.Schema.{is_schema}
-use Rattle.mesa_batch.specs.mesa_schema.Changes.{Lineage, changed, change_checked, columns_after, columns_at, columns_of, epoch_of, max_changes, rule_checked}
-use Rattle.mesa_batch.specs.mesa_schema.Views.{max_views}
-use Rattle.mesa_batch.specs.mesa_schema.Lineages.{IsLineage, is_view_of}
-use Rattle.mesa_batch.proofs.mesa_schema.LineageChanges.{lineage_changed, lineage_viewed}
-use Rattle.mesa_batch.proofs.mesa_schema.Lists.{all_append, all_replicate, all_so}
-use Rattle.mesa_batch.proofs.mesa_schema.PresentRows.{columns_more}
-use Rattle.mesa_batch.specs.Totals.{sum_bound, sums_in}
+use Rattle.mesa_history_spec.specs.mesa_schema.declared.changes.Change.{Change}
+use Rattle.mesa_history_spec.specs.mesa_schema.declared.changes.Change.TheVariants.{AddKey, AddValue, DropValue}
+use Rattle.mesa_history_spec.specs.mesa_schema.declared.changes.ChangeError.TheVariants.{EpochsFull}
+use Rattle.mesa_history_spec.specs.mesa_schema.declared.views.View.{View}
+use Rattle.mesa_history_spec.specs.mesa_schema.Columns.{Columns, aggs_of}
+use Rattle.mesa_history_spec.specs.mesa_schema.Schema.{is_schema}
+use Rattle.mesa_history_spec.specs.mesa_schema.Changes.{Lineage, changed, change_checked, columns_after, columns_at, columns_of, epoch_of, max_changes, rule_checked}
+use Rattle.mesa_history_spec.specs.mesa_schema.Views.{max_views}
+use Rattle.mesa_history_spec.specs.mesa_schema.Lineages.{IsLineage, is_view_of}
+use Rattle.mesa_history_spec.proofs.mesa_schema.LineageChanges.{lineage_changed, lineage_viewed}
+use Rattle.mesa_history_spec.proofs.mesa_schema.Lists.{all_append, all_replicate, all_so}
+use Rattle.mesa_history_spec.proofs.mesa_schema.PresentRows.{columns_more}
+use Rattle.mesa_history_spec.specs.mesa_batch.Totals.{sum_bound, sums_in}
 use Rattle.mesa_history_spec.specs.mesa_span.Ranges.{start_behind, end_of, ends_of_tens, IsReachable}
 use Rattle.mesa_history_spec.specs.mesa_model.Warehouse.{max_tables, max_versions}
 use Rattle.mesa_record.specs.Rules.{IsTypedChange}

@@ -5,18 +5,18 @@ use Rattle.std.proofs.lemmas.List.Sums.{sum_by-append}
 use Rattle.std.proofs.lemmas.Grind.{flat_map-append}
 use Rattle.std.specs.Prelude.{pos, nat_abs, slice_index_or}
 use Rattle.std.specs.List.{AllByRecursion}
-use Rattle.mesa_batch.specs.mesa_value.declared.Agg.{Agg}
-use Rattle.mesa_batch.specs.mesa_value.declared.Agg.TheVariants.{Sum, Min, Max, Replace}
-use Rattle.mesa_batch.specs.mesa_schema.declared.rows.Row.{Row}
-use Rattle.mesa_batch.specs.mesa_schema.declared.columns.ValueColumn.{ValueColumn}
-use Rattle.mesa_batch.specs.mesa_schema.Columns.{Columns, aggs_of}
-use Rattle.mesa_batch.specs.mesa_schema.Changes.{Lineage, columns_after, columns_at, columns_of, epoch_of}
-use Rattle.mesa_batch.specs.mesa_schema.Folded.{folded, rows_of}
-use Rattle.mesa_batch.specs.mesa_schema.Rows.{AreRowsOf, IsRowOf}
-use Rattle.mesa_batch.specs.mesa_schema.Laws.{AreFull}
-use Rattle.mesa_batch.proofs.mesa_schema.Lists.{all_append, all_both, all_drop, all_so}
-use Rattle.mesa_batch.specs.Totals.{AreAtMost, abs_total, abs_totals, sum_places, totals_with}
-use Rattle.mesa_batch.proofs.Merged.{folds_totals}
+use Rattle.mesa_delta.specs.mesa_value.declared.Agg.{Agg}
+use Rattle.mesa_delta.specs.mesa_value.declared.Agg.TheVariants.{Sum, Min, Max, Replace}
+use Rattle.mesa_history_spec.specs.mesa_schema.declared.rows.Row.{Row}
+use Rattle.mesa_history_spec.specs.mesa_schema.declared.columns.ValueColumn.{ValueColumn}
+use Rattle.mesa_history_spec.specs.mesa_schema.Columns.{Columns, aggs_of}
+use Rattle.mesa_history_spec.specs.mesa_schema.Changes.{Lineage, columns_after, columns_at, columns_of, epoch_of}
+use Rattle.mesa_history_spec.specs.mesa_schema.Folded.{folded, rows_of}
+use Rattle.mesa_history_spec.specs.mesa_schema.Rows.{AreRowsOf, IsRowOf}
+use Rattle.mesa_history_spec.specs.mesa_schema.Laws.{AreFull}
+use Rattle.mesa_history_spec.proofs.mesa_schema.Lists.{all_append, all_both, all_drop, all_so}
+use Rattle.mesa_history_spec.specs.mesa_batch.Totals.{AreAtMost, abs_total, abs_totals, sum_places, totals_with}
+use Rattle.mesa_history_spec.proofs.mesa_batch.Merged.{folds_totals}
 use Rattle.mesa_record.specs.declared.record.Part.{Part}
 use Rattle.mesa_image_spec.specs.Catalog.{Delta, Ending, Stock, start_in, stock_loaded, stock_swapped, empty_delta, part_delta}
 use Rattle.mesa_image_spec.specs.Fitting.{base_deltas, delta_in, deltas_of, delta_shelved}

@@ -1,7 +1,7 @@
 -- Every catalogue that bodies spell keeps what catalogues keep.
 use Rattle.std.proofs.Common.{◌≡◌, inr, ℕ, List, [], ◌∷◌, Option, Some, None, Result, Ok, Err, Bool, true, false, ◌&&◌, nat_le, nat_lt, refl, subst, arith}
 use Rattle.std.specs.List.{AllByRecursion}
-use Rattle.mesa_batch.specs.mesa_key.Spelling.{AreBytes}
+use Rattle.mesa_delta.specs.mesa_key.Spelling.{AreBytes}
 use Rattle.mesa_record.specs.declared.record.Record.{Record}
 use Rattle.mesa_record.specs.declared.record.Record.TheVariants as record_of
 use Rattle.mesa_record.specs.declared.error.RecordError.{RecordError}
@@ -9,8 +9,8 @@ use Rattle.mesa_record.specs.Reading.{record_at}
 use Rattle.mesa_record.specs.Rules.{IsRecord, IsTyped}
 use Rattle.mesa_record.proofs.RecordsBoth.{record_found}
 use Rattle.mesa_image_spec.specs.Catalog.{Catalog, empty_catalog, applied}
-use Rattle.mesa_commit.specs.mesa_disk.declared.area.Area.{Area}
-use Rattle.mesa_commit.specs.mesa_disk.declared.area.Area.TheVariants.{Zero, One}
+use Rattle.mesa_delta.specs.mesa_disk.declared.area.Area.{Area}
+use Rattle.mesa_delta.specs.mesa_disk.declared.area.Area.TheVariants.{Zero, One}
 use Rattle.mesa_record.specs.Rules.{IsTypedChange, IsTypedTable}
 use Rattle.mesa_record.specs.declared.checkpoint.StatedTable.{StatedTable}
 use Rattle.mesa_record.specs.declared.checkpoint.Checkpoint.{Checkpoint}
@@ -25,7 +25,7 @@ use Rattle.mesa_image_spec.proofs.StatableRecords.{applied_so, stated_so}
 use Rattle.mesa_image_spec.proofs.StatedShape.{stated_owns, stated_shaped}
 use Rattle.mesa_image_spec.proofs.CountedRecords.{fits_counted, stated_counted}
 use Rattle.mesa_image_spec.proofs.Recordable.{applied_recordable, stated_recordable}
-use Rattle.mesa_batch.proofs.mesa_schema.Lists.{all_so}
+use Rattle.mesa_history_spec.proofs.mesa_schema.Lists.{all_so}
 use Rattle.mesa_image_spec.specs.Shape.{IsCatalog}
 use Rattle.mesa_image_spec.specs.Ids.{HasOwnIds}
 use Rattle.mesa_image_spec.proofs.OneMore.{checkpoint_is}

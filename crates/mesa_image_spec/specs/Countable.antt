@@ -1,9 +1,9 @@
 -- What every catalogue keeps, so that its checkpoint fits.
 use Rattle.std.specs.Prelude.{◌≡◌, ◌≤◌, length, true, IfSome}
 use Rattle.std.specs.List.{AllByRecursion}
-use Rattle.mesa_batch.specs.mesa_schema.Columns.{aggs_of}
-use Rattle.mesa_batch.specs.mesa_schema.Changes.{Lineage, columns_at}
-use Rattle.mesa_batch.specs.Totals.{sums_in}
+use Rattle.mesa_history_spec.specs.mesa_schema.Columns.{aggs_of}
+use Rattle.mesa_history_spec.specs.mesa_schema.Changes.{Lineage, columns_at}
+use Rattle.mesa_history_spec.specs.mesa_batch.Totals.{sums_in}
 use Rattle.mesa_image_spec.specs.Catalog.{Delta, Stock, Catalog}
 use Rattle.mesa_image_spec.specs.Fitting.{deltas_of, files_fit_if_any, max_runs}
 use Rattle.mesa_image_spec.specs.CheckpointFits.{changes_pass}

@@ -1,14 +1,9 @@
-pub use Rattle.mesa_batch.specs as mesa_batch
-pub use Rattle.mesa_delta.specs.mesa_block as mesa_block
 pub use Rattle.mesa_commit.specs as mesa_commit
 pub use Rattle.mesa_delta.specs as mesa_delta
-pub use Rattle.mesa_commit.specs.mesa_disk as mesa_disk
 pub use Rattle.mesa_history_spec.specs as mesa_history_spec
-pub use Rattle.mesa_history_spec.specs.mesa_lease as mesa_lease
+pub use Rattle.mesa_delta.specs.mesa_key as mesa_key
 pub use Rattle.mesa_history_spec.specs.mesa_model as mesa_model
 pub use Rattle.mesa_record.specs as mesa_record
-pub use Rattle.mesa_batch.specs.mesa_schema as mesa_schema
-pub use Rattle.mesa_history_spec.specs.mesa_span as mesa_span
 pub mod Catalog
 pub mod Checkpoint
 pub mod SameFiles

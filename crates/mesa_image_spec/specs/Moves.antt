@@ -1,16 +1,16 @@
 -- What each command makes of what is kept, and what its record makes of the catalogue that stands for it.
 use Rattle.std.specs.Prelude.{◌≡◌, ℕ, List, [], ◌∷◌, ◌++◌, None, Bool, true, false, slice_set, slice_index_or}
-use Rattle.mesa_batch.specs.mesa_schema.declared.changes.Change.{Change}
-use Rattle.mesa_batch.specs.mesa_schema.declared.views.View.{View}
-use Rattle.mesa_batch.specs.mesa_schema.Columns.{Columns}
-use Rattle.mesa_batch.specs.mesa_schema.Recasts.{Recast}
-use Rattle.mesa_batch.specs.mesa_schema.Views.{with_view}
-use Rattle.mesa_batch.specs.Batch.{Placed}
+use Rattle.mesa_history_spec.specs.mesa_schema.declared.changes.Change.{Change}
+use Rattle.mesa_history_spec.specs.mesa_schema.declared.views.View.{View}
+use Rattle.mesa_history_spec.specs.mesa_schema.Columns.{Columns}
+use Rattle.mesa_history_spec.specs.mesa_schema.Recasts.{Recast}
+use Rattle.mesa_history_spec.specs.mesa_schema.Views.{with_view}
+use Rattle.mesa_history_spec.specs.mesa_batch.Batch.{Placed}
 use Rattle.mesa_history_spec.specs.mesa_span.declared.works.Work.{Work}
 use Rattle.mesa_history_spec.specs.mesa_span.declared.works.Work.TheVariants as work
 use Rattle.mesa_history_spec.specs.mesa_span.Ranges.{new_ranges}
 use Rattle.mesa_history_spec.specs.mesa_span.Work.{swapped}
-use Rattle.mesa_commit.specs.mesa_disk.Image.{Image}
+use Rattle.mesa_delta.specs.mesa_disk.Image.{Image}
 use Rattle.mesa_commit.specs.Images.{Has}
 use Rattle.mesa_history_spec.specs.mesa_model.Warehouse.{Table, Warehouse, table_at, with_table, with_tables}
 use Rattle.mesa_history_spec.specs.mesa_model.Load.{with_batch}

@@ -9,8 +9,8 @@ use Rattle.mesa_history_spec.specs.mesa_schema.Changes.{Lineage, columns_at, col
 use Rattle.mesa_history_spec.specs.mesa_schema.Views.{view_rows}
 use Rattle.mesa_history_spec.specs.mesa_schema.Folded.{folded, rows_of}
 use Rattle.mesa_history_spec.specs.mesa_batch.Totals.{AreAtMost, abs_totals}
-use Rattle.mesa_commit.specs.mesa_disk.Image.{Image}
-use Rattle.mesa_commit.specs.mesa_disk.declared.area.Area.{Area}
+use Rattle.mesa_delta.specs.mesa_disk.Image.{Image}
+use Rattle.mesa_delta.specs.mesa_disk.declared.area.Area.{Area}
 use Rattle.mesa_commit.specs.mesa_journal.Areas.{HasJournal}
 use Rattle.mesa_commit.specs.Images.{Has}
 use Rattle.mesa_record.specs.declared.record.ViewRef.{ViewRef}

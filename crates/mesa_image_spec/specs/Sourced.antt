@@ -1,9 +1,9 @@
 -- What the rows of a delta were made of: what a run found of a table when it began, and what the batches brought to it since, carried through its recasts.
 use Rattle.std.specs.Prelude.{◌≡◌, ℕ, ◌+◌, ◌<◌, ◌≤◌, List, [], ◌∷◌, ◌++◌, map, length, Option, None, Some, IfSome, ⊤}
 use Rattle.std.specs.List.{AllByRecursion}
-use Rattle.mesa_batch.specs.mesa_schema.Changes.{Lineage, columns_at, columns_of, epoch_of}
-use Rattle.mesa_batch.specs.mesa_schema.Rows.{AreRowsOf}
-use Rattle.mesa_batch.specs.Batch.{Named, Placed, rows_for}
+use Rattle.mesa_history_spec.specs.mesa_schema.Changes.{Lineage, columns_at, columns_of, epoch_of}
+use Rattle.mesa_history_spec.specs.mesa_schema.Rows.{AreRowsOf}
+use Rattle.mesa_history_spec.specs.mesa_batch.Batch.{Named, Placed, rows_for}
 use Rattle.mesa_history_spec.specs.mesa_span.Ranges.{Rise}
 use Rattle.mesa_history_spec.specs.Law.{Writing, written_through}
 use Rattle.mesa_history_spec.specs.Sources.{Source, Written, range_rows, sources_from, version_written}

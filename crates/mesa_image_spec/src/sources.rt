@@ -1,6 +1,6 @@
 // What the rows of deltas were made of.
-ghost use Rattle.mesa_batch.specs.Batch.{Placed, batch_of};
-ghost use Rattle.mesa_batch.specs.declared.words.RowWords.{RowWords as WordsOf};
+ghost use Rattle.mesa_history_spec.specs.mesa_batch.Batch.{Placed, batch_of};
+ghost use Rattle.mesa_history_spec.specs.mesa_batch.declared.words.RowWords.{RowWords as WordsOf};
 ghost use Rattle.mesa_history_spec.specs.Law.{Accepts, Regroups};
 ghost use Rattle.mesa_history_spec.specs.Sources.{Written, range_rows, sources_from};
 ghost use Rattle.mesa_image_spec.specs.Catalog.{Catalog, Delta, applied, merged_delta, recast_in, stock_at};
@@ -15,12 +15,12 @@ ghost use Rattle.mesa_record.specs.declared.record.Part.{Part as PartOf};
 ghost use Rattle.mesa_record.specs.declared.record.Record.TheVariants as record_of;
 ghost use Rattle.mesa_record.specs.declared.recasting.Recasting.{Recasting as RecastingOf};
 ghost use Rattle.mesa_record.specs.Rules.{IsTypedChange};
-ghost use Rattle.mesa_batch.specs.mesa_schema.Changes.{columns_of, epoch_of};
-ghost use Rattle.mesa_batch.specs.mesa_schema.Columns.{aggs_of};
-ghost use Rattle.mesa_batch.specs.mesa_schema.declared.changes.Change.{Change as ChangeOf};
-ghost use Rattle.mesa_batch.specs.mesa_schema.declared.columns.KeyColumn.{KeyColumn as KeyOf};
-ghost use Rattle.mesa_batch.specs.mesa_schema.declared.columns.ValueColumn.{ValueColumn as ValueOf};
-ghost use Rattle.mesa_batch.specs.mesa_schema.Folded.{folded};
+ghost use Rattle.mesa_history_spec.specs.mesa_schema.Changes.{columns_of, epoch_of};
+ghost use Rattle.mesa_history_spec.specs.mesa_schema.Columns.{aggs_of};
+ghost use Rattle.mesa_history_spec.specs.mesa_schema.declared.changes.Change.{Change as ChangeOf};
+ghost use Rattle.mesa_history_spec.specs.mesa_schema.declared.columns.KeyColumn.{KeyColumn as KeyOf};
+ghost use Rattle.mesa_history_spec.specs.mesa_schema.declared.columns.ValueColumn.{ValueColumn as ValueOf};
+ghost use Rattle.mesa_history_spec.specs.mesa_schema.Folded.{folded};
 ghost use Rattle.std.specs.Prelude.{◌≡◌, ◌≤◌, ◌<◌, ℕ, Bool, List, Ok, Option, length, map, true};
 
 /// A sound catalogue was made of what a run finds written of it.

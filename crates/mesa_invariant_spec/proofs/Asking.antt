@@ -1,7 +1,7 @@
 -- The turns of a query.
 use Rattle.std.proofs.Common.{◌≡◌, ℕ, ◌<◌, ◌^◌, List, [], ◌∷◌, ◌++◌, length, Bool, true, false, not, ◌||◌, ◌&&◌, ◌==◌, IsTrue, refl, sym, ◌∙◌, ap, subst, Option, None, Some, Ok}
 use Rattle.std.specs.Prelude.{is_none, is_some}
-use Rattle.mesa_io.specs.Causes.{last}
+use Rattle.mesa_disk.specs.mesa_io.Causes.{last}
 use Rattle.mesa_disk.specs.Story.{Story, Unmoved}
 use Rattle.mesa_history_spec.specs.mesa_filter.declared.words.QueryWords.{QueryWords}
 use Rattle.mesa_history_spec.specs.mesa_model.declared.commands.Command.{Command}

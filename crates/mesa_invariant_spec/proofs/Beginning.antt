@@ -2,7 +2,7 @@
 use Rattle.std.proofs.Common.{◌≡◌, ℕ, ◌+◌, ◌<◌, ◌≤◌, List, [], Bool, true, false, IsTrue, refl, sym, subst, arith, Option}
 use Rattle.std.specs.Io.KnownBytes.{Appends}
 use Rattle.std.proofs.KnownBytes.{Appends-nil}
-use Rattle.mesa_io.specs.Causes.{last}
+use Rattle.mesa_disk.specs.mesa_io.Causes.{last}
 use Rattle.mesa_disk.specs.Story.{Story, Unmoved}
 use Rattle.mesa_history_spec.specs.mesa_model.declared.entries.Entry.{Entry}
 use Rattle.mesa_history_spec.specs.Replay.{runs}

@@ -1,6 +1,6 @@
 -- Commands that one turn decides: they fail, they change the books alone, or they write.
 use Rattle.std.proofs.Common.{◌≡◌, ℕ, ◌<◌, ◌≤◌, ◌^◌, List, length, Bool, true, false, not, ◌||◌, ◌&&◌, IsTrue, refl, sym, ◌∙◌, ap, subst, arith, Option, Some, Ok, Err}
-use Rattle.mesa_io.specs.Causes.{Rose, last}
+use Rattle.mesa_disk.specs.mesa_io.Causes.{Rose, last}
 use Rattle.mesa_disk.specs.Story.{Story, Spans}
 use Rattle.mesa_history_spec.specs.mesa_batch.declared.words.RowWords.{RowWords}
 use Rattle.mesa_history_spec.specs.mesa_filter.declared.words.VersionWord.{VersionWord}

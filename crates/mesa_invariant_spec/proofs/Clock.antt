@@ -2,7 +2,7 @@
 use Rattle.std.proofs.Common.{◌≡◌, ⊎_elim, ℕ, ◌+◌, ◌-◌, ◌^◌, ◌<◌, ◌≤◌, List, [], ◌∷◌, Bool, true, false, IsTrue, refl, sym, ◌∙◌, ap, subst, arith, Option, None, Some, ◌||◌, ◌==◌}
 use Rattle.std.specs.Prelude.{min, nat_le, is_some, if◌then◌else◌}
 use Rattle.std.proofs.lemmas.Bool.Decides.{leb_tells}
-use Rattle.mesa_io.specs.Causes.{Rose, last}
+use Rattle.mesa_disk.specs.mesa_io.Causes.{Rose, last}
 use Rattle.mesa_history_spec.specs.mesa_model.declared.commands.Command.{Command}
 use Rattle.mesa_history_spec.specs.mesa_model.declared.commands.Script.{Script}
 use Rattle.mesa_history_spec.specs.mesa_model.declared.entries.Entry.{Entry}

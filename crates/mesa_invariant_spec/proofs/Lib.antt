@@ -1,4 +1,5 @@
 pub use Rattle.mesa_history_spec.proofs as mesa_history_spec
+pub use Rattle.mesa_history_spec.proofs.mesa_schema as mesa_schema
 pub mod Printed
 pub mod Clock
 pub mod Steps

@@ -1,7 +1,7 @@
 -- What a command that writes makes of a warehouse, and the change of books that it is.
 use Rattle.std.proofs.Common.{◌≡◌, ℕ, ◌+◌, List, [], ◌∷◌, ◌++◌, length, Bool, true, refl, sym, ◌∙◌, ap, IsTrue, None, Option, Some, Result, Ok, Err, ok_or}
 use Rattle.std.specs.Prelude.{nat_le}
-use Rattle.mesa_list.specs.Checks.{◌>>=◌, ◌>>◌, refuse_if, refuse_unless, refused_as}
+use Rattle.mesa_history_spec.specs.mesa_list.Checks.{◌>>=◌, ◌>>◌, refuse_if, refuse_unless, refused_as}
 use Rattle.mesa_history_spec.specs.mesa_schema.declared.changes.Change.{Change}
 use Rattle.mesa_history_spec.specs.mesa_schema.Changes.{change_checked, columns_of, epoch_of}
 use Rattle.mesa_history_spec.specs.mesa_schema.Names.{is_name}

@@ -1,7 +1,7 @@
 -- Pins and releases change a vault's books and nothing that a store keeps.
 use Rattle.std.proofs.Common.{◌≡◌, ℕ, ◌<◌, ◌^◌, List, [], ◌∷◌, ◌++◌, length, Bool, true, false, refl, sym, ◌∙◌, ap, ◌||◌, Option, None, Some, Result, Ok, Err, nat_le}
 use Rattle.std.specs.Prelude.{is_none}
-use Rattle.mesa_list.specs.Checks.{◌>>=◌, ◌>>◌, refuse_if}
+use Rattle.mesa_history_spec.specs.mesa_list.Checks.{◌>>=◌, ◌>>◌, refuse_if}
 use Rattle.mesa_disk.specs.Story.{Story}
 use Rattle.mesa_history_spec.specs.mesa_filter.declared.words.VersionWord.{VersionWord}
 use Rattle.mesa_history_spec.specs.mesa_model.declared.commands.Command.TheVariants as command

@@ -2,7 +2,7 @@
 use Rattle.std.proofs.Common.{◌≡◌, ◌<◌, ℕ, List, [], ◌∷◌, ◌++◌, Bool, true, false, not, IsTrue, refl, sym, ◌∙◌, ap, subst, arith, append_assoc, Option, None, Some}
 use Rattle.std.specs.Io.KnownBytes.{Appends}
 use Rattle.std.proofs.KnownBytes.{Appends-trans, Appends-nil}
-use Rattle.mesa_io.specs.Causes.{last}
+use Rattle.mesa_disk.specs.mesa_io.Causes.{last}
 use Rattle.mesa_history_spec.specs.mesa_model.declared.commands.Script.{Script}
 use Rattle.mesa_history_spec.specs.mesa_model.declared.entries.Entry.{Entry}
 use Rattle.mesa_history_spec.specs.mesa_model.declared.entries.Outcome.{Outcome}

@@ -1,6 +1,6 @@
 -- The close of a recast: its table is recast, or its lease ends.
 use Rattle.std.proofs.Common.{◌≡◌, ℕ, ◌<◌, ◌^◌, List, length, map, slice_set, Bool, true, false, ◌||◌, IsTrue, refl, sym, ◌∙◌, ap, Option, Some, Ok, Err}
-use Rattle.mesa_io.specs.Causes.{last}
+use Rattle.mesa_disk.specs.mesa_io.Causes.{last}
 use Rattle.mesa_disk.specs.Story.{Story, Unmoved}
 use Rattle.mesa_history_spec.specs.mesa_schema.Recasts.{Recast}
 use Rattle.mesa_history_spec.specs.mesa_model.declared.commands.Command.{Command}

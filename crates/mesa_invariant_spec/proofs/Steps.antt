@@ -1,7 +1,7 @@
 -- The invariant with one entry more: three lemmas, by what the turn's device work did.
 use Rattle.std.proofs.Common.{◌≡◌, ◌⊎◌, inl, inr, ⊎_elim, ℕ, ◌+◌, ◌<◌, ◌≤◌, List, [], ◌∷◌, ◌++◌, Bool, true, false, not, ◌||◌, IsTrue, refl, sym, ◌∙◌, ap, subst, arith, Option}
 use Rattle.std.proofs.lemmas.Bool.Decides.{leb_tells}
-use Rattle.mesa_io.specs.Causes.{last}
+use Rattle.mesa_disk.specs.mesa_io.Causes.{last}
 use Rattle.mesa_disk.specs.Image.{Image}
 use Rattle.mesa_disk.specs.Story.{Story, Elapses, Unmoved, Spans}
 use Rattle.mesa_history_spec.specs.mesa_model.declared.entries.Entry.{Entry}

@@ -1,6 +1,6 @@
 -- The invariant with one turn of a session's command more.
 use Rattle.std.proofs.Common.{◌≡◌, ℕ, ◌<◌, List, length, Bool, true, false, not, ◌||◌, IsTrue, refl, sym, ◌∙◌, ap, subst, arith, Option, None, Some}
-use Rattle.mesa_io.specs.Causes.{Rose, last}
+use Rattle.mesa_disk.specs.mesa_io.Causes.{Rose, last}
 use Rattle.mesa_disk.specs.Story.{Story, Unmoved, Spans}
 use Rattle.mesa_history_spec.specs.mesa_model.declared.commands.Command.{Command}
 use Rattle.mesa_history_spec.specs.mesa_model.declared.entries.Entry.{Entry}

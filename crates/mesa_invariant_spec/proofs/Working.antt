@@ -1,13 +1,13 @@
 -- The turns of a work, and those that it shares with a recast.
 use Rattle.std.proofs.Common.{◌≡◌, ℕ, ◌+◌, ◌<◌, ◌≤◌, ◌^◌, List, [], ◌∷◌, ◌++◌, length, Bool, true, false, not, ◌||◌, ◌&&◌, ◌==◌, IsTrue, refl, sym, ◌∙◌, ap, subst, arith, Option, None, Some, Result, Ok, Err, ok_or}
 use Rattle.std.specs.Prelude.{is_none, is_some, nat_lt}
-use Rattle.mesa_list.specs.Checks.{◌>>=◌, ◌>>◌, refuse_if, refused_as}
-use Rattle.mesa_io.specs.Causes.{Rose, last}
+use Rattle.mesa_history_spec.specs.mesa_list.Checks.{◌>>=◌, ◌>>◌, refuse_if, refused_as}
+use Rattle.mesa_disk.specs.mesa_io.Causes.{Rose, last}
 use Rattle.mesa_disk.specs.Story.{Story, Unmoved, Spans}
-use Rattle.mesa_span.specs.declared.works.Work.{Work}
-use Rattle.mesa_span.specs.declared.works.Work.TheVariants as range
-use Rattle.mesa_lease.specs.Book.{holder}
-use Rattle.mesa_span.specs.Work.{next_work}
+use Rattle.mesa_history_spec.specs.mesa_span.declared.works.Work.{Work}
+use Rattle.mesa_history_spec.specs.mesa_span.declared.works.Work.TheVariants as range
+use Rattle.mesa_history_spec.specs.mesa_lease.Book.{holder}
+use Rattle.mesa_history_spec.specs.mesa_span.Work.{next_work}
 use Rattle.mesa_history_spec.specs.mesa_schema.Changes.{epoch_of}
 use Rattle.mesa_history_spec.specs.mesa_schema.Recasts.{recast_checked}
 use Rattle.mesa_history_spec.specs.mesa_model.declared.commands.Command.{Command}

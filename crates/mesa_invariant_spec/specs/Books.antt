@@ -4,7 +4,7 @@ use Rattle.mesa_history_spec.specs.mesa_schema.Recasts.{Recast}
 use Rattle.mesa_history_spec.specs.mesa_model.Warehouse.{Pin, Warehouse}
 use Rattle.mesa_history_spec.specs.mesa_model.Pins.{with_pin, next_token, store_at, is_pin}
 use Rattle.mesa_history_spec.specs.mesa_model.Tables.{with_recast}
-use Rattle.mesa_span.specs.declared.works.Work.{Work}
+use Rattle.mesa_history_spec.specs.mesa_span.declared.works.Work.{Work}
 use Rattle.mesa_history_spec.specs.Machine.{Machine, Claim, claimed, claim_renewed, claim_ended, claim_merged, claim_recast}
 use Rattle.mesa_history_spec.specs.Run.{State}
 use Rattle.mesa_history_spec.specs.Found.{Kept, kept_of}

@@ -1,6 +1,6 @@
 -- Why a turn didn't do what its command asks.
 use Rattle.std.specs.Prelude.{ℕ, Bool, true, false}
-use Rattle.mesa_disk.specs.mesa_file.declared.damage.Damage.{Damage}
+use Rattle.mesa_history_spec.specs.mesa_file.declared.damage.Damage.{Damage}
 use Rattle.mesa_history_spec.specs.mesa_model.declared.entries.Outcome.{Outcome}
 use Rattle.mesa_history_spec.specs.mesa_model.declared.entries.Outcome.TheVariants as outcome
 use Rattle.mesa_history_spec.specs.mesa_model.declared.replies.Refusal.TheVariants as no

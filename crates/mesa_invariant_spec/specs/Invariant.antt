@@ -1,7 +1,7 @@
 -- The invariant: what a vault's books, disk and sink are to the history of its run.
 use Rattle.std.specs.Prelude.{◌≡◌, ◌⊎◌, ℕ, ◌+◌, ◌≤◌, ◌<◌, List, [], ◌∷◌, ◌++◌, Bool, not, false, Option, None, Some, IsTrue, true}
 use Rattle.std.specs.List.{AllByRecursion}
-use Rattle.mesa_io.specs.Causes.{last, Rose}
+use Rattle.mesa_disk.specs.mesa_io.Causes.{last, Rose}
 use Rattle.mesa_disk.specs.Image.{Image}
 use Rattle.mesa_disk.specs.Story.{Story, Spans}
 use Rattle.mesa_history_spec.specs.mesa_model.declared.commands.Script.{Script}

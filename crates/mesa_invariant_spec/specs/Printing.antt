@@ -1,7 +1,7 @@
 -- What a run has put on its sink.
 use Rattle.std.specs.Prelude.{◌≡◌, ◌<◌, ℕ, List, [], ◌∷◌, ◌++◌, Bool, true, false, Option, None, Some, IsTrue, option_map, take}
 use Rattle.std.specs.Io.KnownBytes.{Appends}
-use Rattle.mesa_io.specs.Causes.{last}
+use Rattle.mesa_disk.specs.mesa_io.Causes.{last}
 use Rattle.mesa_history_spec.specs.mesa_model.declared.commands.Script.{Script}
 use Rattle.mesa_history_spec.specs.mesa_model.declared.entries.Entry.{Entry}
 use Rattle.mesa_history_spec.specs.Run.{Run, Told}

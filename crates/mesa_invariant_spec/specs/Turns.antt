@@ -1,7 +1,7 @@
 -- One turn of a vault, as its caller sees it.
 use Rattle.std.specs.Prelude.{◌≡◌, ◌⊎◌, ℕ, ◌<◌, ◌≤◌, List, [], ◌∷◌, ◌++◌, Bool, true, false, ◌||◌, not, IsTrue}
 use Rattle.std.specs.List.{AllByRecursion}
-use Rattle.mesa_io.specs.Causes.{last, Rose}
+use Rattle.mesa_disk.specs.mesa_io.Causes.{last, Rose}
 use Rattle.mesa_disk.specs.Story.{Story}
 use Rattle.mesa_history_spec.specs.mesa_model.declared.commands.Command.{Command}
 use Rattle.mesa_history_spec.specs.mesa_model.declared.commands.Command.TheVariants as command

@@ -2,7 +2,7 @@
 use Rattle.std.specs.Prelude.{◌≡◌, ℕ, Bool, true, false, Option, None, Some, IsTrue, Result, Ok, Err}
 use Rattle.mesa_history_spec.specs.mesa_schema.Recasts.{Recast}
 use Rattle.mesa_history_spec.specs.mesa_model.declared.replies.Reply.{Reply}
-use Rattle.mesa_span.specs.declared.works.Work.{Work}
+use Rattle.mesa_history_spec.specs.mesa_span.declared.works.Work.{Work}
 use Rattle.mesa_history_spec.specs.Machine.{Claim, claim_merged}
 use Rattle.mesa_history_spec.specs.Run.{State, Stage, Granted, Renewed, Finished}
 use Rattle.mesa_history_spec.specs.Replay.{recasted, with_machine}

@@ -8,7 +8,7 @@ use Rattle.std.proofs.Math.ListN.{drop_of_length-le}
 use Rattle.std.proofs.lemmas.Bool.{eqb-true, eq-eqb}
 use Rattle.std.proofs.lemmas.Nat.{from_be_bytes-to_be_bytes_8, be_bytes_8}
 use Rattle.std.proofs.lemmas.List.{take_at, drop_at}
-pub use Rattle.mesa_list.proofs.Whole.{both}
+pub use Rattle.mesa_value.proofs.mesa_list.Whole.{both}
 use Rattle.mesa_key.specs.declared.KeyValue.{KeyValue}
 use Rattle.mesa_key.specs.declared.KeyValue.TheVariants as value
 use Rattle.mesa_key.specs.declared.KeyType.{KeyType}

@@ -8,7 +8,7 @@ use Rattle.std.proofs.lemmas.Bool.{ltb-true, ltb-false, le-leb, leb-false, leb-t
 use Rattle.std.proofs.lemmas.List.{take_all, length-take, length-take-le}
 use Rattle.std.proofs.Math.Bool.{and-false}
 use Rattle.mesa_key.specs.Spelling.{before_zero, column_length, is_column}
-use Rattle.mesa_list.proofs.Splits.{untrue}
+use Rattle.mesa_value.proofs.mesa_list.Splits.{untrue}
 use Rattle.mesa_key.specs.Columns.{is_whole}
 use Rattle.mesa_key.specs.declared.KeyType.{KeyType}
 use Rattle.mesa_key.specs.declared.KeyType.TheVariants as kind

@@ -1,6 +1,6 @@
 // Copies of key values.
 use crate::{KeyText, KeyType, KeyValue};
-use mesa_list::TryCopy;
+use mesa_value::TryCopy;
 use std::alloc::AllocError;
 
 impl TryCopy for KeyType {

@@ -6,7 +6,7 @@ ghost use Rattle.mesa_key.specs.Spelling.{IsKey, column_value, is_column, key_of
 
 use crate::text::is_utf8;
 use crate::{Column, ColumnValue, Key, KeyColumns, KeyText, KeyType, KeyValue};
-use mesa_list::Items;
+use mesa_value::Items;
 use std::alloc::{AllocError, AllocFailed, Global};
 
 /// Why bytes begin with no key of the types.

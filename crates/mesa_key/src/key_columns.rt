@@ -5,7 +5,7 @@ ghost use Rattle.mesa_key.specs.declared.KeyType.TheVariants as types;
 ghost use Rattle.mesa_key.specs.Columns.{is_whole, seen};
 
 use crate::{ColumnValue, KeyText, KeyType};
-use mesa_list::place_of_byte;
+use mesa_value::place_of_byte;
 use std::marker::Model;
 
 /// A column of an encoded key, lent by it: the eight bytes of an int, or a text's bytes and the zero behind them.

@@ -4,7 +4,7 @@ ghost use Rattle.std.specs.List.{list_any};
 ghost use Rattle.std.specs.Str.{is_utf8 as utf8_test};
 ghost use Rattle.mesa_key.specs.Text.{is_key_text};
 
-use mesa_list::{Items, TryCopy};
+use mesa_value::{Items, TryCopy};
 use std::alloc::AllocError;
 use std::marker::Model;
 

@@ -5,17 +5,17 @@ use Rattle.std.specs.Prelude.{Some, slice_get, nat_abs}
 use Rattle.std.proofs.lemmas.Int.{ints}
 use Rattle.std.proofs.lemmas.List.{length-map}
 use Rattle.std.proofs.lemmas.List.Sums.{sum_by-append}
-use Rattle.mesa_value.specs.declared.Agg.{Agg}
-use Rattle.mesa_value.specs.declared.Agg.TheVariants.{Sum, Min, Max, Replace}
-use Rattle.mesa_value.specs.Agg.{Combines}
+use Rattle.mesa_answer.specs.mesa_value.declared.Agg.{Agg}
+use Rattle.mesa_answer.specs.mesa_value.declared.Agg.TheVariants.{Sum, Min, Max, Replace}
+use Rattle.mesa_answer.specs.mesa_value.Agg.{Combines}
 use Rattle.mesa_schema.specs.declared.rows.Row.{Row}
 use Rattle.mesa_schema.specs.declared.columns.ValueColumn.{ValueColumn}
 use Rattle.mesa_schema.specs.Columns.{Columns, aggs_of}
 use Rattle.mesa_schema.specs.Folded.{row_combined, combined_from}
 use Rattle.mesa_schema.specs.Rows.{AreRowsOf, IsRowOf}
 use Rattle.mesa_batch.specs.Totals.{abs_total, sum_bound}
-use Rattle.mesa_block.specs.Rows.{Rise}
-use Rattle.mesa_block.specs.Spelling.{key_of}
+use Rattle.mesa_tasks.specs.mesa_block.Rows.{Rise}
+use Rattle.mesa_tasks.specs.mesa_block.Spelling.{key_of}
 use Rattle.mesa_delta.specs.Summary.{all_noted, aggregates, values_of, AllCombine}
 use Rattle.mesa_delta.specs.Writing.{MayFollow}
 use Rattle.mesa_load.specs.Filing.{AreFileRows}

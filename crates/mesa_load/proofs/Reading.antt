@@ -2,8 +2,8 @@
 use Rattle.std.proofs.Common.{◌≡◌, ◌≢◌, ℕ, ◌+◌, ◌<◌, List, [], ◌∷◌, drop, length, Ok, Err, sym, ap, subst, ◌∙◌}
 use Rattle.std.specs.Prelude.{Some, Result, slice_get, OnOk, IfErr, unwrap_or}
 use Rattle.std.specs.Result.{MatchResult, result_err}
-use Rattle.mesa_list.specs.Checks.{◌>>◌}
-use Rattle.mesa_value.specs.declared.Agg.{Agg}
+use Rattle.mesa_batch.specs.mesa_list.Checks.{◌>>◌}
+use Rattle.mesa_answer.specs.mesa_value.declared.Agg.{Agg}
 use Rattle.mesa_schema.specs.declared.rows.Row.{Row}
 use Rattle.mesa_schema.specs.Columns.{Columns, aggs_of}
 use Rattle.mesa_schema.specs.Folded.{folded}

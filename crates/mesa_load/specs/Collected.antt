@@ -1,6 +1,6 @@
 -- What is known of drafts that are opened or given back.
 use Rattle.std.specs.Prelude.{◌≡◌, ◌<◌, ℕ, List, [], ◌∷◌, ◌++◌, Option, Some, Result, Ok, Err, ⊤}
-use Rattle.mesa_io.specs.Causes.{Rose}
+use Rattle.mesa_tasks.specs.mesa_io.Causes.{Rose}
 use Rattle.mesa_load.specs.Jobs.{IsCounted}
 use Rattle.mesa_tasks.specs.declared.made.MadeFile.{MadeFile}
 use Rattle.mesa_tasks.specs.declared.prepared.LoadError.{LoadError}

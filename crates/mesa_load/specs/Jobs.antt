@@ -1,6 +1,6 @@
 -- Files that are written side by side.
 use Rattle.std.specs.Prelude.{◌≡◌, ◌<◌, ℕ, List, [], ◌∷◌, length, slice_index_or, Option, None, Some, IfSome, ⊤}
-use Rattle.mesa_io.specs.Causes.{Rose}
+use Rattle.mesa_tasks.specs.mesa_io.Causes.{Rose}
 use Rattle.mesa_schema.specs.declared.rows.Row.{Row}
 use Rattle.mesa_schema.specs.declared.views.View.{View}
 use Rattle.mesa_schema.specs.Changes.{Lineage, columns_of}

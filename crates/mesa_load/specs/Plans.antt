@@ -1,7 +1,7 @@
 -- What files a batch is to have.
 use Rattle.std.specs.Prelude.{◌≡◌, ◌<◌, ℕ, List, [], ◌∷◌, length, map, flat_map, Bool, true, false, Option, Result, Ok, Err, ⊤}
 use Rattle.std.specs.List.{AllByRecursion, list_any}
-use Rattle.mesa_value.specs.declared.Agg.{Agg}
+use Rattle.mesa_answer.specs.mesa_value.declared.Agg.{Agg}
 use Rattle.mesa_schema.specs.declared.rows.Row.{Row}
 use Rattle.mesa_schema.specs.Columns.{Columns}
 use Rattle.mesa_schema.specs.Changes.{Lineage, columns_of}

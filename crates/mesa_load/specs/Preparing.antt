@@ -1,6 +1,6 @@
 -- Preparing a batch.
 use Rattle.std.specs.Prelude.{◌≡◌, ℕ, List, Result, Err, IsOk}
-use Rattle.mesa_io.specs.Causes.{Rose}
+use Rattle.mesa_tasks.specs.mesa_io.Causes.{Rose}
 use Rattle.mesa_batch.specs.Batch.{Placed}
 use Rattle.mesa_batch.specs.declared.words.BatchError.{BatchError}
 use Rattle.mesa_tasks.specs.declared.prepared.LoadError.{LoadError}

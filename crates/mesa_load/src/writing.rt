@@ -1,6 +1,6 @@
 // One file of rows.
 ghost use Rattle.std.specs.Prelude.{◌≡◌, ◌<◌, ℕ, List, [], Some, length, IfOk, IfErr, OnOk};
-ghost use Rattle.mesa_io.specs.Causes.{HasFaultCause};
+ghost use Rattle.mesa_tasks.specs.mesa_io.Causes.{HasFaultCause};
 ghost use Rattle.mesa_delta.specs.declared.error.WriteError.TheVariants.{Draft as DraftFault};
 ghost use Rattle.mesa_delta.specs.Writing.{HasTaken, columns_of, draft_of, id_of};
 ghost use Rattle.mesa_schema.specs.declared.rows.Row.{Row as AnyRow};

@@ -2,7 +2,7 @@
 use Rattle.std.proofs.Common.{◌≡◌, ℕ, zero, suc, ◌<◌, ◌≤◌, List, [], ◌∷◌, inl, inr, refl, sym, ◌∙◌, ap, length, get_or, set, arith, true}
 use Rattle.std.specs.Prelude.{Option, Some, slice_get, Result, Ok, Err}
 use Rattle.std.specs.List.{AllByRecursion}
-use Rattle.mesa_io.specs.Causes.{HasFaultCause, Rose}
+use Rattle.mesa_scan.specs.mesa_io.Causes.{HasFaultCause, Rose}
 use Rattle.mesa_schema.specs.declared.rows.Row.{Row}
 use Rattle.mesa_schema.specs.Changes.{columns_of}
 use Rattle.mesa_schema.specs.Columns.{Columns}

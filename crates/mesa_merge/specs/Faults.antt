@@ -1,6 +1,6 @@
 -- When a fault of one of several readers may be answered, told by their counts of faults.
 use Rattle.std.specs.Prelude.{◌≡◌, ◌⊎◌, ℕ, ◌≤◌, List, [], ◌∷◌, map, Result, OnOk, IfErr, ⊤}
-use Rattle.mesa_io.specs.Causes.{Rose}
+use Rattle.mesa_scan.specs.mesa_io.Causes.{Rose}
 use Rattle.mesa_delta.specs.declared.input.Input.{Input}
 use Rattle.mesa_scan.specs.Cursors.{reader_in}
 

@@ -1,7 +1,7 @@
 -- Sums that leave their type, and which file is told of.
 use Rattle.std.specs.Prelude.{◌≡◌, ◌⊎◌, ℕ, ◌<◌, ◌≤◌, List, [], ◌∷◌, get_or}
-use Rattle.mesa_file.specs.declared.damage.Damage.{Damage}
-use Rattle.mesa_file.specs.declared.damage.Seen.TheVariants as seen
+use Rattle.mesa_scan.specs.mesa_file.declared.damage.Damage.{Damage}
+use Rattle.mesa_scan.specs.mesa_file.declared.damage.Seen.TheVariants as seen
 use Rattle.mesa_schema.specs.declared.rows.Row.{Row}
 use Rattle.mesa_schema.specs.Laws.{AreUnder}
 

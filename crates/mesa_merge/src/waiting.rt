@@ -1,6 +1,6 @@
 // The first blocks of inputs, read ahead.
 ghost use Rattle.std.specs.Prelude.{◌≡◌, ◌<◌, List, length, Some, slice_get, IfErr};
-ghost use Rattle.mesa_io.specs.Causes.{HasFaultCause};
+ghost use Rattle.mesa_scan.specs.mesa_io.Causes.{HasFaultCause};
 ghost use Rattle.mesa_delta.specs.declared.error.FileError.TheVariants as file_error;
 ghost use Rattle.mesa_delta.specs.Ahead.{AreAhead, Told as AnyTold};
 ghost use Rattle.mesa_scan.specs.Cursors.{reader_in};

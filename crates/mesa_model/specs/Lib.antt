@@ -1,7 +1,9 @@
 pub use Rattle.mesa_batch.specs as mesa_batch
 pub use Rattle.mesa_file.specs as mesa_file
 pub use Rattle.mesa_filter.specs as mesa_filter
-pub use Rattle.mesa_schema.specs as mesa_schema
+pub use Rattle.mesa_key.specs as mesa_key
+pub use Rattle.mesa_list.specs as mesa_list
+pub use Rattle.mesa_value.specs as mesa_value
 pub mod Entry
 pub mod Warehouse
 pub mod Relations

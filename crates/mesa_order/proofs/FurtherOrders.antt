@@ -5,12 +5,12 @@ use Rattle.std.specs.List.{AllByRecursion, concat, cons_option, enumerate_from, 
 use Rattle.std.proofs.lemmas.Bool.{ltb-true}
 use Rattle.std.proofs.lemmas.List.{append-nil, length-map}
 use Rattle.std.proofs.lemmas.Simd.{map-map}
-use Rattle.mesa_value.specs.declared.Agg.{Agg}
-use Rattle.mesa_value.specs.Agg.{IsOrderless}
-use Rattle.mesa_key.specs.declared.KeyType.{KeyType}
-use Rattle.mesa_key.specs.declared.KeyValue.{KeyValue}
-use Rattle.mesa_key.specs.Spelling.{IsKey, columns_of as key_columns, key_of, key_spelling}
-use Rattle.mesa_key.proofs.Keys.{key_again}
+use Rattle.mesa_model.specs.mesa_value.declared.Agg.{Agg}
+use Rattle.mesa_model.specs.mesa_value.Agg.{IsOrderless}
+use Rattle.mesa_model.specs.mesa_key.declared.KeyType.{KeyType}
+use Rattle.mesa_model.specs.mesa_key.declared.KeyValue.{KeyValue}
+use Rattle.mesa_model.specs.mesa_key.Spelling.{IsKey, columns_of as key_columns, key_of, key_spelling}
+use Rattle.mesa_schema.proofs.mesa_key.Keys.{key_again}
 use Rattle.mesa_schema.specs.declared.columns.KeyColumn.{KeyColumn}
 use Rattle.mesa_schema.specs.declared.columns.ValueColumn.{ValueColumn}
 use Rattle.mesa_schema.specs.declared.rows.Row.{Row}

@@ -4,10 +4,10 @@ use Rattle.std.specs.Prelude.{◌==◌, filter, is_some}
 use Rattle.std.specs.List.{AllByRecursion}
 use Rattle.mesa_schema.proofs.Lists.{all_found}
 use Rattle.mesa_span.specs.Plan.{longest}
-use Rattle.mesa_image_spec.specs.Catalog.{Delta, Ending, Stock, end_in, start_in}
-use Rattle.mesa_image_spec.specs.Fitting.{base_deltas, delta_in, deltas_of}
-use Rattle.mesa_image_spec.specs.Brought.{merged_of}
-use Rattle.mesa_image_spec.specs.Planned.{behind_base, ending_at, longest_to, planned}
+use Rattle.mesa_rules.specs.mesa_image_spec.Catalog.{Delta, Ending, Stock, end_in, start_in}
+use Rattle.mesa_rules.specs.mesa_image_spec.Fitting.{base_deltas, delta_in, deltas_of}
+use Rattle.mesa_rules.specs.mesa_image_spec.Brought.{merged_of}
+use Rattle.mesa_rules.specs.mesa_image_spec.Planned.{behind_base, ending_at, longest_to, planned}
 use Rattle.mesa_plans.specs.Folding.{folded_deltas}
 use Rattle.mesa_plans.specs.Lent.{AreOfEpochs}
 

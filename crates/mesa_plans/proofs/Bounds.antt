@@ -3,8 +3,8 @@ use Rattle.std.proofs.Common.{◌≡◌, ℕ, ◌+◌, ◌<◌, ◌≤◌, List,
 use Rattle.std.specs.Prelude.{flat_map, nat_lt, slice_get, ◌==◌}
 use Rattle.std.specs.List.{AllByRecursion, cons_option, list_all}
 use Rattle.std.proofs.lemmas.List.{append-nil, length-map, map-append}
-use Rattle.mesa_record.specs.mesa_value.declared.Agg.{Agg}
-use Rattle.mesa_record.specs.mesa_value.declared.Agg.TheVariants.{Sum}
+use Rattle.mesa_table.specs.mesa_value.declared.Agg.{Agg}
+use Rattle.mesa_table.specs.mesa_value.declared.Agg.TheVariants.{Sum}
 use Rattle.mesa_schema.specs.Changes.{Lineage, columns_of, epoch_of, lifted}
 use Rattle.mesa_list.specs.Bytes.{same_bytes}
 use Rattle.mesa_schema.specs.Columns.{Columns, aggs_of, chosen, place_of, places_in, value_names}
@@ -16,25 +16,25 @@ use Rattle.mesa_schema.specs.declared.columns.ValueColumn.{ValueColumn}
 use Rattle.mesa_schema.specs.declared.rows.Row.{Row}
 use Rattle.mesa_schema.specs.declared.views.View.{View}
 use Rattle.mesa_schema.proofs.Lists.{all_found}
-use Rattle.mesa_batch.proofs.NameNumbers.{position-within}
-use Rattle.mesa_batch.specs.Totals.{abs_total, sum_bound}
-use Rattle.mesa_batch.proofs.Merged.{folds_totals}
-use Rattle.mesa_filter.specs.Query.{are_places}
+use Rattle.mesa_rules.proofs.mesa_batch.NameNumbers.{position-within}
+use Rattle.mesa_rules.specs.mesa_batch.Totals.{abs_total, sum_bound}
+use Rattle.mesa_rules.proofs.mesa_batch.Merged.{folds_totals}
+use Rattle.mesa_rules.specs.mesa_filter.Query.{are_places}
 use Rattle.mesa_query.specs.mesa_answer.Answering.{KeepsSums}
 use Rattle.mesa_query.proofs.mesa_answer.Bounds.{bound_regrouped, full_regrouped}
 use Rattle.mesa_query.proofs.mesa_answer.Picked.{chosen-map}
 use Rattle.mesa_rules.proofs.mesa_catalog.Loads.{found_passes}
 use Rattle.mesa_delta.specs.declared.input.Input.{Input}
 use Rattle.mesa_disk.specs.Image.{Image}
-use Rattle.mesa_table.specs.mesa_image_spec.Catalog.{Delta, Stock}
-use Rattle.mesa_table.specs.mesa_image_spec.Contents.{Rows, present, rows_if_any}
-use Rattle.mesa_table.specs.mesa_image_spec.Fitting.{delta_shelved, deltas_of}
-use Rattle.mesa_table.specs.mesa_image_spec.Shape.{IsShaped}
-use Rattle.mesa_table.specs.mesa_image_spec.Sound.{AreGrouped, IsGrouped, IsGroupedAs, IsStocked, IsTold}
-use Rattle.mesa_image_spec.specs.Planned.{planned}
-use Rattle.mesa_image_spec.proofs.Contents.{present_now}
-use Rattle.mesa_image_spec.proofs.Formed.{AreFormed, all_formed, rows_formed}
-use Rattle.mesa_image_spec.proofs.Lists.{all_unflat, is_equal}
+use Rattle.mesa_rules.specs.mesa_image_spec.Catalog.{Delta, Stock}
+use Rattle.mesa_rules.specs.mesa_image_spec.Contents.{Rows, present, rows_if_any}
+use Rattle.mesa_rules.specs.mesa_image_spec.Fitting.{delta_shelved, deltas_of}
+use Rattle.mesa_rules.specs.mesa_image_spec.Shape.{IsShaped}
+use Rattle.mesa_rules.specs.mesa_image_spec.Sound.{AreGrouped, IsGrouped, IsGroupedAs, IsStocked, IsTold}
+use Rattle.mesa_rules.specs.mesa_image_spec.Planned.{planned}
+use Rattle.mesa_rules.proofs.mesa_image_spec.Contents.{present_now}
+use Rattle.mesa_rules.proofs.mesa_image_spec.Formed.{AreFormed, all_formed, rows_formed}
+use Rattle.mesa_rules.proofs.mesa_image_spec.Lists.{all_unflat, is_equal}
 use Rattle.mesa_query.specs.mesa_merge.Inputs.{knowns_of}
 use Rattle.mesa_plans.specs.Read.{own_file, relation_read, view_read}
 use Rattle.mesa_plans.specs.Told.{parts_under}

@@ -5,13 +5,13 @@ use Rattle.std.proofs.lemmas.List.{get_or-map, length-map}
 use Rattle.std.proofs.lemmas.List.FromFn.{get_or-map-range_with_len}
 use Rattle.std.proofs.lemmas.Simd.{map-map}
 use Rattle.std.proofs.Math.ListN.{get_or-map as get_or-map_all}
-use Rattle.mesa_batch.specs.Glance.{Known}
+use Rattle.mesa_rules.specs.mesa_batch.Glance.{Known}
 use Rattle.mesa_rules.specs.mesa_catalog.Lookups.{known_as}
-use Rattle.mesa_rules.specs.mesa_catalog.mesa_image_spec.Catalog.{Catalog, no_stock, stock_at}
-use Rattle.mesa_rules.specs.mesa_catalog.mesa_image_spec.Contents.{Rows, content, kept_of, table_of}
-use Rattle.mesa_model.specs.Pins.{store_at, table_pinned}
-use Rattle.mesa_model.specs.Relations.{relation_columns, relation_content}
-use Rattle.mesa_model.specs.Warehouse.{Store, Table, Warehouse, content_at, no_table, table_at}
+use Rattle.mesa_rules.specs.mesa_image_spec.Catalog.{Catalog, no_stock, stock_at}
+use Rattle.mesa_rules.specs.mesa_image_spec.Contents.{Rows, content, kept_of, table_of}
+use Rattle.mesa_rules.specs.mesa_model.Pins.{store_at, table_pinned}
+use Rattle.mesa_rules.specs.mesa_model.Relations.{relation_columns, relation_content}
+use Rattle.mesa_rules.specs.mesa_model.Warehouse.{Store, Table, Warehouse, content_at, no_table, table_at}
 use Rattle.mesa_plans.proofs.Reading.{columns_read}
 use Rattle.mesa_plans.proofs.Telling.{content_read}
 use Rattle.mesa_rules.proofs.Answering.{columns_there}
@@ -22,7 +22,7 @@ use Rattle.mesa_schema.specs.Columns.{Columns}
 use Rattle.mesa_schema.specs.Views.{view_columns, view_rows}
 use Rattle.mesa_schema.specs.declared.rows.Row.{Row}
 use Rattle.mesa_schema.specs.declared.views.View.{View}
-use Rattle.mesa_rules.specs.mesa_catalog.mesa_table.declared.relation.Relation.{Relation as Place}
+use Rattle.mesa_table.specs.declared.relation.Relation.{Relation as Place}
 use Rattle.mesa_tasks.specs.Pins.{view_at}
 
 -- A store has a catalogue's tables, and the one of a number has its content at a version.

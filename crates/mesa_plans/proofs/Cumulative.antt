@@ -11,15 +11,15 @@ use Rattle.mesa_rules.proofs.mesa_catalog.Loads.{found_passes}
 use Rattle.mesa_span.specs.Plan.{longest}
 use Rattle.mesa_span.proofs.Longest.{longest_is}
 use Rattle.mesa_span.proofs.Reachable.{reachable_in_order}
-use Rattle.mesa_table.specs.mesa_image_spec.Catalog.{Ending, Stock, end_in, ranges_of, start_in}
-use Rattle.mesa_table.specs.mesa_image_spec.Contents.{Rows, present}
-use Rattle.mesa_table.specs.mesa_image_spec.Shape.{IsShaped}
-use Rattle.mesa_table.specs.mesa_image_spec.Sound.{IsMerged, IsStocked}
-use Rattle.mesa_image_spec.specs.Brought.{merged_of}
-use Rattle.mesa_image_spec.specs.Planned.{behind_base, ending_at, longest_to}
-use Rattle.mesa_image_spec.proofs.Contents.{drop_take}
-use Rattle.mesa_image_spec.proofs.Lists.{is_equal}
-use Rattle.mesa_image_spec.proofs.Plans.{planned_folds}
+use Rattle.mesa_rules.specs.mesa_image_spec.Catalog.{Ending, Stock, end_in, ranges_of, start_in}
+use Rattle.mesa_rules.specs.mesa_image_spec.Contents.{Rows, present}
+use Rattle.mesa_rules.specs.mesa_image_spec.Shape.{IsShaped}
+use Rattle.mesa_rules.specs.mesa_image_spec.Sound.{IsMerged, IsStocked}
+use Rattle.mesa_rules.specs.mesa_image_spec.Brought.{merged_of}
+use Rattle.mesa_rules.specs.mesa_image_spec.Planned.{behind_base, ending_at, longest_to}
+use Rattle.mesa_rules.proofs.mesa_image_spec.Contents.{drop_take}
+use Rattle.mesa_rules.proofs.mesa_image_spec.Lists.{is_equal}
+use Rattle.mesa_rules.proofs.mesa_image_spec.Plans.{planned_folds}
 use Rattle.mesa_plans.specs.Folding.{folded_deltas}
 
 module _ (rows : Rows) (floor next : ℕ) (t : Stock) (shaped : IsShaped floor next t) (stocked : IsStocked rows t) where

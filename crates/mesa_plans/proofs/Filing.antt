@@ -4,7 +4,7 @@ use Rattle.std.specs.Prelude.{flat_map, is_some, Option, Some, None}
 use Rattle.std.specs.List.{AllByRecursion}
 use Rattle.mesa_schema.specs.Changes.{Lineage, epoch_of}
 use Rattle.mesa_record.specs.declared.record.Files.{Files}
-use Rattle.mesa_image_spec.specs.Catalog.{Delta}
+use Rattle.mesa_rules.specs.mesa_image_spec.Catalog.{Delta}
 use Rattle.mesa_table.specs.declared.table.Loaded.{Loaded}
 use Rattle.mesa_table.proofs.Named.{flat_map-map}
 use Rattle.mesa_table.proofs.Singles.{flat_map-append}

@@ -2,9 +2,9 @@
 use Rattle.std.proofs.Common.{◌≡◌, ℕ, List, [], ◌∷◌, ◌++◌, map, refl, sym, ap, ◌∙◌, subst, true, false, cond, Option, Some, None, Result, Ok, Err}
 use Rattle.std.specs.Prelude.{◌==◌, find, flat_map, is_ok, slice_get}
 use Rattle.std.specs.List.{AllByRecursion}
-use Rattle.mesa_record.specs.mesa_value.Agg.{IsOrderless}
-use Rattle.mesa_record.specs.mesa_value.declared.Agg.{Agg}
-use Rattle.mesa_record.specs.mesa_value.declared.Agg.TheVariants.{Sum, Min, Max, Replace}
+use Rattle.mesa_table.specs.mesa_value.Agg.{IsOrderless}
+use Rattle.mesa_table.specs.mesa_value.declared.Agg.{Agg}
+use Rattle.mesa_table.specs.mesa_value.declared.Agg.TheVariants.{Sum, Min, Max, Replace}
 use Rattle.mesa_schema.specs.Changes.{Lineage, columns_of, epoch_of, lifted}
 use Rattle.mesa_schema.specs.Columns.{Columns, aggs_of, chosen, key_names, value_names}
 use Rattle.mesa_schema.specs.Folded.{folded, folded_at, keys_of, rows_of}
@@ -21,11 +21,11 @@ use Rattle.mesa_schema.proofs.Lists.{all_found}
 use Rattle.mesa_schema.proofs.Passing.{passed_first}
 use Rattle.mesa_query.proofs.mesa_answer.Picked.{chosen-map}
 use Rattle.mesa_rules.proofs.mesa_catalog.Loads.{found_passes}
-use Rattle.mesa_table.specs.mesa_image_spec.Catalog.{Delta}
-use Rattle.mesa_table.specs.mesa_image_spec.Contents.{Rows, present, rows_if_any}
-use Rattle.mesa_table.specs.mesa_image_spec.Sound.{AreGrouped, IsGrouped, IsGroupedAs}
-use Rattle.mesa_image_spec.proofs.Contents.{present_now}
-use Rattle.mesa_image_spec.proofs.Lists.{is_equal}
+use Rattle.mesa_rules.specs.mesa_image_spec.Catalog.{Delta}
+use Rattle.mesa_rules.specs.mesa_image_spec.Contents.{Rows, present, rows_if_any}
+use Rattle.mesa_rules.specs.mesa_image_spec.Sound.{AreGrouped, IsGrouped, IsGroupedAs}
+use Rattle.mesa_rules.proofs.mesa_image_spec.Contents.{present_now}
+use Rattle.mesa_rules.proofs.mesa_image_spec.Lists.{is_equal}
 use Rattle.mesa_plans.specs.Read.{own_file, relation_read}
 use Rattle.mesa_plans.proofs.Given.{part_of}
 use Rattle.mesa_plans.specs.Files.{files_seen, files_wanted, own_lineage, seen_by, table_wanted, view_file, view_wanted}

@@ -2,23 +2,23 @@
 use Rattle.std.proofs.Common.{◌≡◌, ℕ, List, [], ◌∷◌, ◌++◌, map, length, refl, sym, ap, ◌∙◌, subst, Option, Some, None}
 use Rattle.std.specs.Prelude.{◌==◌, flat_map, slice_get}
 use Rattle.std.specs.List.{AllByRecursion}
-use Rattle.mesa_disk.specs.mesa_key.Order.{short_key}
+use Rattle.mesa_table.specs.mesa_key.Order.{short_key}
 use Rattle.mesa_schema.specs.Changes.{Lineage, columns_at, columns_of, epoch_of, lifted}
 use Rattle.mesa_schema.specs.Columns.{Columns}
 use Rattle.mesa_schema.specs.declared.rows.Row.{Row}
 use Rattle.mesa_schema.specs.declared.views.View.{View}
 use Rattle.mesa_schema.proofs.Lists.{all_found}
 use Rattle.mesa_rules.proofs.mesa_catalog.Loads.{found_passes}
-use Rattle.mesa_delta.specs.mesa_block.Layout.{Layout}
+use Rattle.mesa_query.specs.mesa_block.Layout.{Layout}
 use Rattle.mesa_delta.specs.File.{IsFile, file_bytes}
 use Rattle.mesa_delta.specs.Spread.{blocks_of}
 use Rattle.mesa_delta.specs.declared.input.Input.{Input}
 use Rattle.mesa_disk.specs.Image.{Image, file_of}
-use Rattle.mesa_table.specs.mesa_image_spec.Catalog.{Delta}
-use Rattle.mesa_table.specs.mesa_image_spec.Contents.{Rows}
-use Rattle.mesa_table.specs.mesa_image_spec.Fitting.{Shelved, columns_seen, delta_shelved, files_shelved, view_shelved}
-use Rattle.mesa_table.specs.mesa_image_spec.Sound.{IsTold, bytes_of}
-use Rattle.mesa_image_spec.proofs.Lists.{all_unmap, is_equal}
+use Rattle.mesa_rules.specs.mesa_image_spec.Catalog.{Delta}
+use Rattle.mesa_rules.specs.mesa_image_spec.Contents.{Rows}
+use Rattle.mesa_rules.specs.mesa_image_spec.Fitting.{Shelved, columns_seen, delta_shelved, files_shelved, view_shelved}
+use Rattle.mesa_rules.specs.mesa_image_spec.Sound.{IsTold, bytes_of}
+use Rattle.mesa_rules.proofs.mesa_image_spec.Lists.{all_unmap, is_equal}
 use Rattle.mesa_query.specs.mesa_merge.Inputs.{AreTold, known_of, knowns_of}
 use Rattle.mesa_query.specs.mesa_merge.Inputs.{IsTold as IsToldInput}
 use Rattle.mesa_plans.specs.Read.{own_file, relation_read, view_read}

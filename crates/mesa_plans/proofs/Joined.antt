@@ -3,17 +3,17 @@ use Rattle.std.proofs.Common.{◌≡◌, ℕ, ◌+◌, List, [], ◌∷◌, ◌+
 use Rattle.std.specs.Prelude.{◌≢◌, flat_map, is_some, IfSome}
 use Rattle.sha2.specs.Sha256.{sha256}
 use Rattle.mesa_file.specs.declared.file_ref.FileRef.{FileRef}
-use Rattle.mesa_tasks.specs.mesa_delta.Reading.{IsTailDamage}
-use Rattle.mesa_tasks.specs.mesa_delta.Summary.{file_layout}
+use Rattle.mesa_delta.specs.Reading.{IsTailDamage}
+use Rattle.mesa_delta.specs.Summary.{file_layout}
 use Rattle.std.specs.List.{AllByRecursion}
 use Rattle.mesa_file.specs.declared.damage.Damage.{Damage}
 use Rattle.mesa_schema.specs.Columns.{Columns}
 use Rattle.mesa_schema.specs.Changes.{Lineage}
 use Rattle.mesa_schema.specs.declared.views.View.{View}
 use Rattle.mesa_disk.specs.Image.{Image}
-use Rattle.mesa_tasks.specs.mesa_delta.declared.input.Input.{Input}
+use Rattle.mesa_delta.specs.declared.input.Input.{Input}
 use Rattle.mesa_record.specs.declared.record.Files.{Files}
-use Rattle.mesa_table.specs.mesa_image_spec.Catalog.{Delta}
+use Rattle.mesa_rules.specs.mesa_image_spec.Catalog.{Delta}
 use Rattle.mesa_tasks.specs.Inputs.{AreInputsOf}
 use Rattle.mesa_tasks.specs.Opening.{HaveOpened, IsDamageOf, wanted_columns}
 use Rattle.mesa_tasks.specs.Tasks.{AreTaskViews}

@@ -4,9 +4,9 @@ use Rattle.std.specs.Prelude.{flat_map, is_some, nat_le, nat_lt, Some, slice_get
 use Rattle.std.proofs.lemmas.Bool.Decides.{nat_tests}
 use Rattle.std.proofs.lemmas.List.Elements.{filter-append, filter_agree}
 use Rattle.mesa_span.specs.Ranges.{end_of, start_behind}
-use Rattle.mesa_image_spec.specs.Catalog.{Delta, start_in}
-use Rattle.mesa_image_spec.specs.Brought.{merged_of}
-use Rattle.mesa_image_spec.specs.Planned.{behind_base, longest_to}
+use Rattle.mesa_rules.specs.mesa_image_spec.Catalog.{Delta, start_in}
+use Rattle.mesa_rules.specs.mesa_image_spec.Brought.{merged_of}
+use Rattle.mesa_rules.specs.mesa_image_spec.Planned.{behind_base, longest_to}
 use Rattle.mesa_table.specs.declared.table.Loaded.{Loaded}
 use Rattle.mesa_table.specs.declared.table.Table.{Table}
 use Rattle.mesa_table.specs.Meaning.{AreLoaded, IsTable, singles_from, start_of_base, stock_of}

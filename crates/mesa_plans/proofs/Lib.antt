@@ -1,6 +1,6 @@
-pub use Rattle.mesa_batch.proofs as mesa_batch
-pub use Rattle.mesa_image_spec.proofs as mesa_image_spec
+pub use Rattle.mesa_rules.proofs.mesa_catalog as mesa_catalog
 pub use Rattle.mesa_schema.proofs as mesa_schema
+pub use Rattle.mesa_span.proofs as mesa_span
 pub mod Parted
 pub mod Longest
 pub mod Lending

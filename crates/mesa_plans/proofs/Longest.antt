@@ -7,8 +7,8 @@ use Rattle.std.specs.declared.sync.Arc.{Arc}
 use Rattle.std.proofs.lemmas.Bool.Decides.{nat_tests}
 use Rattle.mesa_span.specs.Plan.{longest}
 use Rattle.mesa_span.specs.Ranges.{end_of, ends_of_tens}
-use Rattle.mesa_image_spec.specs.Catalog.{Delta, Ending, end_in}
-use Rattle.mesa_image_spec.specs.Planned.{ending_at}
+use Rattle.mesa_rules.specs.mesa_image_spec.Catalog.{Delta, Ending, end_in}
+use Rattle.mesa_rules.specs.mesa_image_spec.Planned.{ending_at}
 use Rattle.mesa_table.specs.Meaning.{tens_from}
 use Rattle.mesa_table.proofs.Tens.{tens_end}
 

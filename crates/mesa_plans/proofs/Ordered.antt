@@ -8,18 +8,18 @@ use Rattle.mesa_schema.specs.Columns.{Columns}
 use Rattle.mesa_schema.specs.Lineages.{is_view_of}
 use Rattle.mesa_schema.specs.Rows.{AreRowsOf}
 use Rattle.mesa_schema.specs.Views.{view_key_places}
-use Rattle.mesa_filter.specs.Filter.{are_within}
-use Rattle.mesa_filter.specs.Query.{IsQueryOf, group_kinds}
-use Rattle.mesa_filter.proofs.PlacesAmong.{chosen_among}
-use Rattle.mesa_model.specs.Query.{answer_rows}
-use Rattle.mesa_order.specs.Order.{asked_through}
-use Rattle.mesa_order.proofs.FurtherOrders.{answers_through}
-use Rattle.mesa_order.proofs.MovedQueries.{allowed, may_ask, of_view}
+use Rattle.mesa_rules.specs.mesa_filter.Filter.{are_within}
+use Rattle.mesa_rules.specs.mesa_filter.Query.{IsQueryOf, group_kinds}
+use Rattle.mesa_query.proofs.mesa_filter.PlacesAmong.{chosen_among}
+use Rattle.mesa_rules.specs.mesa_model.Query.{answer_rows}
+use Rattle.mesa_rules.specs.mesa_order.Order.{asked_through}
+use Rattle.mesa_rules.proofs.mesa_order.FurtherOrders.{answers_through}
+use Rattle.mesa_rules.proofs.mesa_order.MovedQueries.{allowed, may_ask, of_view}
 use Rattle.mesa_rules.proofs.ReadBy.{IsChosen, read_through, reads}
 use Rattle.mesa_rules.specs.Ordered.{as_read}
 use Rattle.mesa_rules.specs.declared.found.Found.{Found}
-use Rattle.mesa_table.specs.mesa_image_spec.Catalog.{Stock}
-use Rattle.mesa_table.specs.mesa_image_spec.Contents.{Rows, content}
+use Rattle.mesa_rules.specs.mesa_image_spec.Catalog.{Stock}
+use Rattle.mesa_rules.specs.mesa_image_spec.Contents.{Rows, content}
 use Rattle.mesa_tasks.specs.Pins.{view_at}
 use Rattle.mesa_plans.proofs.Reading.{IsThere, columns_read, view_seen}
 use Rattle.mesa_plans.proofs.Telling.{content_read, rows_by}

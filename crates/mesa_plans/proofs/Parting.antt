@@ -5,8 +5,8 @@ use Rattle.std.specs.List.{AllByRecursion, range_with_len}
 use Rattle.mesa_file.specs.declared.damage.Damage.{Damage}
 use Rattle.mesa_disk.specs.Image.{Image}
 use Rattle.mesa_disk.specs.Story.{Story}
-use Rattle.mesa_tasks.specs.mesa_scan.Cursors.{reader_in}
-use Rattle.mesa_tasks.specs.mesa_delta.declared.input.Input.{Input}
+use Rattle.mesa_query.specs.mesa_scan.Cursors.{reader_in}
+use Rattle.mesa_delta.specs.declared.input.Input.{Input}
 use Rattle.mesa_tasks.specs.GivingBack.{GivesBack, own_inputs, spare_inputs}
 use Rattle.mesa_tasks.specs.Opening.{Counted, HaveOpened}
 use Rattle.mesa_tasks.specs.Spares.{AreSpareViews, HasSpares, IsSpareOf}

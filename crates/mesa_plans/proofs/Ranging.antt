@@ -9,15 +9,15 @@ use Rattle.mesa_disk.specs.Image.{Image}
 use Rattle.mesa_file.specs.declared.damage.Damage.{Damage}
 use Rattle.mesa_record.specs.declared.record.Files.{Files}
 use Rattle.mesa_span.specs.Ranges.{start_behind}
-use Rattle.mesa_table.specs.mesa_image_spec.Catalog.{Delta, Ending, Stock, empty_delta, start_in}
-use Rattle.mesa_table.specs.mesa_image_spec.Fitting.{base_deltas, delta_in, deltas_of}
+use Rattle.mesa_rules.specs.mesa_image_spec.Catalog.{Delta, Ending, Stock, empty_delta, start_in}
+use Rattle.mesa_rules.specs.mesa_image_spec.Fitting.{base_deltas, delta_in, deltas_of}
 use Rattle.mesa_table.specs.Meaning.{AreLoaded, IsTable, delta_or_empty, ending_of, singles_from, start_of_base, stock_of}
 use Rattle.mesa_table.specs.declared.table.Base.{Base}
 use Rattle.mesa_table.specs.declared.table.Loaded.{Loaded}
 use Rattle.mesa_table.specs.declared.table.Table.{Table}
 use Rattle.mesa_table.proofs.Tens.{base_ends}
-use Rattle.mesa_tasks.specs.mesa_scan.Cursors.{reader_in}
-use Rattle.mesa_tasks.specs.mesa_delta.declared.input.Input.{Input}
+use Rattle.mesa_query.specs.mesa_scan.Cursors.{reader_in}
+use Rattle.mesa_delta.specs.declared.input.Input.{Input}
 use Rattle.mesa_plans.specs.Files.{want_of}
 use Rattle.mesa_tasks.specs.Opening.{IsOpened}
 use Rattle.mesa_tasks.specs.Recasts.{own}

@@ -7,7 +7,7 @@ use Rattle.mesa_schema.specs.Columns.{Columns}
 use Rattle.mesa_schema.specs.declared.views.View.{View}
 use Rattle.mesa_schema.specs.Views.{view_columns}
 use Rattle.mesa_disk.specs.Image.{Image}
-use Rattle.mesa_table.specs.mesa_image_spec.Catalog.{Delta}
+use Rattle.mesa_rules.specs.mesa_image_spec.Catalog.{Delta}
 use Rattle.mesa_record.specs.declared.record.Files.{Files}
 use Rattle.mesa_record.specs.declared.record.ViewRef.{ViewRef}
 use Rattle.mesa_plans.specs.Read.{own_file, relation_read, view_read}

@@ -4,8 +4,8 @@ use Rattle.std.specs.Prelude.{nat_abs, pos, slice_get, slice_index_or, ◌==◌}
 use Rattle.std.specs.List.{AllByRecursion}
 use Rattle.std.proofs.lemmas.List.{length-map, take-append-drop}
 use Rattle.std.proofs.lemmas.List.Sums.{sum_by-append}
-use Rattle.mesa_record.specs.mesa_value.declared.Agg.{Agg}
-use Rattle.mesa_record.specs.mesa_value.declared.Agg.TheVariants.{Sum, Min, Max, Replace}
+use Rattle.mesa_table.specs.mesa_value.declared.Agg.{Agg}
+use Rattle.mesa_table.specs.mesa_value.declared.Agg.TheVariants.{Sum, Min, Max, Replace}
 use Rattle.mesa_schema.specs.Changes.{Lineage, columns_of}
 use Rattle.mesa_schema.specs.Columns.{Columns, aggs_of}
 use Rattle.mesa_schema.specs.Folded.{rows_of}
@@ -14,18 +14,18 @@ use Rattle.mesa_schema.specs.Rows.{AreRowsOf, IsRowOf}
 use Rattle.mesa_schema.specs.declared.columns.ValueColumn.{ValueColumn}
 use Rattle.mesa_schema.specs.declared.rows.Row.{Row}
 use Rattle.mesa_schema.proofs.Lists.{all_found, all_so}
-use Rattle.mesa_batch.specs.Totals.{AreAtMost, abs_total, sum_bound, sum_places}
-use Rattle.mesa_batch.proofs.Merged.{folds_totals}
+use Rattle.mesa_rules.specs.mesa_batch.Totals.{AreAtMost, abs_total, sum_bound, sum_places}
+use Rattle.mesa_rules.proofs.mesa_batch.Merged.{folds_totals}
 use Rattle.mesa_span.specs.Plan.{longest}
-use Rattle.mesa_table.specs.mesa_image_spec.Catalog.{Delta, Ending, Stock, end_in, start_in}
-use Rattle.mesa_table.specs.mesa_image_spec.Contents.{Rows, present}
-use Rattle.mesa_table.specs.mesa_image_spec.Fitting.{base_deltas, delta_in, delta_shelved, deltas_of}
-use Rattle.mesa_table.specs.mesa_image_spec.Shape.{IsShaped}
-use Rattle.mesa_table.specs.mesa_image_spec.Sound.{IsMerged, IsStocked, IsTold}
+use Rattle.mesa_rules.specs.mesa_image_spec.Catalog.{Delta, Ending, Stock, end_in, start_in}
+use Rattle.mesa_rules.specs.mesa_image_spec.Contents.{Rows, present}
+use Rattle.mesa_rules.specs.mesa_image_spec.Fitting.{base_deltas, delta_in, delta_shelved, deltas_of}
+use Rattle.mesa_rules.specs.mesa_image_spec.Shape.{IsShaped}
+use Rattle.mesa_rules.specs.mesa_image_spec.Sound.{IsMerged, IsStocked, IsTold}
 use Rattle.mesa_plans.specs.Folding.{folded_deltas}
-use Rattle.mesa_image_spec.specs.Planned.{behind_base, ending_at, longest_to, planned}
-use Rattle.mesa_image_spec.proofs.Formed.{all_formed, rows_formed}
-use Rattle.mesa_image_spec.proofs.Lists.{all_back, all_take, all_unflat}
+use Rattle.mesa_rules.specs.mesa_image_spec.Planned.{behind_base, ending_at, longest_to, planned}
+use Rattle.mesa_rules.proofs.mesa_image_spec.Formed.{all_formed, rows_formed}
+use Rattle.mesa_rules.proofs.mesa_image_spec.Lists.{all_back, all_take, all_unflat}
 
 -- ---- totals of columns
 

@@ -13,22 +13,22 @@ use Rattle.mesa_schema.specs.declared.views.View.{View}
 use Rattle.mesa_schema.proofs.Forms.{folded_form}
 use Rattle.mesa_schema.proofs.GroupKeys.{groups_form}
 use Rattle.mesa_schema.proofs.Lists.{all_both}
-use Rattle.mesa_filter.specs.Query.{BuiltQuery, IsQueryOf, group_kinds}
+use Rattle.mesa_rules.specs.mesa_filter.Query.{BuiltQuery, IsQueryOf, group_kinds}
 use Rattle.mesa_query.specs.mesa_answer.Answering.{KeepsSums}
-use Rattle.mesa_model.specs.Page.{page_of}
-use Rattle.mesa_model.specs.declared.replies.Page.{Page}
-use Rattle.mesa_model.specs.Query.{Answer, answer_rows}
-use Rattle.mesa_commit.specs.Images.{Has}
+use Rattle.mesa_rules.specs.mesa_model.Page.{page_of}
+use Rattle.mesa_rules.specs.mesa_model.declared.replies.Page.{Page}
+use Rattle.mesa_rules.specs.mesa_model.Query.{Answer, answer_rows}
+use Rattle.mesa_rules.specs.mesa_commit.Images.{Has}
 use Rattle.mesa_disk.specs.Image.{Image, file_of}
-use Rattle.mesa_table.specs.mesa_image_spec.Catalog.{Catalog, Delta, Stock, no_stock, stock_at}
-use Rattle.mesa_table.specs.mesa_image_spec.Contents.{Rows, content, present}
-use Rattle.mesa_table.specs.mesa_image_spec.Fitting.{Shelved, delta_shelved, deltas_of, shelved, stock_shelved}
-use Rattle.mesa_table.specs.mesa_image_spec.Shape.{IsShaped}
-use Rattle.mesa_table.specs.mesa_image_spec.Sound.{AreGrouped, AreStocked, IsStocked, IsTold, bytes_of, wanted, wants}
-use Rattle.mesa_image_spec.specs.Planned.{planned}
-use Rattle.mesa_image_spec.proofs.Formed.{all_formed, rows_formed}
-use Rattle.mesa_image_spec.proofs.Lists.{all_unflat, all_unmap, both_true}
-use Rattle.mesa_image_spec.proofs.Plans.{planned_folds}
+use Rattle.mesa_rules.specs.mesa_image_spec.Catalog.{Catalog, Delta, Stock, no_stock, stock_at}
+use Rattle.mesa_rules.specs.mesa_image_spec.Contents.{Rows, content, present}
+use Rattle.mesa_rules.specs.mesa_image_spec.Fitting.{Shelved, delta_shelved, deltas_of, shelved, stock_shelved}
+use Rattle.mesa_rules.specs.mesa_image_spec.Shape.{IsShaped}
+use Rattle.mesa_rules.specs.mesa_image_spec.Sound.{AreGrouped, AreStocked, IsStocked, IsTold, bytes_of, wanted, wants}
+use Rattle.mesa_rules.specs.mesa_image_spec.Planned.{planned}
+use Rattle.mesa_rules.proofs.mesa_image_spec.Formed.{all_formed, rows_formed}
+use Rattle.mesa_rules.proofs.mesa_image_spec.Lists.{all_unflat, all_unmap, both_true}
+use Rattle.mesa_rules.proofs.mesa_image_spec.Plans.{planned_folds}
 use Rattle.mesa_rules.proofs.mesa_catalog.Stocks.{all_at}
 use Rattle.mesa_query.specs.mesa_merge.Inputs.{Known, knowns_of}
 use Rattle.mesa_plans.specs.Read.{IsPinnedFor, relation_read, view_read}

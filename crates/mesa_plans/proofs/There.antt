@@ -4,16 +4,16 @@ use Rattle.std.specs.Prelude.{IfSome, option_map}
 use Rattle.std.specs.Option.{option_or}
 use Rattle.std.proofs.lemmas.List.{length-map}
 use Rattle.std.proofs.lemmas.Option.{slice_get-get_or, slice_get_within}
-use Rattle.mesa_batch.proofs.NameNumbers.{position-within}
+use Rattle.mesa_rules.proofs.mesa_batch.NameNumbers.{position-within}
 use Rattle.mesa_list.specs.Bytes.{same_bytes}
 use Rattle.mesa_schema.specs.Changes.{Lineage}
 use Rattle.mesa_schema.specs.Columns.{place_of}
 use Rattle.mesa_schema.specs.declared.views.View.{View}
 use Rattle.mesa_rules.specs.mesa_catalog.Lookups.{relation_from, relation_of}
-use Rattle.mesa_rules.specs.mesa_catalog.mesa_image_spec.Catalog.{Catalog, Stock, no_stock, stock_at}
+use Rattle.mesa_rules.specs.mesa_image_spec.Catalog.{Catalog, Stock, no_stock, stock_at}
 use Rattle.mesa_plans.proofs.Reading.{IsThere}
-use Rattle.mesa_rules.specs.mesa_catalog.mesa_table.Lookups.{relation_in, view_names}
-use Rattle.mesa_rules.specs.mesa_catalog.mesa_table.declared.relation.Relation.{Relation as Place}
+use Rattle.mesa_table.specs.Lookups.{relation_in, view_names}
+use Rattle.mesa_table.specs.declared.relation.Relation.{Relation as Place}
 
 -- a view that was found by its name is one
 view_there : (name : List ℕ) (l : Lineage) (i : ℕ) → place_of name (view_names l) ≡ Some i → IsThere l (Some i)

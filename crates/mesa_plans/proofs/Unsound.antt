@@ -7,8 +7,8 @@ use Rattle.mesa_delta.specs.declared.error.FileError.TheVariants as file_error
 use Rattle.mesa_delta.specs.declared.input.Input.{Input}
 use Rattle.mesa_disk.specs.Image.{Image}
 use Rattle.mesa_file.specs.declared.damage.Damage.{Damage}
-use Rattle.mesa_table.specs.mesa_image_spec.Contents.{Rows}
-use Rattle.mesa_table.specs.mesa_image_spec.Sound.{bytes_of}
+use Rattle.mesa_rules.specs.mesa_image_spec.Contents.{Rows}
+use Rattle.mesa_rules.specs.mesa_image_spec.Sound.{bytes_of}
 use Rattle.mesa_plans.specs.Read.{SomeUnsound}
 use Rattle.mesa_plans.proofs.Given.{IsSeen, shelf_of}
 use Rattle.mesa_plans.specs.Files.{Seen, want_in, want_of}

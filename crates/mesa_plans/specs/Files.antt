@@ -6,7 +6,7 @@ use Rattle.mesa_schema.specs.Views.{view_columns}
 use Rattle.mesa_file.specs.declared.file_ref.FileRef.{FileRef}
 use Rattle.mesa_record.specs.declared.record.Files.{Files}
 use Rattle.mesa_record.specs.declared.record.ViewRef.{ViewRef}
-use Rattle.mesa_image_spec.specs.Catalog.{Delta}
+use Rattle.mesa_rules.specs.mesa_image_spec.Catalog.{Delta}
 use Rattle.mesa_tasks.specs.declared.opening.Wanted.{Wanted}
 use Rattle.mesa_plans.specs.declared.views.Sources.{Sources}
 

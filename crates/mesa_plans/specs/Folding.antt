@@ -1,7 +1,7 @@
 -- The deltas that a work folds.
 use Rattle.std.specs.Prelude.{ℕ, List, Bool, true, false}
-use Rattle.mesa_image_spec.specs.Catalog.{Delta, Stock}
-use Rattle.mesa_image_spec.specs.Planned.{behind_base, longest_to, planned}
+use Rattle.mesa_rules.specs.mesa_image_spec.Catalog.{Delta, Stock}
+use Rattle.mesa_rules.specs.mesa_image_spec.Planned.{behind_base, longest_to, planned}
 
 -- Those of the plan at the last version of its range, the base among them only where it makes one.
 abbrev pub folded_deltas : Stock → Bool → ℕ → List Delta

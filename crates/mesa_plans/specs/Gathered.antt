@@ -3,8 +3,8 @@ use Rattle.std.specs.Prelude.{◌≡◌, ℕ, List, map, flat_map, Bool, true, f
 use Rattle.std.specs.List.{range_with_len}
 use Rattle.mesa_disk.specs.Image.{Image}
 use Rattle.mesa_span.specs.declared.works.Work.{Work}
-use Rattle.mesa_table.specs.mesa_image_spec.Catalog.{Stock}
-use Rattle.mesa_image_spec.specs.Moves.{is_base, last_of}
+use Rattle.mesa_rules.specs.mesa_image_spec.Catalog.{Stock}
+use Rattle.mesa_rules.specs.mesa_image_spec.Moves.{is_base, last_of}
 use Rattle.mesa_tasks.specs.Opening.{HaveOpened}
 use Rattle.mesa_tasks.specs.declared.merging.Task.{Task}
 use Rattle.mesa_tasks.specs.declared.merging.TaskView.{TaskView}

@@ -4,7 +4,7 @@ use Rattle.std.specs.Prelude.{ℕ, ◌≤◌, suc, zero, List, [], ◌∷◌, �
 use Rattle.std.specs.List.{AllByRecursion}
 use Rattle.std.specs.declared.alloc.Global.{Global}
 use Rattle.std.specs.declared.sync.Arc.{Arc}
-use Rattle.mesa_image_spec.specs.Catalog.{Delta}
+use Rattle.mesa_rules.specs.mesa_image_spec.Catalog.{Delta}
 use Rattle.mesa_table.specs.declared.table.Loaded.{Loaded}
 use Rattle.mesa_plans.specs.declared.deltas.Deltas.{Deltas}
 

@@ -1,12 +1,17 @@
-pub use Rattle.mesa_delta.specs.mesa_block as mesa_block
-pub use Rattle.mesa_commit.specs as mesa_commit
-pub use Rattle.mesa_batch.specs as mesa_batch
-pub use Rattle.mesa_image_spec.specs as mesa_image_spec
+pub use Rattle.mesa_query.specs.mesa_answer as mesa_answer
+pub use Rattle.mesa_query.specs.mesa_block as mesa_block
+pub use Rattle.mesa_rules.specs.mesa_commit as mesa_commit
+pub use Rattle.mesa_delta.specs as mesa_delta
+pub use Rattle.mesa_table.specs.mesa_key as mesa_key
 pub use Rattle.mesa_list.specs as mesa_list
-pub use Rattle.mesa_record.specs as mesa_record
+pub use Rattle.mesa_query.specs.mesa_merge as mesa_merge
+pub use Rattle.mesa_rules.specs.mesa_model as mesa_model
+pub use Rattle.mesa_query.specs as mesa_query
+pub use Rattle.mesa_query.specs.mesa_scan as mesa_scan
 pub use Rattle.mesa_schema.specs as mesa_schema
+pub use Rattle.mesa_span.specs as mesa_span
 pub use Rattle.mesa_table.specs as mesa_table
-pub use Rattle.mesa_schema.specs.mesa_value as mesa_value
+pub use Rattle.mesa_table.specs.mesa_value as mesa_value
 pub mod Lent
 pub mod Folding
 pub mod Files

@@ -5,8 +5,8 @@ use Rattle.mesa_file.specs.declared.damage.Damage.{Damage}
 use Rattle.mesa_disk.specs.Image.{Image}
 use Rattle.mesa_schema.specs.Changes.{Lineage, columns_at}
 use Rattle.mesa_record.specs.declared.record.Files.{Files}
-use Rattle.mesa_table.specs.mesa_image_spec.Catalog.{Delta, Ending, Stock, start_in}
-use Rattle.mesa_tasks.specs.mesa_delta.declared.input.Input.{Input}
+use Rattle.mesa_rules.specs.mesa_image_spec.Catalog.{Delta, Ending, Stock, start_in}
+use Rattle.mesa_delta.specs.declared.input.Input.{Input}
 use Rattle.mesa_plans.specs.Files.{Want, want_of}
 use Rattle.mesa_tasks.specs.Opening.{IsDamageOf, IsOpened}
 use Rattle.mesa_tasks.specs.declared.opening.Wanted.{Wanted}

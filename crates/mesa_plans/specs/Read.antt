@@ -3,8 +3,8 @@ use Rattle.std.specs.Prelude.{◌≡◌, ◌⊎◌, ℕ, List, [], ◌∷◌, ma
 use Rattle.mesa_disk.specs.Image.{Image}
 use Rattle.mesa_schema.specs.Changes.{Lineage, columns_at}
 use Rattle.mesa_schema.specs.declared.views.View.{View}
-use Rattle.mesa_table.specs.mesa_image_spec.Catalog.{Delta, Stock}
-use Rattle.mesa_image_spec.specs.Planned.{planned}
+use Rattle.mesa_rules.specs.mesa_image_spec.Catalog.{Delta, Stock}
+use Rattle.mesa_rules.specs.mesa_image_spec.Planned.{planned}
 use Rattle.mesa_plans.specs.Files.{Seen, Want, own_in, own_lineage, table_wanted, view_wanted, want_in, want_of}
 use Rattle.mesa_query.specs.Files.{inputs_in, owns_in}
 use Rattle.mesa_rules.specs.declared.found.Found.{Found}

@@ -5,9 +5,9 @@ use Rattle.mesa_schema.specs.Columns.{Columns, aggs_of}
 use Rattle.mesa_schema.specs.Rows.{AreRowsOf}
 use Rattle.mesa_schema.specs.Folded.{folded, rows_of}
 use Rattle.mesa_query.specs.mesa_answer.Answering.{KeepsSums}
-use Rattle.mesa_filter.specs.Query.{BuiltQuery, group_kinds}
+use Rattle.mesa_rules.specs.mesa_filter.Query.{BuiltQuery, group_kinds}
 use Rattle.mesa_query.specs.mesa_merge.Inputs.{AreTold, Known, knowns_of, lifted_in}
-use Rattle.mesa_model.specs.Query.{Answer}
+use Rattle.mesa_rules.specs.mesa_model.Query.{Answer}
 use Rattle.mesa_query.specs.Files.{inputs_in, owns_in}
 use Rattle.mesa_query.specs.Relation.{page_over, parts_pinned, parts_ungrouped, rows_under}
 use Rattle.mesa_tasks.specs.Pins.{IsOfRelation, relation_rows}

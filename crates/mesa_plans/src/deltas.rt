@@ -2,7 +2,7 @@
 ghost use Rattle.std.specs.Prelude.{◌≡◌, option_map};
 ghost use Rattle.mesa_table.specs.declared.table.Base.{Base as BaseOf};
 ghost use Rattle.mesa_table.specs.Meaning.{ending_of};
-ghost use Rattle.mesa_image_spec.specs.Fitting.{base_deltas};
+ghost use Rattle.mesa_rules.specs.mesa_image_spec.Fitting.{base_deltas};
 ghost use Rattle.mesa_plans.specs.Lent.{lent_if_any, with_rows};
 
 use mesa_table::{Base, Delta, Loaded};

@@ -1,8 +1,8 @@
 // The deltas that a work folds, and the singletons of a range.
 ghost use Rattle.std.specs.Prelude.{◌≡◌, ◌<◌, ◌≤◌, ◌^◌, ℕ, false};
 ghost use Rattle.std.specs.List.{AllByRecursion};
-ghost use Rattle.mesa_image_spec.specs.Fitting.{deltas_of};
-ghost use Rattle.mesa_image_spec.specs.Brought.{merged_of};
+ghost use Rattle.mesa_rules.specs.mesa_image_spec.Fitting.{deltas_of};
+ghost use Rattle.mesa_rules.specs.mesa_image_spec.Brought.{merged_of};
 ghost use Rattle.mesa_table.specs.Meaning.{IsTable, stock_of};
 ghost use Rattle.mesa_plans.specs.Folding.{folded_deltas};
 ghost use Rattle.mesa_plans.specs.Lent.{AreOfEpochs, lent_in, with_rows};

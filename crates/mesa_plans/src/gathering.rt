@@ -3,8 +3,8 @@ ghost use Rattle.std.specs.Prelude.{◌≡◌, ◌≢◌, ◌-◌, ◌<◌, ◌�
 ghost use Rattle.std.specs.List.{AllByRecursion};
 ghost use Rattle.mesa_schema.specs.Changes.{epoch_of};
 ghost use Rattle.mesa_disk.specs.Story.{Unmoved};
-ghost use Rattle.mesa_table.specs.mesa_image_spec.Fitting.{deltas_of};
-ghost use Rattle.mesa_image_spec.specs.Moves.{is_base, last_of};
+ghost use Rattle.mesa_rules.specs.mesa_image_spec.Fitting.{deltas_of};
+ghost use Rattle.mesa_rules.specs.mesa_image_spec.Moves.{is_base, last_of};
 ghost use Rattle.mesa_plans.specs.Folding.{folded_deltas};
 ghost use Rattle.mesa_plans.specs.Lent.{AreOfEpochs, lent_in, with_rows};
 ghost use Rattle.mesa_table.specs.Meaning.{IsTable, stock_of};

@@ -1,8 +1,8 @@
 // The deltas that a query reads.
 ghost use Rattle.std.specs.Prelude.{◌≡◌, ◌++◌, ◌+◌, ◌-◌, ◌*◌, ◌/◌, ◌≤◌, ◌<◌, ◌^◌, ℕ, length, map, min};
 ghost use Rattle.std.specs.List.{AllByRecursion};
-ghost use Rattle.mesa_image_spec.specs.Fitting.{deltas_of};
-ghost use Rattle.mesa_image_spec.specs.Planned.{behind_base, longest_to, planned as planned_of};
+ghost use Rattle.mesa_rules.specs.mesa_image_spec.Fitting.{deltas_of};
+ghost use Rattle.mesa_rules.specs.mesa_image_spec.Planned.{behind_base, longest_to, planned as planned_of};
 ghost use Rattle.mesa_table.specs.Meaning.{IsTable, start_of_base, stock_of};
 ghost use Rattle.mesa_plans.specs.Lent.{AreOfEpochs, lent_if_any, lent_in, single_delta, ten_deltas, with_rows};
 

@@ -1,4 +1,4 @@
-pub use Rattle.mesa_script.specs as mesa_script
+pub use Rattle.mesa_filter.specs as mesa_filter
 pub mod Lines
 pub mod Writing
 pub mod Printed

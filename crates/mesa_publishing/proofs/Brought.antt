@@ -12,9 +12,9 @@ use Rattle.mesa_file.specs.declared.file_ref.FileRef.{FileRef}
 use Rattle.mesa_record.specs.declared.record.Files.{Files}
 use Rattle.mesa_record.specs.declared.checkpoint.StatedSingle.{StatedSingle}
 use Rattle.mesa_record.specs.declared.recasting.RecastBase.{RecastBase}
-use Rattle.mesa_plans.specs.mesa_commit.Turn.{told_files}
-use Rattle.mesa_tasks.specs.mesa_delta.File.{file_bytes}
-use Rattle.mesa_tasks.specs.mesa_delta.Summary.{file_layout}
+use Rattle.mesa_engine.specs.mesa_commit.Turn.{told_files}
+use Rattle.mesa_plans.specs.mesa_delta.File.{file_bytes}
+use Rattle.mesa_plans.specs.mesa_delta.Summary.{file_layout}
 use Rattle.mesa_engine.specs.mesa_image_spec.Catalog.{Delta, Ending, base_recast, empty_delta, single_stated, singles_stated}
 use Rattle.mesa_engine.specs.mesa_image_spec.Contents.{Rows}
 use Rattle.mesa_engine.specs.mesa_image_spec.Fitting.{Shelved, base_deltas, delta_own, own_shelved, shelved_id}

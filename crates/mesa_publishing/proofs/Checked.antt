@@ -14,8 +14,8 @@ use Rattle.mesa_batch.specs.Totals.{abs_totals, over_bound, sum_bound, sum_place
 use Rattle.mesa_model.specs.Load.{bound_checked, bounds_checked, sum_name}
 use Rattle.mesa_model.specs.declared.replies.Refusal.{Refusal}
 use Rattle.mesa_model.specs.declared.replies.Refusal.TheVariants.{SumBound}
-use Rattle.mesa_catalog.specs.mesa_image_spec.Catalog.{Catalog, Stock, stock_at}
-use Rattle.mesa_catalog.specs.mesa_image_spec.Shape.{IsShaped}
+use Rattle.mesa_engine.specs.mesa_image_spec.Catalog.{Catalog, Stock, stock_at}
+use Rattle.mesa_engine.specs.mesa_image_spec.Shape.{IsShaped}
 use Rattle.mesa_catalog.specs.Lookups.{known_as}
 use Rattle.mesa_engine.specs.EngineState.{projection_of}
 use Rattle.mesa_tasks.specs.Batches.{AreParts, HasFiles, Share, is_over, share_of, shares_from}

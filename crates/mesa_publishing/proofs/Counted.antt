@@ -10,7 +10,7 @@ use Rattle.mesa_schema.specs.declared.rows.Row.{Row}
 use Rattle.mesa_schema.specs.Columns.{Columns, aggs_of}
 use Rattle.mesa_schema.specs.Schema.{is_schema}
 use Rattle.mesa_engine.specs.mesa_image_spec.Fitting.{totals_fit}
-use Rattle.mesa_tasks.specs.mesa_history_spec.mesa_batch.Totals.{abs_total, abs_totals, sum_bound, sum_places, sums_in}
+use Rattle.mesa_batch.specs.Totals.{abs_total, abs_totals, sum_bound, sum_places, sums_in}
 use Rattle.mesa_publishing.proofs.Totals.{few_sums}
 use Rattle.mesa_publishing.proofs.Keeping.{all_true, few_columns}
 

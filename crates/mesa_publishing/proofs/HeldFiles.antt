@@ -3,7 +3,7 @@ use Rattle.std.proofs.Common.{◌≡◌, inl, inr, ℕ, List, [], ◌∷◌, ref
 use Rattle.mesa_schema.specs.Columns.{Columns}
 use Rattle.mesa_schema.specs.Recasts.{Recast as Asked}
 use Rattle.mesa_schema.proofs.Lists.{all_so}
-use Rattle.mesa_tasks.specs.mesa_delta.declared.input.Input.{Input}
+use Rattle.mesa_plans.specs.mesa_delta.declared.input.Input.{Input}
 use Rattle.mesa_record.specs.declared.record.Files.{Files}
 use Rattle.mesa_engine.specs.mesa_image_spec.Catalog.{Stock}
 use Rattle.mesa_plans.specs.Ranges.{HasInput, HoldsAll, HoldsAt, Ranged, ranged}

@@ -6,11 +6,11 @@ use Rattle.std.specs.Prelude.{Bool, true, false, ◌&&◌, ◌||◌, ◌==◌, n
 use Rattle.std.proofs.lemmas.Bool.Decides.{nat_tests}
 use Rattle.mesa_schema.specs.declared.rows.Row.{Row}
 use Rattle.mesa_disk.specs.Files.{HasDistinctIds, HasOtherIds}
-use Rattle.mesa_plans.specs.mesa_commit.Turn.{made_ids}
+use Rattle.mesa_engine.specs.mesa_commit.Turn.{made_ids}
 use Rattle.mesa_engine.specs.mesa_commit.Filed.{AreGiven}
 use Rattle.mesa_engine.specs.mesa_commit.Holding.{Among}
-use Rattle.mesa_catalog.specs.mesa_image_spec.Contents.{Rows}
-use Rattle.mesa_catalog.specs.mesa_image_spec.Fitting.{are_new_ids, has_number, run_of_id}
+use Rattle.mesa_engine.specs.mesa_image_spec.Contents.{Rows}
+use Rattle.mesa_engine.specs.mesa_image_spec.Fitting.{are_new_ids, has_number, run_of_id}
 use Rattle.mesa_tasks.specs.declared.made.MadeFile.{MadeFile}
 use Rattle.mesa_publishing.specs.Adopted.{told_under}
 use Rattle.mesa_publishing.specs.Published.{rows_with}

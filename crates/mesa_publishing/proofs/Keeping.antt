@@ -8,11 +8,11 @@ use Rattle.std.proofs.lemmas.Bool.Decides.{nat_tests}
 use Rattle.std.proofs.lemmas.List.{length-append, length-map}
 use Rattle.std.proofs.lemmas.List.Concat.{flat_map-cons}
 use Rattle.mesa_list.specs.Checks.{◌>>◌, refuse_if}
-use Rattle.mesa_disk.specs.mesa_key.declared.KeyType.{KeyType}
-use Rattle.mesa_disk.specs.mesa_key.declared.KeyType.TheVariants as kind
-use Rattle.mesa_disk.specs.mesa_key.declared.KeyValue.{KeyValue}
-use Rattle.mesa_disk.specs.mesa_key.declared.KeyValue.TheVariants as value
-use Rattle.mesa_disk.specs.mesa_key.Spelling.{IsKey, IsValue, key_of, key_spelling, value_spelling}
+use Rattle.mesa_plans.specs.mesa_key.declared.KeyType.{KeyType}
+use Rattle.mesa_plans.specs.mesa_key.declared.KeyType.TheVariants as kind
+use Rattle.mesa_plans.specs.mesa_key.declared.KeyValue.{KeyValue}
+use Rattle.mesa_plans.specs.mesa_key.declared.KeyValue.TheVariants as value
+use Rattle.mesa_plans.specs.mesa_key.Spelling.{IsKey, IsValue, key_of, key_spelling, value_spelling}
 use Rattle.mesa_schema.specs.declared.columns.KeyColumn.{KeyColumn}
 use Rattle.mesa_schema.specs.declared.rows.Row.{Row}
 use Rattle.mesa_schema.specs.Columns.{Columns, kinds_of}
@@ -22,10 +22,10 @@ use Rattle.mesa_file.specs.declared.file_ref.FileRef.{FileRef}
 use Rattle.mesa_record.specs.Rules.{is_count_of_columns, is_file_ref, is_key_length}
 use Rattle.mesa_plans.specs.mesa_block.Layout.{Layout}
 use Rattle.mesa_plans.specs.mesa_block.Rows.{IsRow}
-use Rattle.mesa_tasks.specs.mesa_delta.File.{IsFile}
-use Rattle.mesa_tasks.specs.mesa_delta.Spread.{spread}
-use Rattle.mesa_tasks.specs.mesa_delta.Summary.{IsReferenceOf, last_key}
-use Rattle.mesa_tasks.specs.mesa_delta.Tail.{first_key}
+use Rattle.mesa_plans.specs.mesa_delta.File.{IsFile}
+use Rattle.mesa_plans.specs.mesa_delta.Spread.{spread}
+use Rattle.mesa_plans.specs.mesa_delta.Summary.{IsReferenceOf, last_key}
+use Rattle.mesa_plans.specs.mesa_delta.Tail.{first_key}
 use Rattle.mesa_engine.proofs.mesa_image_spec.Lists.{is_equal}
 use Rattle.mesa_publishing.proofs.Parts.{true_counts}
 

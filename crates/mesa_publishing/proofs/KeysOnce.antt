@@ -15,7 +15,7 @@ use Rattle.std.specs.FinMap.Entries.{by_order}
 use Rattle.mesa_list.specs.Bytes.{same_bytes}
 use Rattle.mesa_list.specs.Checks.{◌>>=◌, ◌>>◌, refused_as}
 use Rattle.mesa_value.specs.declared.Agg.{Agg}
-use Rattle.mesa_disk.specs.mesa_key.Order.{byte_cmp}
+use Rattle.mesa_plans.specs.mesa_key.Order.{byte_cmp}
 use Rattle.mesa_schema.specs.declared.rows.Row.{Row}
 use Rattle.mesa_schema.specs.Columns.{aggs_of, place_of}
 use Rattle.mesa_schema.specs.Folded.{all_combined, folded, folded_at, keys_of, values_at, with_key}

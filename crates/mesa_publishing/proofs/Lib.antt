@@ -1,10 +1,3 @@
-pub use Rattle.mesa_copy.proofs as mesa_copy
-pub use Rattle.mesa_engine.proofs as mesa_engine
-pub use Rattle.mesa_catalog.proofs.mesa_history_spec as mesa_history_spec
-pub use Rattle.mesa_model.proofs as mesa_model
-pub use Rattle.mesa_plans.proofs as mesa_plans
-pub use Rattle.mesa_schema.proofs as mesa_schema
-pub use Rattle.mesa_engine.proofs.mesa_commit as mesa_commit
 pub mod KeysOnce
 pub mod SumNames
 pub mod Lists

@@ -10,14 +10,14 @@ use Rattle.mesa_schema.specs.Changes.{Lineage, columns_of, epoch_of}
 use Rattle.mesa_schema.specs.Folded.{folded}
 use Rattle.mesa_batch.specs.Batch.{Placed, rows_for}
 use Rattle.mesa_batch.specs.Totals.{abs_totals, over_bound, sum_places, sums_in}
-use Rattle.mesa_plans.specs.mesa_commit.Turn.{told_files}
+use Rattle.mesa_engine.specs.mesa_commit.Turn.{told_files}
 use Rattle.mesa_record.specs.declared.record.Part.{Part}
-use Rattle.mesa_catalog.specs.mesa_image_spec.Catalog.{Catalog, Stock, part_of, stock_at}
-use Rattle.mesa_catalog.specs.mesa_image_spec.Contents.{Rows}
-use Rattle.mesa_catalog.specs.mesa_image_spec.Fitting.{Shelved, files_fit, files_shelved, is_there, part_fits, part_shelved, shelved_id}
-use Rattle.mesa_catalog.specs.mesa_image_spec.Shape.{IsShaped}
-use Rattle.mesa_catalog.specs.mesa_image_spec.Sound.{IsTold, wanted, wants}
-use Rattle.mesa_catalog.specs.mesa_image_spec.Brought.{Brings, BringsAll, BringsIfAny}
+use Rattle.mesa_engine.specs.mesa_image_spec.Catalog.{Catalog, Stock, part_of, stock_at}
+use Rattle.mesa_engine.specs.mesa_image_spec.Contents.{Rows}
+use Rattle.mesa_engine.specs.mesa_image_spec.Fitting.{Shelved, files_fit, files_shelved, is_there, part_fits, part_shelved, shelved_id}
+use Rattle.mesa_engine.specs.mesa_image_spec.Shape.{IsShaped}
+use Rattle.mesa_engine.specs.mesa_image_spec.Sound.{IsTold, wanted, wants}
+use Rattle.mesa_engine.specs.mesa_image_spec.Brought.{Brings, BringsAll, BringsIfAny}
 use Rattle.mesa_catalog.specs.Lookups.{known_as}
 use Rattle.mesa_tasks.specs.Batches.{AreParts, HasFiles, Share, share_of, shares_from}
 use Rattle.mesa_tasks.specs.Made.{AreMadeFiles, AreMadeViews, Content, content_of}

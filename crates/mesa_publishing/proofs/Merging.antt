@@ -15,11 +15,11 @@ use Rattle.mesa_schema.proofs.LineageRules.{present_schema}
 use Rattle.mesa_schema.proofs.Lists.{all_so}
 use Rattle.mesa_schema.proofs.ViewSchemas.{view_is_schema}
 use Rattle.mesa_plans.specs.mesa_block.Rows.{IsRow}
-use Rattle.mesa_tasks.specs.mesa_delta.File.{file_bytes}
-use Rattle.mesa_tasks.specs.mesa_delta.Summary.{file_layout, new_layout}
+use Rattle.mesa_plans.specs.mesa_delta.File.{file_bytes}
+use Rattle.mesa_plans.specs.mesa_delta.Summary.{file_layout, new_layout}
 use Rattle.mesa_record.specs.Rules.{are_files_if_any, is_file_ref, rise_from}
 use Rattle.mesa_record.specs.declared.record.ViewRef.{ViewRef}
-use Rattle.mesa_plans.specs.mesa_commit.Turn.{told_files}
+use Rattle.mesa_engine.specs.mesa_commit.Turn.{told_files}
 use Rattle.mesa_engine.specs.mesa_image_spec.Catalog.{Delta, merged_delta}
 use Rattle.mesa_engine.specs.mesa_image_spec.Contents.{Rows, present, rows_in}
 use Rattle.mesa_engine.specs.mesa_image_spec.Fitting.{columns_seen, counts_columns, counts_view, files_fit_if_any, files_shelved, is_view_ref, shelved_id, view_shelved}

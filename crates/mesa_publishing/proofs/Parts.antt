@@ -5,7 +5,7 @@ use Rattle.std.specs.List.{AllByRecursion, list_all}
 use Rattle.std.proofs.lemmas.Bool.Decides.{nat_tests}
 use Rattle.std.proofs.lemmas.List.{length-map}
 use Rattle.mesa_value.specs.declared.Agg.{Agg}
-use Rattle.mesa_disk.specs.mesa_key.declared.Format.TheVariants as format
+use Rattle.mesa_plans.specs.mesa_key.declared.Format.TheVariants as format
 use Rattle.mesa_schema.specs.declared.rows.Row.{Row}
 use Rattle.mesa_schema.specs.declared.views.View.{View}
 use Rattle.mesa_schema.specs.Columns.{Columns, aggs_of}
@@ -19,16 +19,16 @@ use Rattle.mesa_record.specs.declared.record.Files.{Files}
 use Rattle.mesa_record.specs.declared.record.Part.{Part}
 use Rattle.mesa_plans.specs.mesa_block.Layout.{Layout}
 use Rattle.mesa_plans.specs.mesa_block.Rows.{IsRow}
-use Rattle.mesa_tasks.specs.mesa_delta.File.{IsFile, file_bytes}
-use Rattle.mesa_tasks.specs.mesa_delta.Summary.{IsReferenceOf, all_noted, file_layout, new_layout, values_of}
-use Rattle.mesa_catalog.specs.mesa_image_spec.Catalog.{Delta, Stock, part_delta}
-use Rattle.mesa_catalog.specs.mesa_image_spec.Contents.{Rows, present}
-use Rattle.mesa_catalog.specs.mesa_image_spec.Fitting.{columns_seen, counts_columns, counts_view, files_fit, files_shelved, is_view_ref, shelved_id, view_shelved}
-use Rattle.mesa_catalog.specs.mesa_image_spec.Sound.{AreGrouped, IsGrouped, IsGroupedAs, IsTold, wants}
-use Rattle.mesa_plans.specs.mesa_commit.Turn.{told_files}
-use Rattle.mesa_catalog.specs.mesa_image_spec.Brought.{Brings}
-use Rattle.mesa_catalog.proofs.mesa_image_spec.Contents.{present_now}
-use Rattle.mesa_catalog.proofs.mesa_image_spec.Lifted.{columns_now}
+use Rattle.mesa_plans.specs.mesa_delta.File.{IsFile, file_bytes}
+use Rattle.mesa_plans.specs.mesa_delta.Summary.{IsReferenceOf, all_noted, file_layout, new_layout, values_of}
+use Rattle.mesa_engine.specs.mesa_image_spec.Catalog.{Delta, Stock, part_delta}
+use Rattle.mesa_engine.specs.mesa_image_spec.Contents.{Rows, present}
+use Rattle.mesa_engine.specs.mesa_image_spec.Fitting.{columns_seen, counts_columns, counts_view, files_fit, files_shelved, is_view_ref, shelved_id, view_shelved}
+use Rattle.mesa_engine.specs.mesa_image_spec.Sound.{AreGrouped, IsGrouped, IsGroupedAs, IsTold, wants}
+use Rattle.mesa_engine.specs.mesa_commit.Turn.{told_files}
+use Rattle.mesa_engine.specs.mesa_image_spec.Brought.{Brings}
+use Rattle.mesa_engine.proofs.mesa_image_spec.Contents.{present_now}
+use Rattle.mesa_engine.proofs.mesa_image_spec.Lifted.{columns_now}
 use Rattle.mesa_tasks.specs.Made.{AreMadeFiles, AreMadeViews, IsMadeFile, content_of}
 use Rattle.mesa_tasks.specs.declared.made.MadeFile.{MadeFile}
 use Rattle.mesa_tasks.specs.declared.made.MadeFiles.{MadeFiles}

@@ -8,7 +8,7 @@ use Rattle.mesa_schema.specs.Columns.{aggs_of}
 use Rattle.mesa_schema.specs.Changes.{Lineage, columns_after, columns_at, epoch_of, lifted, lifted_by}
 use Rattle.mesa_schema.specs.Folded.{folded}
 use Rattle.mesa_schema.proofs.Lists.{map_is}
-use Rattle.mesa_tasks.specs.mesa_history_spec.Sources.{Source, range_rows, source_at}
+use Rattle.mesa_engine.specs.mesa_history_spec.Sources.{Source, range_rows, source_at}
 use Rattle.mesa_publishing.specs.Grown.{HasGrown}
 
 module _ (was now : Lineage) (grown : HasGrown was now) where

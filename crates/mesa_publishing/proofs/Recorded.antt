@@ -34,9 +34,9 @@ use Rattle.mesa_publishing.proofs.Rewriting.{same_columns, range_rewritten}
 use Rattle.std.proofs.lemmas.List.{length-map}
 use Rattle.mesa_schema.specs.declared.rows.Row.{Row}
 use Rattle.mesa_schema.proofs.Lists.{all_so}
-use Rattle.mesa_plans.specs.mesa_commit.Turn.{made_ids, told_files}
-use Rattle.mesa_tasks.specs.mesa_delta.File.{file_bytes}
-use Rattle.mesa_tasks.specs.mesa_delta.Summary.{file_layout}
+use Rattle.mesa_engine.specs.mesa_commit.Turn.{made_ids, told_files}
+use Rattle.mesa_plans.specs.mesa_delta.File.{file_bytes}
+use Rattle.mesa_plans.specs.mesa_delta.Summary.{file_layout}
 use Rattle.mesa_disk.specs.Files.{HasDistinctIds, files_of}
 use Rattle.mesa_record.specs.Rules.{is_file_ref, keeps_rules}
 use Rattle.mesa_record.specs.declared.record.Record.{Record}
@@ -54,7 +54,7 @@ use Rattle.mesa_publishing.proofs.Ids.{new_ids, rows_stand, rows_stay, under_dis
 use Rattle.mesa_publishing.proofs.Lists.{AreAt, ids_from}
 use Rattle.mesa_publishing.proofs.Parts.{AreTold as AreToldFiles, layout_under}
 use Rattle.mesa_publishing.proofs.Told.{files_tell}
-use Rattle.mesa_tasks.specs.mesa_history_spec.Sources.{Written}
+use Rattle.mesa_engine.specs.mesa_history_spec.Sources.{Written}
 use Rattle.mesa_tasks.specs.declared.recasting.RecastRange.{RecastRange}
 use Rattle.mesa_tasks.specs.declared.recasting.RecastedRange.{RecastedRange}
 use Rattle.mesa_publishing.specs.declared.swapping.Swapped.{Swapped}

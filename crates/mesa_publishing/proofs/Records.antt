@@ -6,7 +6,7 @@ use Rattle.std.specs.List.{AllByRecursion}
 use Rattle.mesa_schema.specs.declared.rows.Row.{Row}
 use Rattle.mesa_schema.specs.Changes.{Lineage, columns_of, epoch_of}
 use Rattle.mesa_disk.specs.Files.{HasDistinctIds, files_of}
-use Rattle.mesa_plans.specs.mesa_commit.Turn.{made_ids, told_files}
+use Rattle.mesa_engine.specs.mesa_commit.Turn.{made_ids, told_files}
 use Rattle.mesa_engine.specs.mesa_commit.Filed.{AreGiven}
 use Rattle.mesa_engine.specs.mesa_commit.Holding.{Among}
 use Rattle.mesa_record.specs.Rules.{keeps_rules}
@@ -20,7 +20,7 @@ use Rattle.mesa_engine.specs.mesa_image_spec.Sound.{wants}
 use Rattle.mesa_engine.specs.mesa_image_spec.Brought.{AreTold}
 use Rattle.mesa_engine.specs.mesa_image_spec.Ids.{brought_ids, named}
 use Rattle.mesa_engine.specs.mesa_image_spec.Moves.{first_of, is_base, last_of}
-use Rattle.mesa_tasks.specs.mesa_history_spec.Sources.{Source, Written, range_rows}
+use Rattle.mesa_engine.specs.mesa_history_spec.Sources.{Source, Written, range_rows}
 use Rattle.mesa_engine.proofs.mesa_image_spec.Lists.{stock_found}
 use Rattle.mesa_tasks.specs.declared.merging.NewDelta.{NewDelta}
 use Rattle.mesa_tasks.specs.declared.merging.Task.{Task}

@@ -8,8 +8,8 @@ use Rattle.mesa_file.specs.declared.file_ref.FileRef.{FileRef}
 use Rattle.mesa_engine.specs.mesa_image_spec.Contents.{Rows}
 use Rattle.mesa_engine.specs.mesa_image_spec.Sound.{IsTold}
 use Rattle.mesa_engine.specs.mesa_image_spec.Rewritten.{IsRewritten}
-use Rattle.mesa_tasks.specs.mesa_history_spec.Sources.{Source, Written, range_rows, sources_from}
-use Rattle.mesa_tasks.specs.mesa_history_spec.mesa_batch.Totals.{abs_totals}
+use Rattle.mesa_engine.specs.mesa_history_spec.Sources.{Source, Written, range_rows, sources_from}
+use Rattle.mesa_batch.specs.Totals.{abs_totals}
 use Rattle.mesa_tasks.specs.Recasts.{IsRangeRewritten}
 use Rattle.mesa_tasks.specs.declared.recasting.RecastRange.{RecastRange}
 use Rattle.mesa_tasks.specs.declared.recasting.RecastedRange.{RecastedRange}

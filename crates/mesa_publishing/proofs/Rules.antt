@@ -7,11 +7,11 @@ use Rattle.std.proofs.lemmas.List.Concat.{flat_map-cons}
 use Rattle.std.specs.Str.{is_utf8}
 use Rattle.std.specs.Prelude.{IsTrue, not}
 use Rattle.std.specs.List.{list_any}
-use Rattle.mesa_disk.specs.mesa_key.declared.KeyType.{KeyType}
-use Rattle.mesa_disk.specs.mesa_key.declared.KeyType.TheVariants as kind
-use Rattle.mesa_disk.specs.mesa_key.declared.KeyValue.{KeyValue}
-use Rattle.mesa_disk.specs.mesa_key.declared.KeyValue.TheVariants as value
-use Rattle.mesa_disk.specs.mesa_key.Spelling.{IsKey, IsValue, key_of, key_spelling, value_spelling}
+use Rattle.mesa_plans.specs.mesa_key.declared.KeyType.{KeyType}
+use Rattle.mesa_plans.specs.mesa_key.declared.KeyType.TheVariants as kind
+use Rattle.mesa_plans.specs.mesa_key.declared.KeyValue.{KeyValue}
+use Rattle.mesa_plans.specs.mesa_key.declared.KeyValue.TheVariants as value
+use Rattle.mesa_plans.specs.mesa_key.Spelling.{IsKey, IsValue, key_of, key_spelling, value_spelling}
 use Rattle.mesa_value.specs.declared.Agg.{Agg}
 use Rattle.mesa_value.specs.declared.Agg.TheVariants as agg
 use Rattle.mesa_schema.specs.declared.columns.KeyColumn.{KeyColumn}
@@ -35,13 +35,13 @@ use Rattle.mesa_record.specs.declared.record.ViewRef.{ViewRef}
 use Rattle.mesa_record.specs.Rules.{are_files, are_parts, is_count_of_columns, is_file_ref, is_key_length, is_part, rise_from}
 use Rattle.mesa_plans.specs.mesa_block.Layout.{Layout}
 use Rattle.mesa_plans.specs.mesa_block.Rows.{IsRow}
-use Rattle.mesa_tasks.specs.mesa_delta.File.{IsFile}
-use Rattle.mesa_tasks.specs.mesa_delta.Spread.{spread}
-use Rattle.mesa_tasks.specs.mesa_delta.Summary.{IsReferenceOf, last_key, new_layout}
-use Rattle.mesa_tasks.specs.mesa_delta.Tail.{first_key}
-use Rattle.mesa_catalog.specs.mesa_image_spec.Catalog.{Catalog, Stock, stock_at}
-use Rattle.mesa_catalog.specs.mesa_image_spec.Shape.{IsCatalog, IsShaped}
-use Rattle.mesa_catalog.proofs.mesa_image_spec.Lists.{both_true, is_equal}
+use Rattle.mesa_plans.specs.mesa_delta.File.{IsFile}
+use Rattle.mesa_plans.specs.mesa_delta.Spread.{spread}
+use Rattle.mesa_plans.specs.mesa_delta.Summary.{IsReferenceOf, last_key, new_layout}
+use Rattle.mesa_plans.specs.mesa_delta.Tail.{first_key}
+use Rattle.mesa_engine.specs.mesa_image_spec.Catalog.{Catalog, Stock, stock_at}
+use Rattle.mesa_engine.specs.mesa_image_spec.Shape.{IsCatalog, IsShaped}
+use Rattle.mesa_engine.proofs.mesa_image_spec.Lists.{both_true, is_equal}
 use Rattle.mesa_catalog.specs.Lookups.{known_as, sight_of}
 use Rattle.mesa_tasks.specs.Batches.{AreParts, HasFiles, Share, share_of, shares, shares_from}
 use Rattle.mesa_tasks.specs.Made.{AreMadeFiles, AreMadeViews, IsMadeFile, content_of}

@@ -3,7 +3,7 @@ use Rattle.std.proofs.Common.{◌≡◌, ℕ, ◌+◌, List, ◌∷◌, ◌++◌
 use Rattle.std.proofs.lemmas.List.{length-append}
 use Rattle.mesa_list.specs.Checks.{◌>>◌}
 use Rattle.mesa_record.specs.declared.record.Part.{Part}
-use Rattle.mesa_catalog.specs.mesa_image_spec.Catalog.{Catalog, stock_at}
+use Rattle.mesa_engine.specs.mesa_image_spec.Catalog.{Catalog, stock_at}
 use Rattle.mesa_tasks.specs.declared.prepared.PreparedPart.{PreparedPart}
 use Rattle.mesa_publishing.specs.declared.failure.Unpublished.{Unpublished}
 use Rattle.mesa_publishing.specs.declared.failure.Unpublished.TheVariants as un

@@ -7,8 +7,8 @@ use Rattle.mesa_schema.specs.Columns.{Columns}
 use Rattle.mesa_schema.specs.Recasts.{recast_columns, recast_rows}
 use Rattle.mesa_schema.specs.Recasts.{Recast as Asked}
 use Rattle.mesa_schema.specs.Schema.{is_schema}
-use Rattle.mesa_tasks.specs.mesa_delta.Summary.{file_layout}
-use Rattle.mesa_tasks.specs.mesa_delta.declared.input.Input.{Input}
+use Rattle.mesa_plans.specs.mesa_delta.Summary.{file_layout}
+use Rattle.mesa_plans.specs.mesa_delta.declared.input.Input.{Input}
 use Rattle.mesa_record.specs.Rules.{is_file_ref}
 use Rattle.mesa_engine.specs.mesa_image_spec.Contents.{Rows}
 use Rattle.mesa_engine.specs.mesa_image_spec.Fitting.{counts_columns}

@@ -12,7 +12,7 @@ use Rattle.mesa_batch.specs.declared.words.RowWords.{RowWords}
 use Rattle.mesa_batch.specs.Batch.{Named, Placed, batch_of}
 use Rattle.mesa_disk.specs.Files.{HasDistinctIds, files_of}
 use Rattle.mesa_disk.specs.declared.moving.Adoption.{Adoption}
-use Rattle.mesa_plans.specs.mesa_commit.Turn.{made_ids, told_files}
+use Rattle.mesa_engine.specs.mesa_commit.Turn.{made_ids, told_files}
 use Rattle.mesa_engine.specs.mesa_commit.Filed.{AreGiven}
 use Rattle.mesa_engine.specs.mesa_commit.Holding.{Among}
 use Rattle.mesa_model.specs.Load.{bounds_checked, load_batch, tables_named, with_batch}
@@ -26,13 +26,13 @@ use Rattle.mesa_record.specs.declared.record.Part.{Part}
 use Rattle.mesa_record.specs.declared.record.Record.{Record}
 use Rattle.mesa_record.specs.declared.record.Record.TheVariants as record_of
 use Rattle.mesa_record.specs.Rules.{keeps_rules}
-use Rattle.mesa_catalog.specs.mesa_image_spec.Catalog.{Catalog, Stock, no_stock, stock_at}
-use Rattle.mesa_catalog.specs.mesa_image_spec.Fitting.{are_new_ids, brings_new_files, brought, fits, is_there, part_fits, publish_fits}
-use Rattle.mesa_catalog.specs.mesa_image_spec.Shape.{IsCatalog}
-use Rattle.mesa_catalog.specs.mesa_image_spec.Sound.{wants}
-use Rattle.mesa_catalog.specs.mesa_image_spec.Brought.{AreTold}
-use Rattle.mesa_catalog.specs.mesa_image_spec.Ids.{brought_ids, named}
-use Rattle.mesa_catalog.specs.mesa_image_spec.Sourced.{tables_read}
+use Rattle.mesa_engine.specs.mesa_image_spec.Catalog.{Catalog, Stock, no_stock, stock_at}
+use Rattle.mesa_engine.specs.mesa_image_spec.Fitting.{are_new_ids, brings_new_files, brought, fits, is_there, part_fits, publish_fits}
+use Rattle.mesa_engine.specs.mesa_image_spec.Shape.{IsCatalog}
+use Rattle.mesa_engine.specs.mesa_image_spec.Sound.{wants}
+use Rattle.mesa_engine.specs.mesa_image_spec.Brought.{AreTold}
+use Rattle.mesa_engine.specs.mesa_image_spec.Ids.{brought_ids, named}
+use Rattle.mesa_engine.specs.mesa_image_spec.Sourced.{tables_read}
 use Rattle.mesa_catalog.specs.Lookups.{known_as, sight_of}
 use Rattle.mesa_engine.specs.EngineState.{EngineState, first_id, most_files, next_id, projection_of}
 use Rattle.mesa_engine.proofs.Changing.{tables_are}

@@ -6,7 +6,7 @@ use Rattle.mesa_batch.specs.Totals.{over_bound}
 use Rattle.mesa_model.specs.Load.{sum_name}
 use Rattle.mesa_model.specs.declared.replies.Refusal.{Refusal}
 use Rattle.mesa_model.specs.declared.replies.Refusal.TheVariants as no
-use Rattle.mesa_catalog.specs.mesa_image_spec.Catalog.{Catalog, Stock, stock_at}
+use Rattle.mesa_engine.specs.mesa_image_spec.Catalog.{Catalog, Stock, stock_at}
 use Rattle.mesa_tasks.specs.declared.prepared.PreparedPart.{PreparedPart}
 use Rattle.mesa_publishing.specs.declared.failure.Unpublished.{Unpublished}
 use Rattle.mesa_publishing.specs.declared.failure.Unpublished.TheVariants as un

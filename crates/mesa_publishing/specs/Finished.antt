@@ -6,7 +6,7 @@ use Rattle.mesa_schema.specs.declared.views.View.{View}
 use Rattle.mesa_schema.specs.Changes.{Lineage, columns_of}
 use Rattle.mesa_schema.specs.Columns.{Columns}
 use Rattle.mesa_schema.specs.Views.{view_columns, view_rows}
-use Rattle.mesa_tasks.specs.mesa_history_spec.Sources.{Source, Written, range_rows, sources_from}
+use Rattle.mesa_engine.specs.mesa_history_spec.Sources.{Source, Written, range_rows, sources_from}
 use Rattle.mesa_engine.specs.mesa_image_spec.Moves.{first_of, last_of}
 use Rattle.mesa_tasks.specs.Inputs.{IsMergeOf}
 use Rattle.mesa_tasks.specs.Tasks.{IsMerged, IsTask, MergeOnlyTo}

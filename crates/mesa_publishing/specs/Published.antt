@@ -8,19 +8,19 @@ use Rattle.mesa_batch.specs.declared.words.RowWords.{RowWords}
 use Rattle.mesa_batch.specs.Batch.{Placed}
 use Rattle.mesa_disk.specs.Files.{HasDistinctIds, files_of}
 use Rattle.mesa_disk.specs.declared.moving.Adoption.{Adoption}
-use Rattle.mesa_plans.specs.mesa_commit.Turn.{made_ids, told_files}
+use Rattle.mesa_engine.specs.mesa_commit.Turn.{made_ids, told_files}
 use Rattle.mesa_model.specs.Load.{load_batch, with_batch}
 use Rattle.mesa_model.specs.Warehouse.{Warehouse}
 use Rattle.mesa_model.specs.declared.replies.Reply.TheVariants as reply
 use Rattle.mesa_record.specs.declared.record.Part.{Part}
 use Rattle.mesa_record.specs.declared.record.Record.TheVariants as record_of
 use Rattle.mesa_record.specs.Rules.{keeps_rules}
-use Rattle.mesa_catalog.specs.mesa_image_spec.Catalog.{Catalog}
-use Rattle.mesa_catalog.specs.mesa_image_spec.Contents.{Rows}
-use Rattle.mesa_catalog.specs.mesa_image_spec.Fitting.{brought, fits}
-use Rattle.mesa_catalog.specs.mesa_image_spec.Sound.{wants}
-use Rattle.mesa_catalog.specs.mesa_image_spec.Brought.{AreTold, BringsAll}
-use Rattle.mesa_catalog.specs.mesa_image_spec.Ids.{brought_ids}
+use Rattle.mesa_engine.specs.mesa_image_spec.Catalog.{Catalog}
+use Rattle.mesa_engine.specs.mesa_image_spec.Contents.{Rows}
+use Rattle.mesa_engine.specs.mesa_image_spec.Fitting.{brought, fits}
+use Rattle.mesa_engine.specs.mesa_image_spec.Sound.{wants}
+use Rattle.mesa_engine.specs.mesa_image_spec.Brought.{AreTold, BringsAll}
+use Rattle.mesa_engine.specs.mesa_image_spec.Ids.{brought_ids}
 use Rattle.mesa_catalog.specs.Lookups.{sight_of}
 use Rattle.mesa_engine.specs.mesa_history_spec.Rows.{no_rows}
 use Rattle.mesa_tasks.specs.Batches.{Share, shares}

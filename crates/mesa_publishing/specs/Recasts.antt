@@ -4,7 +4,7 @@ use Rattle.std.specs.List.{AllByRecursion}
 use Rattle.mesa_schema.specs.declared.rows.Row.{Row}
 use Rattle.mesa_schema.specs.Changes.{Lineage, columns_of, epoch_of}
 use Rattle.mesa_disk.specs.Files.{HasDistinctIds, files_of}
-use Rattle.mesa_plans.specs.mesa_commit.Turn.{made_ids, told_files}
+use Rattle.mesa_engine.specs.mesa_commit.Turn.{made_ids, told_files}
 use Rattle.mesa_file.specs.declared.file_ref.FileRef.{FileRef}
 use Rattle.mesa_record.specs.Rules.{keeps_rules}
 use Rattle.mesa_record.specs.declared.record.Files.{Files}
@@ -20,7 +20,7 @@ use Rattle.mesa_engine.specs.mesa_image_spec.Ids.{brought_ids}
 use Rattle.mesa_engine.specs.mesa_image_spec.Rewritten.{Covers, IsRewritten, Rewritten, recasting_of}
 use Rattle.mesa_engine.specs.EngineState.{EngineState, next_id}
 use Rattle.mesa_engine.specs.Recorded.{Adopts}
-use Rattle.mesa_tasks.specs.mesa_history_spec.Sources.{Source, Written, range_rows, sources_from}
+use Rattle.mesa_engine.specs.mesa_history_spec.Sources.{Source, Written, range_rows, sources_from}
 use Rattle.mesa_tasks.specs.Inputs.{IsMergeOf}
 use Rattle.mesa_tasks.specs.Recasts.{own, recast_in, recast_table}
 use Rattle.mesa_tasks.specs.declared.made.MadeFile.{MadeFile}

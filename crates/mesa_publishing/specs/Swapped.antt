@@ -3,7 +3,7 @@ use Rattle.std.specs.Prelude.{◌≡◌, ℕ, ◌<◌, List, true, Option, None,
 use Rattle.mesa_schema.specs.declared.rows.Row.{Row}
 use Rattle.mesa_schema.specs.Changes.{Lineage}
 use Rattle.mesa_disk.specs.Files.{HasDistinctIds, files_of}
-use Rattle.mesa_plans.specs.mesa_commit.Turn.{made_ids, told_files}
+use Rattle.mesa_engine.specs.mesa_commit.Turn.{made_ids, told_files}
 use Rattle.mesa_record.specs.Rules.{keeps_rules}
 use Rattle.mesa_record.specs.declared.record.Files.{Files}
 use Rattle.mesa_record.specs.declared.record.Record.{Record}
@@ -16,7 +16,7 @@ use Rattle.mesa_engine.specs.mesa_image_spec.Brought.{AreTold}
 use Rattle.mesa_engine.specs.mesa_image_spec.Ids.{brought_ids}
 use Rattle.mesa_engine.specs.mesa_image_spec.Moves.{first_of, is_base, last_of}
 use Rattle.mesa_engine.specs.mesa_image_spec.Sourced.{IsMergedOf}
-use Rattle.mesa_tasks.specs.mesa_history_spec.Sources.{Written}
+use Rattle.mesa_engine.specs.mesa_history_spec.Sources.{Written}
 use Rattle.mesa_tasks.specs.declared.made.MadeFiles.{MadeFiles}
 use Rattle.mesa_tasks.specs.declared.merging.Task.{Task}
 use Rattle.mesa_engine.specs.EngineState.{EngineState, next_id}

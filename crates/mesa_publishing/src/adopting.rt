@@ -1,7 +1,7 @@
 // Finished files get the ids under which they are adopted.
 ghost use Rattle.std.specs.Prelude.{◌≡◌, ◌+◌, ◌<◌, ◌^◌, ◌++◌, [], ◌∷◌, length, map, IfOk, OnOk};
 ghost use Rattle.mesa_disk.specs.Files.{files_of};
-ghost use Rattle.mesa_catalog.specs.mesa_image_spec.Catalog.{stock_at};
+ghost use Rattle.mesa_engine.specs.mesa_image_spec.Catalog.{stock_at};
 ghost use Rattle.mesa_publishing.specs.Adopted.{ArePartsOf, file_in, files_in, files_of_part, files_of_parts, files_under, listed, part_under, parts_under, ref_under, told_under, views_under};
 
 use mesa_catalog::Catalog;

@@ -4,8 +4,8 @@ ghost use Rattle.mesa_schema.specs.Changes.{columns_of};
 ghost use Rattle.mesa_schema.specs.Columns.{aggs_of};
 ghost use Rattle.mesa_batch.specs.Totals.{is_sum as adds, sum_places, sums_in};
 ghost use Rattle.mesa_model.specs.Load.{sum_name};
-ghost use Rattle.mesa_catalog.specs.mesa_image_spec.Catalog.{stock_at};
-ghost use Rattle.mesa_catalog.specs.mesa_image_spec.Shape.{IsCatalog};
+ghost use Rattle.mesa_engine.specs.mesa_image_spec.Catalog.{stock_at};
+ghost use Rattle.mesa_engine.specs.mesa_image_spec.Shape.{IsCatalog};
 ghost use Rattle.mesa_publishing.specs.Adopted.{ArePartsOf};
 ghost use Rattle.mesa_publishing.specs.Bounds.{IsDue, parts_checked, totals_checked};
 

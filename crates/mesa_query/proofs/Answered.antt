@@ -6,8 +6,8 @@ use Rattle.std.proofs.Math.Seq.{take-nil}
 use Rattle.std.proofs.lemmas.Bool.{le-ltb}
 use Rattle.std.proofs.lemmas.List.Elements.{filter-append}
 use Rattle.std.proofs.lemmas.List.Filters.{sum_by-filter_both}
-use Rattle.mesa_value.specs.Agg.{sum_bound}
-use Rattle.mesa_key.specs.Spelling.{key_of}
+use Rattle.mesa_view.specs.mesa_value.Agg.{sum_bound}
+use Rattle.mesa_view.specs.mesa_key.Spelling.{key_of}
 use Rattle.mesa_schema.specs.declared.rows.Row.{Row}
 use Rattle.mesa_schema.specs.Columns.{Columns, aggs_of, kinds_of}
 use Rattle.mesa_schema.specs.Folded.{folded, grouped, rows_of}

@@ -7,18 +7,18 @@ use Rattle.mesa_cache.specs.Reading.{Reading}
 use Rattle.mesa_delta.specs.declared.error.FileError.{FileError}
 use Rattle.mesa_delta.specs.declared.error.FileError.TheVariants as file_error
 use Rattle.mesa_model.specs.declared.replies.Page.{Page}
-use Rattle.mesa_model.specs.mesa_file.declared.damage.Damage.{Damage}
-use Rattle.mesa_model.specs.mesa_schema.declared.rows.Row.{Row}
-use Rattle.mesa_model.specs.mesa_schema.Columns.{Columns}
-use Rattle.mesa_model.specs.mesa_schema.Folded.{rows_of}
-use Rattle.mesa_model.specs.mesa_schema.Rows.{AreRowsOf}
+use Rattle.mesa_file.specs.declared.damage.Damage.{Damage}
+use Rattle.mesa_schema.specs.declared.rows.Row.{Row}
+use Rattle.mesa_schema.specs.Columns.{Columns}
+use Rattle.mesa_schema.specs.Folded.{rows_of}
+use Rattle.mesa_schema.specs.Rows.{AreRowsOf}
 use Rattle.mesa_query.specs.Files.{IsDamageIn, inputs_in}
 use Rattle.mesa_query.specs.Relation.{page_over, parts_pinned, parts_ungrouped}
 use Rattle.mesa_query.specs.Sums.{IsSumIn}
-use Rattle.mesa_query.specs.mesa_answer.Answering.{KeepsSums, grouped_columns}
-use Rattle.mesa_query.specs.mesa_answer.Gathering.{wanted_by}
-use Rattle.mesa_query.specs.mesa_merge.Faults.{HaveFaultCause, faults_of}
-use Rattle.mesa_query.specs.mesa_merge.Inputs.{Known, AreTold, knowns_of}
+use Rattle.mesa_answer.specs.Answering.{KeepsSums, grouped_columns}
+use Rattle.mesa_answer.specs.Gathering.{wanted_by}
+use Rattle.mesa_merge.specs.Faults.{HaveFaultCause, faults_of}
+use Rattle.mesa_merge.specs.Inputs.{Known, AreTold, knowns_of}
 use Rattle.mesa_tasks.specs.Pins.{IsPinned}
 use Rattle.mesa_tasks.specs.declared.querying.Pinned.{Pinned}
 use Rattle.mesa_query.specs.Cooled.{cooled}

@@ -4,8 +4,8 @@ use Rattle.std.specs.Prelude.{map, filter, IsTrue, IfSome, Option, Some, slice_g
 use Rattle.std.specs.List.{AllByRecursion}
 use Rattle.std.proofs.lemmas.List.{map-append, take-append-drop}
 use Rattle.std.proofs.lemmas.List.Elements.{filter-append}
-use Rattle.mesa_key.specs.declared.KeyType.{KeyType}
-use Rattle.mesa_key.specs.Spelling.{is_spelling, key_of}
+use Rattle.mesa_view.specs.mesa_key.declared.KeyType.{KeyType}
+use Rattle.mesa_view.specs.mesa_key.Spelling.{is_spelling, key_of}
 use Rattle.mesa_schema.specs.declared.rows.Row.{Row}
 use Rattle.mesa_schema.specs.declared.views.View.{View}
 use Rattle.mesa_schema.specs.Columns.{Columns, kinds_of}
@@ -16,7 +16,7 @@ use Rattle.mesa_schema.specs.Views.{view_columns, view_key_places, view_value_pl
 use Rattle.mesa_schema.proofs.Folds.{rows_of-append}
 use Rattle.mesa_filter.specs.declared.terms.Term.{Term}
 use Rattle.mesa_filter.specs.Filter.{KeyFilter, filtered, meets}
-use Rattle.mesa_delta.specs.mesa_block.Layout.{Layout}
+use Rattle.mesa_block.specs.Layout.{Layout}
 use Rattle.mesa_delta.specs.Reading.{index_of}
 use Rattle.mesa_delta.specs.Spread.{blocks_of}
 use Rattle.mesa_delta.specs.declared.input.Input.{Input}

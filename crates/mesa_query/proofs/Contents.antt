@@ -3,7 +3,7 @@ use Rattle.std.proofs.Common.{◌≡◌, ℕ, zero, suc, ◌+◌, ◌<◌, ◌�
 use Rattle.std.specs.Prelude.{Option}
 use Rattle.std.proofs.lemmas.List.{append-nil, take_all}
 use Rattle.std.proofs.lemmas.List.Elements.{filter-append}
-use Rattle.mesa_key.specs.Spelling.{key_of}
+use Rattle.mesa_view.specs.mesa_key.Spelling.{key_of}
 use Rattle.mesa_schema.specs.declared.rows.Row.{Row}
 use Rattle.mesa_schema.specs.Columns.{Columns, kinds_of}
 use Rattle.mesa_schema.specs.Folded.{rows_of}

@@ -7,20 +7,20 @@ use Rattle.mesa_cache.specs.Reading.{Reading}
 use Rattle.mesa_delta.specs.Reading.{HasRead}
 use Rattle.mesa_delta.specs.declared.reader.DeltaReader.{DeltaReader}
 use Rattle.mesa_delta.specs.declared.input.Input.{Input}
-use Rattle.mesa_model.specs.mesa_filter.Filter.{filtered}
-use Rattle.mesa_model.specs.mesa_filter.declared.terms.Term.{Term}
-use Rattle.mesa_model.specs.mesa_file.declared.damage.Damage.{Damage}
-use Rattle.mesa_model.specs.mesa_schema.declared.rows.Row.{Row}
-use Rattle.mesa_model.specs.mesa_schema.Columns.{Columns}
-use Rattle.mesa_model.specs.mesa_schema.Folded.{rows_of}
+use Rattle.mesa_filter.specs.Filter.{filtered}
+use Rattle.mesa_filter.specs.declared.terms.Term.{Term}
+use Rattle.mesa_file.specs.declared.damage.Damage.{Damage}
+use Rattle.mesa_schema.specs.declared.rows.Row.{Row}
+use Rattle.mesa_schema.specs.Columns.{Columns}
+use Rattle.mesa_schema.specs.Folded.{rows_of}
 use Rattle.mesa_query.specs.Files.{AreMoved, IsDamageIn, inputs_in, owns_in}
 use Rattle.mesa_query.specs.Relation.{parts_pinned, parts_ungrouped, rows_ungrouped}
-use Rattle.mesa_query.specs.mesa_merge.Faults.{faults_of}
+use Rattle.mesa_merge.specs.Faults.{faults_of}
 use Rattle.mesa_query.specs.Sums.{IsSumIn, LacksGroup}
-use Rattle.mesa_query.specs.mesa_answer.Gathering.{Wanted}
-use Rattle.mesa_query.specs.mesa_merge.Inputs.{AreTold, Known, known_of, knowns_of}
-use Rattle.mesa_query.specs.mesa_scan.Damaged.{IsDamaged}
-use Rattle.mesa_tasks.specs.mesa_scan.Cursors.{IsInput, reader_in}
+use Rattle.mesa_answer.specs.Gathering.{Wanted}
+use Rattle.mesa_merge.specs.Inputs.{AreTold, Known, known_of, knowns_of}
+use Rattle.mesa_scan.specs.Damaged.{IsDamaged}
+use Rattle.mesa_scan.specs.Cursors.{IsInput, reader_in}
 use Rattle.mesa_tasks.specs.Pins.{IsPinned, IsPinnedInput, rows_pinned}
 use Rattle.mesa_tasks.specs.declared.querying.Pinned.{Pinned}
 use Rattle.mesa_tasks.specs.declared.querying.PinnedInput.{PinnedInput}

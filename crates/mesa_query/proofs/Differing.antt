@@ -1,7 +1,7 @@
 -- Damage that is told of a query's files: what is found differs from what was wanted.
 use Rattle.std.proofs.Common.{◌≡◌, inl, inr, ⊎_elim, ℕ, ◌<◌, List, [], ◌∷◌, sym, ap, subst, arith}
 use Rattle.std.specs.Prelude.{◌⊎◌, Option}
-use Rattle.mesa_io.specs.Causes.{Rose}
+use Rattle.mesa_tasks.specs.mesa_io.Causes.{Rose}
 use Rattle.mesa_file.specs.declared.damage.Damage.{Damage}
 use Rattle.mesa_file.specs.declared.damage.Seen.{Seen}
 use Rattle.mesa_file.specs.declared.damage.Seen.TheVariants as seen

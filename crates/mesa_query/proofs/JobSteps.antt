@@ -6,8 +6,8 @@ use Rattle.std.specs.List.{AllByRecursion}
 use Rattle.std.proofs.lemmas.List.{append-nil, map-append, take-append-drop, take_all, take_more}
 use Rattle.std.proofs.lemmas.Grind.{flat_map-append}
 use Rattle.std.proofs.lemmas.List.Elements.{filter-append}
-use Rattle.mesa_key.specs.declared.KeyType.{KeyType}
-use Rattle.mesa_key.specs.Spelling.{is_spelling, key_of}
+use Rattle.mesa_view.specs.mesa_key.declared.KeyType.{KeyType}
+use Rattle.mesa_view.specs.mesa_key.Spelling.{is_spelling, key_of}
 use Rattle.mesa_schema.specs.declared.rows.Row.{Row}
 use Rattle.mesa_schema.specs.Changes.{columns_at, columns_of}
 use Rattle.mesa_schema.specs.Laws.{LiftedForms}

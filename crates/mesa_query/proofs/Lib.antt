@@ -1,4 +1,6 @@
 pub use Rattle.mesa_answer.proofs as mesa_answer
+pub use Rattle.mesa_filter.proofs as mesa_filter
+pub use Rattle.mesa_merge.proofs as mesa_merge
 pub mod Blocks
 pub mod Ungrouped
 pub mod Files

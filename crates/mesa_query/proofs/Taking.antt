@@ -3,7 +3,7 @@ use Rattle.std.proofs.Common.{◌≡◌, ℕ, List, [], ◌∷◌, ◌++◌, map
 use Rattle.std.specs.Prelude.{Option, reverse}
 use Rattle.std.proofs.lemmas.List.{map-append, reverse-append, reverse-reverse}
 use Rattle.mesa_cache.specs.Reading.{Reading}
-use Rattle.mesa_tasks.specs.mesa_scan.Cursors.{IsInput}
+use Rattle.mesa_scan.specs.Cursors.{IsInput}
 use Rattle.mesa_tasks.specs.declared.querying.PinnedInput.{PinnedInput}
 use Rattle.mesa_query.specs.Cooled.{cooled_file}
 use Rattle.mesa_query.specs.Same.{AreReadable, AreSameFiles}

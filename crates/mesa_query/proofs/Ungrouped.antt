@@ -1,6 +1,6 @@
 -- Rows of a table fold under a view's keys as their groups do.
 use Rattle.std.proofs.Common.{◌≡◌, ℕ, List, [], ◌∷◌, ◌++◌, Bool, true, false, refl, sym, ◌∙◌, ap, subst, append_assoc, Option, Some, None}
-use Rattle.mesa_value.specs.declared.Agg.{Agg}
+use Rattle.mesa_view.specs.mesa_value.declared.Agg.{Agg}
 use Rattle.mesa_schema.specs.declared.columns.ValueColumn.{ValueColumn}
 use Rattle.mesa_schema.specs.declared.rows.Row.{Row}
 use Rattle.mesa_schema.specs.declared.views.View.{View}

@@ -1,6 +1,8 @@
 pub use Rattle.mesa_answer.specs as mesa_answer
+pub use Rattle.mesa_block.specs as mesa_block
 pub use Rattle.mesa_merge.specs as mesa_merge
 pub use Rattle.mesa_scan.specs as mesa_scan
+pub use Rattle.mesa_view.specs as mesa_view
 pub mod Relation
 pub mod Whole
 pub mod Files

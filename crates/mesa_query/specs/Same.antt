@@ -1,10 +1,10 @@
 -- A pinned query that is the same, however much of its files was read.
 use Rattle.std.specs.Prelude.{◌≡◌, ℕ, List, map, Option}
 use Rattle.std.specs.List.{AllByRecursion}
-use Rattle.mesa_model.specs.mesa_schema.Columns.{Columns}
+use Rattle.mesa_schema.specs.Columns.{Columns}
 use Rattle.mesa_query.specs.Files.{inputs_in, owns_in}
-use Rattle.mesa_query.specs.mesa_merge.Inputs.{knowns_of}
-use Rattle.mesa_tasks.specs.mesa_scan.Cursors.{IsInput, reader_in}
+use Rattle.mesa_merge.specs.Inputs.{knowns_of}
+use Rattle.mesa_scan.specs.Cursors.{IsInput, reader_in}
 use Rattle.mesa_tasks.specs.Pins.{IsPinned}
 use Rattle.mesa_tasks.specs.declared.querying.Pinned.{Pinned}
 use Rattle.mesa_tasks.specs.declared.querying.PinnedInput.{PinnedInput}

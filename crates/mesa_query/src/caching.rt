@@ -1,6 +1,6 @@
 // Caches put before the readers of a query's files, and taken away again.
 ghost use Rattle.std.specs.Prelude.{◌≡◌, ◌≤◌, ◌+◌, ◌++◌, [], ◌∷◌, map, reverse, vec_len, vec_capacity, IfOk, IfErr};
-ghost use Rattle.mesa_tasks.specs.mesa_scan.Cursors.{IsInput};
+ghost use Rattle.mesa_scan.specs.Cursors.{IsInput};
 ghost use Rattle.mesa_query.specs.Cooled.{cooled_file};
 ghost use Rattle.mesa_query.specs.Same.{AreReadable, AreSameFiles};
 

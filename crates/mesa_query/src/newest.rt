@@ -1,7 +1,7 @@
 // The newest file that holds a group whose sum leaves its type.
 ghost use Rattle.std.specs.Prelude.{◌≡◌, ◌+◌, ◌<◌, ◌↔◌, List, drop, length, slice_get, IfOk, IfErr, IsTrue, Some};
 ghost use Rattle.std.specs.List.{AllByRecursion};
-ghost use Rattle.mesa_io.specs.Causes.{HasFaultCause};
+ghost use Rattle.mesa_tasks.specs.mesa_io.Causes.{HasFaultCause};
 ghost use Rattle.mesa_file.specs.declared.damage.Damage.{Damage as AnyDamage};
 ghost use Rattle.mesa_schema.specs.declared.rows.Row.{Row as AnyRow};
 ghost use Rattle.mesa_schema.specs.Columns.{kinds_of};

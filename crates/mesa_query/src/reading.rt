@@ -1,6 +1,6 @@
 // The blocks of jobs read, by the one reader of each file.
 ghost use Rattle.std.specs.Prelude.{◌≡◌, ◌<◌, ◌+◌, ◌++◌, [], ◌∷◌, length, map, false, true, IfOk, OnErr};
-ghost use Rattle.mesa_io.specs.Causes.{HasFaultCause};
+ghost use Rattle.mesa_tasks.specs.mesa_io.Causes.{HasFaultCause};
 ghost use Rattle.mesa_delta.specs.declared.error.FileError.TheVariants as file_error;
 ghost use Rattle.mesa_delta.specs.Ahead.{IsOfFile, Untested as AnyUntested};
 ghost use Rattle.mesa_delta.specs.Reading.{index_of};

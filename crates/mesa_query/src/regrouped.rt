@@ -1,9 +1,9 @@
 // A table's file put into the groups of one of its views.
 ghost use Rattle.std.specs.Prelude.{◌≡◌, ◌++◌, [], ◌∷◌, List, map, slice_get, OnOk, IfErr, IsTrue, Some};
 ghost use Rattle.std.specs.List.{AllByRecursion};
-ghost use Rattle.mesa_io.specs.Causes.{HasFaultCause};
+ghost use Rattle.mesa_tasks.specs.mesa_io.Causes.{HasFaultCause};
 ghost use Rattle.mesa_file.specs.declared.damage.Damage.{Damage as AnyDamage};
-ghost use Rattle.mesa_key.specs.Spelling.{is_spelling};
+ghost use Rattle.mesa_view.specs.mesa_key.Spelling.{is_spelling};
 ghost use Rattle.mesa_schema.specs.declared.rows.Row.{Row as AnyRow};
 ghost use Rattle.mesa_schema.specs.declared.views.View.{View as Chosen};
 ghost use Rattle.mesa_schema.specs.Changes.{columns_of};

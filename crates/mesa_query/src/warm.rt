@@ -1,15 +1,15 @@
 // A pinned query whose files are read through caches.
 ghost use Rattle.std.specs.Prelude.{◌≡◌, ◌≤◌, ◌⊎◌, List, IfOk, IfErr};
 ghost use Rattle.mesa_delta.specs.declared.error.FileError.TheVariants as file_error;
-ghost use Rattle.mesa_model.specs.mesa_file.declared.damage.Damage.{Damage as AnyDamage};
-ghost use Rattle.mesa_model.specs.mesa_schema.declared.rows.Row.{Row as AnyRow};
-ghost use Rattle.mesa_model.specs.mesa_schema.Columns.{Columns};
-ghost use Rattle.mesa_model.specs.mesa_schema.Folded.{rows_of};
-ghost use Rattle.mesa_model.specs.mesa_schema.Rows.{AreRowsOf};
-ghost use Rattle.mesa_query.specs.mesa_answer.Answering.{KeepsSums, grouped_columns};
-ghost use Rattle.mesa_query.specs.mesa_answer.Gathering.{wanted_by};
-ghost use Rattle.mesa_query.specs.mesa_merge.Faults.{HaveFaultCause, faults_of};
-ghost use Rattle.mesa_query.specs.mesa_merge.Inputs.{AreTold, knowns_of};
+ghost use Rattle.mesa_file.specs.declared.damage.Damage.{Damage as AnyDamage};
+ghost use Rattle.mesa_schema.specs.declared.rows.Row.{Row as AnyRow};
+ghost use Rattle.mesa_schema.specs.Columns.{Columns};
+ghost use Rattle.mesa_schema.specs.Folded.{rows_of};
+ghost use Rattle.mesa_schema.specs.Rows.{AreRowsOf};
+ghost use Rattle.mesa_answer.specs.Answering.{KeepsSums, grouped_columns};
+ghost use Rattle.mesa_answer.specs.Gathering.{wanted_by};
+ghost use Rattle.mesa_merge.specs.Faults.{HaveFaultCause, faults_of};
+ghost use Rattle.mesa_merge.specs.Inputs.{AreTold, knowns_of};
 ghost use Rattle.mesa_query.specs.Files.{IsDamageIn, inputs_in, owns_in};
 ghost use Rattle.mesa_query.specs.Relation.{page_over, parts_pinned, parts_ungrouped};
 ghost use Rattle.mesa_query.specs.Sums.{IsSumIn};

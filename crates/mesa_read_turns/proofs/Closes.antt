@@ -3,7 +3,7 @@ use Rattle.std.proofs.Common.{◌≡◌, inl, inr, ℕ, ◌<◌, ◌≤◌, ◌^
 use Rattle.std.specs.Prelude.{is_some, vec_capacity}
 use Rattle.std.specs.List.{AllByRecursion}
 use Rattle.mesa_read_turns.specs.Closing.{IsPageOf, IsSomePageOf, IsToClose, cause_if, closing_entry, closing_text}
-use Rattle.mesa_tasks.specs.mesa_scan.Cursors.{reader_in}
+use Rattle.mesa_plans.specs.mesa_scan.Cursors.{reader_in}
 use Rattle.mesa_delta.specs.declared.error.FileError.{FileError}
 use Rattle.mesa_delta.specs.declared.error.FileError.TheVariants as file_error
 use Rattle.mesa_delta.specs.declared.input.Input.{Input}
@@ -11,7 +11,7 @@ use Rattle.mesa_disk.specs.Story.{Story, Unmoved}
 use Rattle.mesa_engine.proofs.Turning.{turned_engine}
 use Rattle.mesa_engine.proofs.Undone.{not_skipped}
 use Rattle.mesa_engine.specs.Engine.{IsEngine}
-use Rattle.mesa_disk.specs.mesa_io.Causes.{last, Rose}
+use Rattle.mesa_io.specs.Causes.{last, Rose}
 use Rattle.mesa_engine.specs.mesa_history_spec.Counting.{answers_disk}
 use Rattle.mesa_engine.specs.mesa_history_spec.Replay.{is_skip}
 use Rattle.mesa_engine.specs.mesa_history_spec.Run.{State, Finished}

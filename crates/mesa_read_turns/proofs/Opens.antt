@@ -13,7 +13,7 @@ use Rattle.mesa_disk.specs.Story.{Story, Unmoved}
 use Rattle.mesa_engine.proofs.Turning.{passed_engine, told_engine}
 use Rattle.mesa_engine.proofs.Undone.{not_skipped}
 use Rattle.mesa_engine.specs.Engine.{IsEngine}
-use Rattle.mesa_disk.specs.mesa_io.Causes.{Rose, last}
+use Rattle.mesa_io.specs.Causes.{Rose, last}
 use Rattle.mesa_file.specs.declared.damage.Damage.{Damage}
 use Rattle.mesa_filter.specs.declared.words.QueryWords.{QueryWords}
 use Rattle.mesa_filter.specs.declared.words.VersionWord.{VersionWord}

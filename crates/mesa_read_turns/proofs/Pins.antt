@@ -10,7 +10,7 @@ use Rattle.mesa_filter.specs.declared.words.VersionWord.{VersionWord}
 use Rattle.mesa_filter.specs.declared.words.VersionWord.TheVariants as asks
 use Rattle.mesa_engine.specs.mesa_image_spec.Catalog.{Catalog, Stock}
 use Rattle.mesa_engine.specs.mesa_image_spec.Shape.{IsCatalog, IsShaped}
-use Rattle.mesa_rules.specs.mesa_list.Checks.{◌>>=◌, ◌>>◌, refuse_if}
+use Rattle.mesa_plans.specs.mesa_list.Checks.{◌>>=◌, ◌>>◌, refuse_if}
 use Rattle.mesa_model.specs.Pins.{count_at, make_pin, next_token, with_pin}
 use Rattle.mesa_model.specs.Refusals.{refuse_closed}
 use Rattle.mesa_model.specs.Versions.{common_oldest, oldest_among, version_asked}

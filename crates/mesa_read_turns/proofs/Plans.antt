@@ -6,7 +6,7 @@ use Rattle.mesa_binding.specs.declared.failure.Failure.{Failure}
 use Rattle.mesa_binding.specs.declared.failure.Failure.TheVariants as failure
 use Rattle.mesa_disk.specs.Story.{Story}
 use Rattle.mesa_engine.specs.Failing.{is_of_device}
-use Rattle.mesa_rules.specs.mesa_list.Checks.{◌>>=◌, ◌>>◌}
+use Rattle.mesa_plans.specs.mesa_list.Checks.{◌>>=◌, ◌>>◌}
 use Rattle.mesa_model.specs.Orders.{order_asked}
 use Rattle.mesa_model.specs.Refusals.{no_such_table, refuse_closed}
 use Rattle.mesa_model.specs.Relations.{Relation, relation_of}
@@ -28,7 +28,7 @@ use Rattle.mesa_engine.specs.mesa_history_spec.Turns.{IsDue}
 use Rattle.mesa_engine.specs.mesa_history_spec.Output.{block}
 use Rattle.mesa_read_turns.specs.Asked.{cause_asked}
 use Rattle.mesa_engine.specs.mesa_history_spec.Rows.{Rows}
-use Rattle.mesa_rules.specs.mesa_span.Plan.{plan}
+use Rattle.mesa_engine.specs.mesa_span.Plan.{plan}
 use Rattle.mesa_engine.specs.mesa_invariant_spec.Causes.{told_at}
 use Rattle.mesa_engine.specs.mesa_invariant_spec.Changes.{HasNoPlan, is_plain}
 use Rattle.mesa_engine.specs.mesa_invariant_spec.Printing.{IsPut}

@@ -8,7 +8,7 @@ use Rattle.mesa_engine.specs.mesa_catalog.Lookups.{known_as}
 use Rattle.mesa_filter.specs.declared.words.QueryWords.{QueryWords}
 use Rattle.mesa_filter.specs.declared.words.VersionWord.{VersionWord}
 use Rattle.mesa_filter.specs.declared.words.VersionWord.TheVariants as asks
-use Rattle.mesa_engine.specs.mesa_catalog.mesa_image_spec.Catalog.{Catalog}
+use Rattle.mesa_engine.specs.mesa_image_spec.Catalog.{Catalog}
 use Rattle.mesa_engine.specs.EngineState.{HeldPin, EngineState, bare_held, books_of, projection_at, projection_of, projections, projections_at}
 use Rattle.mesa_engine.specs.Turned.{is_held_pin}
 use Rattle.mesa_plans.specs.mesa_list.Checks.{◌>>=◌, ◌>>◌}

@@ -7,16 +7,16 @@ use Rattle.mesa_read_turns.specs.Seeing.{catalogue_asked, pinned_asked}
 use Rattle.mesa_plans.proofs.Contents.{HasContents, kept_catalog, pinned_contents, present_contents}
 use Rattle.mesa_read_turns.proofs.Sees.{asked_there}
 use Rattle.mesa_read_turns.proofs.Versions.{common_most, version_there}
-use Rattle.mesa_engine.proofs.mesa_catalog.Loads.{find_mapped, found_holds}
-use Rattle.mesa_engine.proofs.mesa_catalog.Stocks.{all_at}
+use Rattle.mesa_plans.proofs.mesa_catalog.Loads.{find_mapped, found_holds}
+use Rattle.mesa_plans.proofs.mesa_catalog.Stocks.{all_at}
 use Rattle.mesa_filter.specs.declared.words.QueryWords.{QueryWords}
 use Rattle.mesa_filter.specs.declared.words.VersionWord.{VersionWord}
 use Rattle.mesa_filter.specs.declared.words.VersionWord.TheVariants as asks
 use Rattle.mesa_engine.specs.mesa_history_spec.Found.{Kept}
 use Rattle.mesa_engine.specs.mesa_history_spec.Run.{State}
-use Rattle.mesa_engine.specs.mesa_catalog.mesa_image_spec.Catalog.{Catalog, no_stock, stock_at}
-use Rattle.mesa_engine.specs.mesa_catalog.mesa_image_spec.Contents.{Rows, kept_of}
-use Rattle.mesa_engine.specs.mesa_catalog.mesa_image_spec.Shape.{IsCatalog, IsShaped}
+use Rattle.mesa_engine.specs.mesa_image_spec.Catalog.{Catalog, no_stock, stock_at}
+use Rattle.mesa_engine.specs.mesa_image_spec.Contents.{Rows, kept_of}
+use Rattle.mesa_engine.specs.mesa_image_spec.Shape.{IsCatalog, IsShaped}
 use Rattle.mesa_engine.specs.EngineState.{HeldPin, EngineState, books_of, held_with}
 use Rattle.mesa_engine.specs.Turned.{is_held_pin}
 use Rattle.mesa_engine.specs.Vault.{IsVersioned}

@@ -8,9 +8,9 @@ use Rattle.mesa_plans.proofs.Contents.{columns_found, seen_columns, seen_content
 use Rattle.mesa_read_turns.proofs.Opens.{Answers, one_answer, opened_from}
 use Rattle.mesa_read_turns.proofs.States.{sees_state, version_range}
 use Rattle.mesa_plans.proofs.There.{name_there}
-use Rattle.mesa_engine.proofs.mesa_catalog.Loads.{found_holds}
-use Rattle.mesa_engine.proofs.mesa_catalog.Stocks.{all_at}
-use Rattle.mesa_plans.specs.mesa_commit.Images.{Has}
+use Rattle.mesa_plans.proofs.mesa_catalog.Loads.{found_holds}
+use Rattle.mesa_plans.proofs.mesa_catalog.Stocks.{all_at}
+use Rattle.mesa_engine.specs.mesa_commit.Images.{Has}
 use Rattle.mesa_disk.specs.Image.{Image}
 use Rattle.mesa_disk.specs.Story.{Story, Unmoved}
 use Rattle.mesa_filter.specs.Query.{BuiltQuery, IsQueryOf, group_kinds}
@@ -19,12 +19,12 @@ use Rattle.mesa_filter.specs.declared.words.VersionWord.{VersionWord}
 use Rattle.mesa_filter.specs.declared.words.VersionWord.TheVariants as asks
 use Rattle.mesa_engine.specs.mesa_history_spec.Run.{First, State}
 use Rattle.mesa_engine.specs.mesa_history_spec.Turns.{IsDue}
-use Rattle.mesa_engine.specs.mesa_catalog.mesa_image_spec.Catalog.{Catalog, no_stock, stock_at}
-use Rattle.mesa_engine.specs.mesa_catalog.mesa_image_spec.Fitting.{delta_shelved, deltas_of, shelved}
+use Rattle.mesa_engine.specs.mesa_image_spec.Catalog.{Catalog, no_stock, stock_at}
+use Rattle.mesa_engine.specs.mesa_image_spec.Fitting.{delta_shelved, deltas_of, shelved}
 use Rattle.mesa_engine.proofs.mesa_image_spec.Lists.{all_unflat}
 use Rattle.mesa_engine.specs.mesa_image_spec.Planned.{planned}
-use Rattle.mesa_engine.specs.mesa_catalog.mesa_image_spec.Shape.{IsCatalog, IsShaped}
-use Rattle.mesa_engine.specs.mesa_catalog.mesa_image_spec.Sound.{AreStocked, IsStocked, wants}
+use Rattle.mesa_engine.specs.mesa_image_spec.Shape.{IsCatalog, IsShaped}
+use Rattle.mesa_engine.specs.mesa_image_spec.Sound.{AreStocked, IsStocked, wants}
 use Rattle.mesa_engine.proofs.Holding.{pins_of}
 use Rattle.mesa_engine.proofs.Lists.{map_all}
 use Rattle.mesa_engine.proofs.Staying.{there_now}
@@ -45,7 +45,7 @@ use Rattle.mesa_plans.proofs.Ordered.{IsAllowed, read_rows, read_view}
 use Rattle.mesa_plans.proofs.Reading.{columns_read}
 use Rattle.mesa_plans.proofs.Telling.{content_form, content_read, pinned_tells, stock_given}
 use Rattle.mesa_rules.proofs.ReadBy.{read_limit, read_prefix, read_resume, read_version}
-use Rattle.mesa_model.specs.mesa_schema.Columns.{Columns}
+use Rattle.mesa_schema.specs.Columns.{Columns}
 use Rattle.mesa_plans.proofs.Unsound.{seen_sound}
 use Rattle.mesa_plans.specs.Read.{relation_read}
 use Rattle.mesa_plans.proofs.Among.{all_planned}

@@ -3,7 +3,7 @@ use Rattle.std.proofs.Common.{◌≡◌, ℕ, zero, suc, ◌-◌, ◌<◌, ◌�
 use Rattle.std.proofs.lemmas.Bool.{leb-false, ltb-false}
 use Rattle.mesa_filter.specs.declared.words.VersionWord.{VersionWord}
 use Rattle.mesa_filter.specs.declared.words.VersionWord.TheVariants as asks
-use Rattle.mesa_engine.specs.mesa_catalog.mesa_image_spec.Catalog.{Catalog, Stock, no_stock, stock_at}
+use Rattle.mesa_engine.specs.mesa_image_spec.Catalog.{Catalog, Stock, no_stock, stock_at}
 use Rattle.mesa_engine.specs.EngineState.{projection_of, projections}
 use Rattle.mesa_plans.specs.mesa_list.Checks.{◌>>◌, refuse_if}
 use Rattle.mesa_model.specs.Versions.{common_oldest, oldest_among, version_asked}

@@ -1,4 +1,3 @@
-pub use Rattle.mesa_plans.specs as mesa_plans
 pub mod Asked
 pub mod Closing
 pub mod Opening

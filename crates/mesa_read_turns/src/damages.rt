@@ -2,7 +2,7 @@
 ghost use Rattle.std.specs.Prelude.{◌≡◌, ◌<◌, ◌^◌, length, IfErr};
 ghost use Rattle.mesa_tasks.specs.Errors.{Differs, HasDiffered};
 ghost use Rattle.mesa_read_turns.specs.Closing.{cause_if};
-ghost use Rattle.mesa_disk.specs.mesa_key.Spelling.{AreBytes};
+ghost use Rattle.mesa_plans.specs.mesa_key.Spelling.{AreBytes};
 ghost use Rattle.mesa_engine.specs.mesa_history_spec.Output.{IsDamage, IsSeen};
 ghost use Rattle.mesa_engine.specs.mesa_invariant_spec.Queries.{MayClose};
 

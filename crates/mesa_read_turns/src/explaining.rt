@@ -11,7 +11,7 @@ ghost use Rattle.mesa_engine.specs.Failure.{cause_in};
 ghost use Rattle.mesa_model.specs.declared.commands.Command.TheVariants as command;
 ghost use Rattle.mesa_model.specs.declared.entries.Kind.TheVariants as kind;
 ghost use Rattle.mesa_read_turns.specs.Asked.{cause_asked};
-ghost use Rattle.mesa_engine.specs.mesa_script.Rows.{body_of};
+ghost use Rattle.mesa_script.specs.Rows.{body_of};
 ghost use Rattle.mesa_engine.specs.mesa_history_spec.Rows.{no_rows};
 ghost use Rattle.mesa_engine.specs.mesa_invariant_spec.Changes.{HasNoPlan};
 ghost use Rattle.mesa_engine.specs.mesa_invariant_spec.Turns.{AnswersDisk, Takes};

@@ -3,12 +3,12 @@ ghost use Rattle.std.specs.Prelude.{◌≡◌, true, IfErr, IfOk, OnErr, OnOk, S
 ghost use Rattle.mesa_read_turns.specs.Opening.{HasItsFiles, HasUnsoundFile, asked_state, is_unread, tells_damage};
 ghost use Rattle.mesa_read_turns.specs.Seeing.{catalogue_asked};
 ghost use Rattle.mesa_disk.specs.Story.{Unmoved};
-ghost use Rattle.mesa_engine.specs.mesa_catalog.mesa_image_spec.Catalog.{Catalog as AnyCatalog};
-ghost use Rattle.mesa_engine.specs.mesa_catalog.mesa_image_spec.Shape.{IsCatalog};
+ghost use Rattle.mesa_engine.specs.mesa_image_spec.Catalog.{Catalog as AnyCatalog};
+ghost use Rattle.mesa_engine.specs.mesa_image_spec.Shape.{IsCatalog};
 ghost use Rattle.mesa_engine.specs.EngineState.{books_of};
 ghost use Rattle.mesa_engine.specs.Failure.{cause_in};
 ghost use Rattle.mesa_engine.specs.Memory.{with_state};
-ghost use Rattle.mesa_model.specs.mesa_schema.Columns.{Columns};
+ghost use Rattle.mesa_schema.specs.Columns.{Columns};
 ghost use Rattle.mesa_engine.specs.mesa_history_spec.Rows.{no_rows};
 ghost use Rattle.mesa_tasks.specs.Pins.{IsPinned};
 ghost use Rattle.mesa_engine.specs.mesa_invariant_spec.Queries.{HasNoAnswer};

@@ -1,7 +1,7 @@
 // A load's first turn.
 ghost use Rattle.std.specs.Prelude.{◌≡◌, ◌<◌, true, length, IfOk, OnOk};
 ghost use Rattle.mesa_batch.specs.Glance.{tables_of};
-ghost use Rattle.mesa_rules.specs.mesa_catalog.Lookups.{sight_of};
+ghost use Rattle.mesa_engine.specs.mesa_catalog.Lookups.{sight_of};
 ghost use Rattle.mesa_engine.specs.mesa_history_spec.Run.{First, Looked};
 ghost use Rattle.mesa_model.specs.declared.entries.Kind.TheVariants as kind;
 ghost use Rattle.mesa_engine.specs.mesa_history_spec.Rows.{no_rows};

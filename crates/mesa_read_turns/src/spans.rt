@@ -1,7 +1,7 @@
 // The lines of a plan.
 ghost use Rattle.std.specs.Prelude.{◌≡◌, ◌++◌, ◌∷◌, [], true, decimal, IfOk, OnOk};
 ghost use Rattle.mesa_engine.specs.mesa_history_spec.Replay.{no_rows as no_heading};
-ghost use Rattle.mesa_engine.specs.mesa_script.Rows.{body_of, order_line, span_lines as lines_in};
+ghost use Rattle.mesa_script.specs.Rows.{body_of, order_line, span_lines as lines_in};
 ghost use Rattle.mesa_engine.specs.mesa_invariant_spec.Changes.{is_plain};
 
 use itoa::Buffer;

@@ -4,16 +4,16 @@ use Rattle.std.specs.Prelude.{◌==◌, ◌≢◌}
 use Rattle.std.proofs.lemmas.Bool.{eq-eqb, ne_eqb}
 use Rattle.mesa_list.specs.Checks.{◌>>◌, refuse_unless, refused_as}
 use Rattle.mesa_binding.specs.Told.{recast_failure}
-use Rattle.mesa_engine.specs.mesa_history_spec.Machine.{Claim, claim_checked, still_checked}
+use Rattle.mesa_work_turns.specs.mesa_history_spec.Machine.{Claim, claim_checked, still_checked}
 use Rattle.mesa_model.specs.Refusals.{recast_refusal}
 use Rattle.mesa_model.specs.Warehouse.{table_at}
 use Rattle.mesa_model.specs.declared.replies.Refusal.TheVariants as no
-use Rattle.mesa_plans.specs.mesa_schema.Changes.{Lineage, epoch_of}
-use Rattle.mesa_plans.specs.mesa_schema.Recasts.{Recast, recast_checked}
-use Rattle.mesa_plans.specs.mesa_schema.declared.recasts.RecastError.{RecastError}
-use Rattle.mesa_plans.specs.mesa_schema.declared.recasts.RecastError.TheVariants as recast
-use Rattle.mesa_engine.specs.mesa_invariant_spec.Books.{Books}
-use Rattle.mesa_engine.proofs.mesa_invariant_spec.Working.{checked_open}
+use Rattle.mesa_work_turns.specs.mesa_schema.Changes.{Lineage, epoch_of}
+use Rattle.mesa_work_turns.specs.mesa_schema.Recasts.{Recast, recast_checked}
+use Rattle.mesa_work_turns.specs.mesa_schema.declared.recasts.RecastError.{RecastError}
+use Rattle.mesa_work_turns.specs.mesa_schema.declared.recasts.RecastError.TheVariants as recast
+use Rattle.mesa_work_turns.specs.mesa_invariant_spec.Books.{Books}
+use Rattle.mesa_work_turns.proofs.mesa_invariant_spec.Working.{checked_open}
 use Rattle.mesa_recast_turns.proofs.Dues.{epoch_still}
 use Rattle.mesa_recast_turns.specs.Unfit.{HasNotRecast, unfit_of}
 

@@ -4,24 +4,24 @@ use Rattle.std.specs.Prelude.{◌==◌, is_ok}
 use Rattle.std.proofs.lemmas.Bool.Decides.{nat_tests}
 use Rattle.std.proofs.lemmas.List.{length-map}
 use Rattle.mesa_disk.specs.Story.{Story}
-use Rattle.mesa_engine.specs.mesa_history_spec.Claims.{HasClaimAt, HasErrand, HasRecastClaim}
-use Rattle.mesa_engine.specs.mesa_history_spec.Machine.{Claim, Errand, Machine, Recasts, still_checked}
-use Rattle.mesa_engine.specs.mesa_history_spec.Run.{Place, Renewed}
-use Rattle.mesa_engine.specs.mesa_history_spec.Turns.{IsDue}
+use Rattle.mesa_work_turns.specs.mesa_history_spec.Claims.{HasClaimAt, HasErrand, HasRecastClaim}
+use Rattle.mesa_work_turns.specs.mesa_history_spec.Machine.{Claim, Errand, Machine, Recasts, still_checked}
+use Rattle.mesa_work_turns.specs.mesa_history_spec.Run.{Place, Renewed}
+use Rattle.mesa_work_turns.specs.mesa_history_spec.Turns.{IsDue}
 use Rattle.mesa_engine.specs.mesa_image_spec.Catalog.{ranges_of}
 use Rattle.mesa_engine.specs.EngineState.{EngineState}
 use Rattle.mesa_engine.specs.Vault.{Origin, IsVault}
 use Rattle.mesa_engine.proofs.BeforeTurns.{vault_claims}
-use Rattle.mesa_engine.specs.mesa_invariant_spec.Invariant.{Outset, run_of}
+use Rattle.mesa_work_turns.specs.mesa_invariant_spec.Invariant.{Outset, run_of}
 use Rattle.mesa_list.specs.Checks.{refused_as}
 use Rattle.mesa_model.specs.Refusals.{recast_refusal}
 use Rattle.mesa_model.specs.declared.commands.Command.TheVariants as command
 use Rattle.mesa_model.specs.declared.commands.RecastWords.{RecastWords}
 use Rattle.mesa_model.specs.declared.entries.Entry.{Entry}
 use Rattle.mesa_model.specs.declared.replies.Refusal.TheVariants as no
-use Rattle.mesa_plans.proofs.mesa_schema.Passing.{passed_unless}
-use Rattle.mesa_plans.specs.mesa_schema.Changes.{Lineage, epoch_of}
-use Rattle.mesa_plans.specs.mesa_schema.Recasts.{Recast, recast_checked}
+use Rattle.mesa_work_turns.proofs.mesa_schema.Passing.{passed_unless}
+use Rattle.mesa_work_turns.specs.mesa_schema.Changes.{Lineage, epoch_of}
+use Rattle.mesa_work_turns.specs.mesa_schema.Recasts.{Recast, recast_checked}
 
 -- a recast that may be done still has its table's epoch
 pub epoch_still : (l : Lineage) (epoch : ℕ) (r : Recast) → still_checked l epoch r ≡ Ok tt → epoch_of l ≡ epoch

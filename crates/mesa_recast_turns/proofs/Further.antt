@@ -2,24 +2,24 @@
 use Rattle.std.proofs.Common.{◌≡◌, ◌∙◌, ◌<◌, ◌≤◌, ℕ, ◌+◌, List, [], ◌++◌, length, take, refl, sym, ap, subst, arith, Option, true}
 use Rattle.std.specs.List.{AllByRecursion}
 use Rattle.std.proofs.lemmas.List.{append-nil, map-append}
-use Rattle.mesa_disk.specs.mesa_io.Causes.{last}
+use Rattle.mesa_io.specs.Causes.{last}
 use Rattle.mesa_disk.specs.Story.{Story, Unmoved}
-use Rattle.mesa_engine.specs.mesa_history_spec.Sources.{Source, Written}
-use Rattle.mesa_plans.specs.mesa_schema.Changes.{Lineage, columns_of, epoch_of}
-use Rattle.mesa_plans.specs.mesa_schema.Columns.{Columns}
-use Rattle.mesa_plans.specs.mesa_schema.Recasts.{Recast}
-use Rattle.mesa_engine.specs.mesa_history_spec.Rows.{Rows}
+use Rattle.mesa_work_turns.specs.mesa_history_spec.Sources.{Source, Written}
+use Rattle.mesa_work_turns.specs.mesa_schema.Changes.{Lineage, columns_of, epoch_of}
+use Rattle.mesa_work_turns.specs.mesa_schema.Columns.{Columns}
+use Rattle.mesa_work_turns.specs.mesa_schema.Recasts.{Recast}
+use Rattle.mesa_work_turns.specs.mesa_history_spec.Rows.{Rows}
 use Rattle.mesa_tasks.specs.Inputs.{AreInputsTo, IsMergeOf}
 use Rattle.mesa_tasks.specs.Opening.{Counted}
 use Rattle.mesa_tasks.specs.Recasts.{AreRangesOf, AreRewritten, own}
 use Rattle.mesa_tasks.specs.declared.recasting.RecastRange.{RecastRange}
 use Rattle.mesa_tasks.specs.declared.recasting.RecastedRange.{RecastedRange}
-use Rattle.mesa_engine.specs.mesa_invariant_spec.Turns.{SomeRose, faults_of}
-use Rattle.mesa_engine.specs.mesa_invariant_spec.Invariant.{HasCounted}
+use Rattle.mesa_work_turns.specs.mesa_invariant_spec.Turns.{SomeRose, faults_of}
+use Rattle.mesa_work_turns.specs.mesa_invariant_spec.Invariant.{HasCounted}
 use Rattle.mesa_engine.proofs.Lists.{all_joined, all_so}
 use Rattle.mesa_work_turns.specs.mesa_copy.Copying.{AreRangesBounded, known_range, known_ranges}
-use Rattle.mesa_work_turns.specs.mesa_publishing.mesa_compact.Bounded.{AreBounded}
-use Rattle.mesa_work_turns.specs.mesa_publishing.mesa_compact.mesa_merge.Inputs.{knowns_of}
+use Rattle.mesa_work_turns.specs.mesa_compact.Bounded.{AreBounded}
+use Rattle.mesa_work_turns.specs.mesa_merge.Inputs.{knowns_of}
 use Rattle.mesa_work_turns.specs.mesa_publishing.Grown.{HasSameColumns}
 use Rattle.mesa_work_turns.specs.mesa_publishing.Recasts.{HasItsRange, sources_at}
 use Rattle.mesa_work_turns.proofs.mesa_publishing.Rewriting.{same_columns, same_range}

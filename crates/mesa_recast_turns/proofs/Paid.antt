@@ -2,20 +2,20 @@
 use Rattle.std.proofs.Common.{◌≡◌, ◌⊎◌, inl, inr, ⊎_elim, ℕ, zero, suc, ◌+◌, ◌-◌, ◌<◌, ◌≤◌, List, Bool, true, false, refl, arith, Option, None, Some, IsTrue}
 use Rattle.std.proofs.lemmas.Bool.Decides.{leb_tells}
 use Rattle.mesa_disk.specs.Story.{Story, Unmoved}
-use Rattle.mesa_disk.specs.mesa_io.Causes.{last}
+use Rattle.mesa_io.specs.Causes.{last}
 use Rattle.mesa_engine.specs.EngineState.{EngineState, books_of}
 use Rattle.mesa_engine.specs.Vault.{Origin, IsVault}
-use Rattle.mesa_engine.specs.mesa_invariant_spec.Invariant.{Counts, HasCounted, HoldsInvariant, Outset, faults_in}
+use Rattle.mesa_work_turns.specs.mesa_invariant_spec.Invariant.{Counts, HasCounted, HoldsInvariant, Outset, faults_in}
 use Rattle.mesa_model.specs.declared.entries.Entry.{Entry}
 use Rattle.mesa_work_turns.specs.Unmerged.{closing_cause}
 use Rattle.mesa_work_turns.proofs.Closings.{IsPaid, paid_back}
 use Rattle.mesa_delta.specs.declared.error.FileError.TheVariants as file_error
 use Rattle.mesa_delta.specs.declared.input.Input.{Input}
-use Rattle.mesa_engine.specs.mesa_history_spec.Counting.{answers_disk}
-use Rattle.mesa_engine.specs.mesa_history_spec.Legal.{is_answered}
-use Rattle.mesa_engine.specs.mesa_history_spec.Machine.{Claim}
-use Rattle.mesa_engine.specs.mesa_invariant_spec.Works.{closing_stage}
-use Rattle.mesa_engine.specs.mesa_invariant_spec.Causes.{outcome_of}
+use Rattle.mesa_work_turns.specs.mesa_history_spec.Counting.{answers_disk}
+use Rattle.mesa_work_turns.specs.mesa_history_spec.Legal.{is_answered}
+use Rattle.mesa_work_turns.specs.mesa_history_spec.Machine.{Claim}
+use Rattle.mesa_work_turns.specs.mesa_invariant_spec.Works.{closing_stage}
+use Rattle.mesa_work_turns.specs.mesa_invariant_spec.Causes.{outcome_of}
 use Rattle.mesa_tasks.specs.GivingBack.{GivesBack, SomeFailed}
 use Rattle.mesa_tasks.specs.declared.merging.CompactError.{CompactError}
 use Rattle.mesa_tasks.specs.declared.merging.CompactError.TheVariants as compact

@@ -1,7 +1,7 @@
 -- How the close of a recast whose table is recast keeps an engine.
 use Rattle.std.proofs.Common.{◌≡◌, ◌∙◌, ℕ, ◌+◌, ◌<◌, ◌≤◌, ◌^◌, List, [], ◌∷◌, ◌++◌, length, true, false, ◌||◌, not, refl, sym, ap, subst, arith, Option, Some, Ok}
 use Rattle.std.specs.Prelude.{vec_capacity}
-use Rattle.mesa_disk.specs.mesa_key.Spelling.{AreBytes}
+use Rattle.mesa_work_turns.specs.mesa_key.Spelling.{AreBytes}
 use Rattle.mesa_disk.specs.Files.{AreAbsent, files_of}
 use Rattle.mesa_disk.specs.Image.{Image}
 use Rattle.mesa_disk.specs.Story.{Story}
@@ -11,21 +11,21 @@ use Rattle.mesa_model.specs.declared.commands.RecastWords.{RecastWords}
 use Rattle.mesa_model.specs.declared.entries.Entry.{Entry}
 use Rattle.mesa_model.specs.declared.entries.Kind.TheVariants as kind
 use Rattle.mesa_model.specs.declared.entries.Outcome.TheVariants as outcome
-use Rattle.mesa_engine.specs.mesa_history_spec.Machine.{claim_checked, still_checked}
-use Rattle.mesa_engine.specs.mesa_history_spec.Run.{Renewed}
-use Rattle.mesa_engine.specs.mesa_history_spec.Turns.{IsDue}
-use Rattle.mesa_work_turns.specs.mesa_record.Reading.{record_at}
-use Rattle.mesa_work_turns.specs.mesa_record.Rules.{IsTyped}
+use Rattle.mesa_work_turns.specs.mesa_history_spec.Machine.{claim_checked, still_checked}
+use Rattle.mesa_work_turns.specs.mesa_history_spec.Run.{Renewed}
+use Rattle.mesa_work_turns.specs.mesa_history_spec.Turns.{IsDue}
+use Rattle.mesa_engine.specs.mesa_record.Reading.{record_at}
+use Rattle.mesa_engine.specs.mesa_record.Rules.{IsTyped}
 use Rattle.mesa_engine.specs.mesa_image_spec.Catalog.{applied}
 use Rattle.mesa_engine.specs.mesa_image_spec.Ids.{dropped_ids}
 use Rattle.mesa_engine.specs.mesa_catalog.Lookups.{generation_of, turns_generation}
-use Rattle.mesa_engine.specs.mesa_history_spec.Rows.{Rows, no_rows}
+use Rattle.mesa_work_turns.specs.mesa_history_spec.Rows.{Rows, no_rows}
 use Rattle.mesa_tasks.specs.Recasts.{claim_of_recast, recast_in}
 use Rattle.mesa_tasks.specs.declared.recasting.Recast.{Recast}
-use Rattle.mesa_engine.specs.mesa_invariant_spec.Causes.{Unwritten, reply_of, told_at}
-use Rattle.mesa_engine.specs.mesa_invariant_spec.Turns.{entry}
-use Rattle.mesa_engine.specs.mesa_invariant_spec.Invariant.{Counts, run_at}
-use Rattle.mesa_engine.proofs.mesa_invariant_spec.Working.{checked_open}
+use Rattle.mesa_work_turns.specs.mesa_invariant_spec.Causes.{Unwritten, reply_of, told_at}
+use Rattle.mesa_work_turns.specs.mesa_invariant_spec.Turns.{entry}
+use Rattle.mesa_work_turns.specs.mesa_invariant_spec.Invariant.{Counts, run_at}
+use Rattle.mesa_work_turns.proofs.mesa_invariant_spec.Working.{checked_open}
 use Rattle.mesa_engine.specs.EngineState.{books_of, first_id, next_id, past_id}
 use Rattle.mesa_engine.specs.Recorded.{failed_state, left_by, recorded_state, removed_by}
 use Rattle.mesa_engine.specs.Vault.{IsReady, IsVault, Starts, outset_of, written_by}

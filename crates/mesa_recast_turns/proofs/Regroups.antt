@@ -1,13 +1,13 @@
 -- How the close of a recast whose table is recast keeps a vault.
 use Rattle.std.proofs.Common.{◌≡◌, inl, inr, ◌∙◌, ℕ, ◌+◌, ◌<◌, ◌^◌, List, [], ◌∷◌, ◌++◌, map, length, Bool, true, false, ◌||◌, refl, sym, ap, subst, arith, Option, None, Some, Ok, IsTrue}
 use Rattle.std.specs.List.{AllByRecursion}
-use Rattle.mesa_disk.specs.mesa_key.Spelling.{AreBytes}
-use Rattle.mesa_plans.proofs.mesa_schema.Lists.{map_at}
+use Rattle.mesa_work_turns.specs.mesa_key.Spelling.{AreBytes}
+use Rattle.mesa_work_turns.proofs.mesa_schema.Lists.{map_at}
 use Rattle.mesa_disk.specs.Files.{AreGone, files_of}
 use Rattle.mesa_disk.specs.Image.{Image}
 use Rattle.mesa_disk.specs.Story.{Spans, Steps, Story}
-use Rattle.mesa_plans.specs.mesa_commit.Images.{Stands}
-use Rattle.mesa_plans.specs.mesa_commit.Turn.{MovesOnly, made_ids, told_files}
+use Rattle.mesa_engine.specs.mesa_commit.Images.{Stands}
+use Rattle.mesa_engine.specs.mesa_commit.Turn.{MovesOnly, made_ids, told_files}
 use Rattle.mesa_lease.specs.Book.{ended}
 use Rattle.mesa_model.specs.Tables.{recast_reply}
 use Rattle.mesa_model.specs.Warehouse.{Table, table_at}
@@ -18,17 +18,17 @@ use Rattle.mesa_model.specs.declared.entries.Kind.TheVariants as kind
 use Rattle.mesa_model.specs.declared.entries.Outcome.TheVariants as outcome
 use Rattle.mesa_model.specs.declared.replies.Reply.{Reply}
 use Rattle.mesa_model.specs.declared.replies.Reply.TheVariants as reply
-use Rattle.mesa_plans.specs.mesa_schema.Changes.{epoch_of}
-use Rattle.mesa_engine.specs.mesa_history_spec.Law.{Regroups as Grouping}
-use Rattle.mesa_engine.specs.mesa_history_spec.Machine.{Claim, claim_checked, still_checked}
-use Rattle.mesa_engine.specs.mesa_history_spec.Run.{Renewed}
-use Rattle.mesa_engine.specs.mesa_history_spec.Sources.{Written}
-use Rattle.mesa_engine.specs.mesa_history_spec.Turns.{IsDue}
-use Rattle.mesa_work_turns.specs.mesa_record.Reading.{record_at}
-use Rattle.mesa_work_turns.specs.mesa_record.Rules.{IsTyped, keeps_rules}
-use Rattle.mesa_work_turns.specs.mesa_record.declared.record.Record.{Record}
-use Rattle.mesa_work_turns.specs.mesa_record.declared.record.Record.TheVariants as record_of
-use Rattle.mesa_work_turns.specs.mesa_record.declared.recasting.Recasting.{Recasting}
+use Rattle.mesa_work_turns.specs.mesa_schema.Changes.{epoch_of}
+use Rattle.mesa_work_turns.specs.mesa_history_spec.Law.{Regroups as Grouping}
+use Rattle.mesa_work_turns.specs.mesa_history_spec.Machine.{Claim, claim_checked, still_checked}
+use Rattle.mesa_work_turns.specs.mesa_history_spec.Run.{Renewed}
+use Rattle.mesa_work_turns.specs.mesa_history_spec.Sources.{Written}
+use Rattle.mesa_work_turns.specs.mesa_history_spec.Turns.{IsDue}
+use Rattle.mesa_engine.specs.mesa_record.Reading.{record_at}
+use Rattle.mesa_engine.specs.mesa_record.Rules.{IsTyped, keeps_rules}
+use Rattle.mesa_engine.specs.mesa_record.declared.record.Record.{Record}
+use Rattle.mesa_engine.specs.mesa_record.declared.record.Record.TheVariants as record_of
+use Rattle.mesa_engine.specs.mesa_record.declared.recasting.Recasting.{Recasting}
 use Rattle.mesa_engine.specs.mesa_image_spec.Catalog.{Catalog, applied, no_stock, stock_at}
 use Rattle.mesa_engine.specs.mesa_image_spec.Contents.{kept_of}
 use Rattle.mesa_engine.specs.mesa_image_spec.Fitting.{brought, fits, kind_fits, shelved}
@@ -51,19 +51,19 @@ use Rattle.mesa_engine.specs.mesa_image_spec.Rewritten.{recasting_of}
 use Rattle.mesa_engine.specs.mesa_image_spec.Sourced.{HasSources, written_behind}
 use Rattle.mesa_engine.specs.mesa_catalog.Lookups.{generation_of, turns_generation}
 use Rattle.mesa_store.specs.Store.{Writes as IsWritten}
-use Rattle.mesa_engine.specs.mesa_history_spec.Output.{block}
-use Rattle.mesa_engine.specs.mesa_history_spec.Rows.{Rows, no_rows}
+use Rattle.mesa_work_turns.specs.mesa_history_spec.Output.{block}
+use Rattle.mesa_work_turns.specs.mesa_history_spec.Rows.{Rows, no_rows}
 use Rattle.mesa_work_turns.proofs.mesa_commit.Filing.{freed_unnamed}
-use Rattle.mesa_work_turns.specs.mesa_commit.Filed.{Renames}
-use Rattle.mesa_work_turns.specs.mesa_commit.Holding.{Among, freed, ids_of}
+use Rattle.mesa_engine.specs.mesa_commit.Filed.{Renames}
+use Rattle.mesa_engine.specs.mesa_commit.Holding.{Among, freed, ids_of}
 use Rattle.mesa_tasks.specs.Recasts.{claim_of_recast, recast_in, recast_table}
 use Rattle.mesa_tasks.specs.declared.recasting.Recast.{Recast}
-use Rattle.mesa_engine.specs.mesa_invariant_spec.Causes.{Unwritten, reply_of, told_at}
-use Rattle.mesa_engine.specs.mesa_invariant_spec.Printing.{IsPut}
-use Rattle.mesa_engine.specs.mesa_invariant_spec.Turns.{entry}
-use Rattle.mesa_engine.specs.mesa_invariant_spec.Invariant.{Counts, Passes, StandsForEither, Writes, run_of}
-use Rattle.mesa_engine.specs.mesa_invariant_spec.Works.{Regroups}
-use Rattle.mesa_engine.proofs.mesa_invariant_spec.Working.{checked_open}
+use Rattle.mesa_work_turns.specs.mesa_invariant_spec.Causes.{Unwritten, reply_of, told_at}
+use Rattle.mesa_work_turns.specs.mesa_invariant_spec.Printing.{IsPut}
+use Rattle.mesa_work_turns.specs.mesa_invariant_spec.Turns.{entry}
+use Rattle.mesa_work_turns.specs.mesa_invariant_spec.Invariant.{Counts, Passes, StandsForEither, Writes, run_of}
+use Rattle.mesa_work_turns.specs.mesa_invariant_spec.Works.{Regroups}
+use Rattle.mesa_work_turns.proofs.mesa_invariant_spec.Working.{checked_open}
 use Rattle.mesa_engine.specs.EngineState.{EngineState, books_of, first_id, holders, ids_held, next_id, projection_of}
 use Rattle.mesa_engine.specs.Recorded.{IsRecorded, failed_state, left_by, recorded_state, removed_by, waiting}
 use Rattle.mesa_engine.specs.Vault.{IsVault, Starts, outset_of, written_by}

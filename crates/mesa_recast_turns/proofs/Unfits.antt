@@ -2,12 +2,12 @@
 use Rattle.std.proofs.Common.{◌≡◌, ◌∙◌, ℕ, ◌+◌, ◌<◌, ◌≤◌, ◌^◌, List, [], ◌∷◌, ◌++◌, length, Bool, true, false, ◌||◌, not, refl, sym, ap, subst, arith, Option, Some, Ok, Err}
 use Rattle.std.specs.Prelude.{vec_capacity}
 use Rattle.mesa_disk.specs.Story.{Story}
-use Rattle.mesa_engine.specs.mesa_history_spec.Counting.{answers_bench, answers_disk}
-use Rattle.mesa_engine.specs.mesa_history_spec.Machine.{Claim, Recasts, claim_checked, still_checked}
-use Rattle.mesa_plans.specs.mesa_schema.Recasts.{Recast as Asked}
-use Rattle.mesa_engine.specs.mesa_history_spec.Refused.{is_refusal}
-use Rattle.mesa_engine.specs.mesa_history_spec.Run.{Renewed, Finished}
-use Rattle.mesa_engine.specs.mesa_history_spec.Turns.{IsDue}
+use Rattle.mesa_work_turns.specs.mesa_history_spec.Counting.{answers_bench, answers_disk}
+use Rattle.mesa_work_turns.specs.mesa_history_spec.Machine.{Claim, Recasts, claim_checked, still_checked}
+use Rattle.mesa_work_turns.specs.mesa_schema.Recasts.{Recast as Asked}
+use Rattle.mesa_work_turns.specs.mesa_history_spec.Refused.{is_refusal}
+use Rattle.mesa_work_turns.specs.mesa_history_spec.Run.{Renewed, Finished}
+use Rattle.mesa_work_turns.specs.mesa_history_spec.Turns.{IsDue}
 use Rattle.mesa_lease.specs.Book.{ended}
 use Rattle.mesa_engine.specs.EngineState.{EngineState, books_of}
 use Rattle.mesa_engine.specs.Vault.{Starts, IsVault, outset_of}
@@ -22,18 +22,18 @@ use Rattle.mesa_model.specs.declared.entries.Entry.{Entry}
 use Rattle.mesa_model.specs.Warehouse.{table_at}
 use Rattle.mesa_model.specs.declared.entries.Kind.TheVariants as kind
 use Rattle.mesa_model.specs.declared.entries.Outcome.TheVariants as outcome
-use Rattle.mesa_engine.specs.mesa_history_spec.Output.{block}
-use Rattle.mesa_engine.specs.mesa_history_spec.Rows.{Rows, no_rows}
-use Rattle.mesa_engine.specs.mesa_invariant_spec.Books.{Books}
-use Rattle.mesa_engine.specs.mesa_invariant_spec.Causes.{Cause, outcome_of, reply_of, told_at}
-use Rattle.mesa_engine.specs.mesa_invariant_spec.Printing.{IsPut}
-use Rattle.mesa_engine.specs.mesa_invariant_spec.Turns.{Shown, IsSeen, Takes, entry}
-use Rattle.mesa_engine.specs.mesa_invariant_spec.Undamaged.{is_damaged}
-use Rattle.mesa_engine.specs.mesa_invariant_spec.Invariant.{run_at, run_of}
-use Rattle.mesa_engine.proofs.mesa_invariant_spec.Going.{complete_takes}
-use Rattle.mesa_engine.proofs.mesa_invariant_spec.Turning.{counts_same, stays}
-use Rattle.mesa_engine.proofs.mesa_invariant_spec.Recasting.{changed_turn}
-use Rattle.mesa_engine.proofs.mesa_invariant_spec.Working.{lost_turn, starved_turn}
+use Rattle.mesa_work_turns.specs.mesa_history_spec.Output.{block}
+use Rattle.mesa_work_turns.specs.mesa_history_spec.Rows.{Rows, no_rows}
+use Rattle.mesa_work_turns.specs.mesa_invariant_spec.Books.{Books}
+use Rattle.mesa_work_turns.specs.mesa_invariant_spec.Causes.{Cause, outcome_of, reply_of, told_at}
+use Rattle.mesa_work_turns.specs.mesa_invariant_spec.Printing.{IsPut}
+use Rattle.mesa_work_turns.specs.mesa_invariant_spec.Turns.{Shown, IsSeen, Takes, entry}
+use Rattle.mesa_work_turns.specs.mesa_invariant_spec.Undamaged.{is_damaged}
+use Rattle.mesa_work_turns.specs.mesa_invariant_spec.Invariant.{run_at, run_of}
+use Rattle.mesa_work_turns.proofs.mesa_invariant_spec.Going.{complete_takes}
+use Rattle.mesa_work_turns.proofs.mesa_invariant_spec.Turning.{counts_same, stays}
+use Rattle.mesa_work_turns.proofs.mesa_invariant_spec.Recasting.{changed_turn}
+use Rattle.mesa_work_turns.proofs.mesa_invariant_spec.Working.{lost_turn, starved_turn}
 use Rattle.mesa_engine.specs.Engine.{IsEngine}
 use Rattle.mesa_engine.proofs.Turning.{told_engine}
 use Rattle.mesa_engine.proofs.Undone.{not_skipped}

@@ -1,16 +1,16 @@
 -- Recasts that have all ranges of their table.
 use Rattle.std.specs.Prelude.{◌≡◌, ℕ, ◌+◌, ◌<◌, ◌≤◌, List, ◌++◌, Option, None}
 use Rattle.std.specs.List.{AllByRecursion}
-use Rattle.mesa_disk.specs.mesa_io.Causes.{last}
+use Rattle.mesa_io.specs.Causes.{last}
 use Rattle.mesa_plans.specs.Ranges.{HoldsAll}
-use Rattle.mesa_engine.specs.mesa_history_spec.Counting.{count_in, is_disk_fault}
-use Rattle.mesa_engine.specs.mesa_history_spec.Run.{State, begins}
-use Rattle.mesa_engine.specs.mesa_history_spec.Sources.{Written}
+use Rattle.mesa_work_turns.specs.mesa_history_spec.Counting.{count_in, is_disk_fault}
+use Rattle.mesa_work_turns.specs.mesa_history_spec.Run.{State, begins}
+use Rattle.mesa_work_turns.specs.mesa_history_spec.Sources.{Written}
 use Rattle.mesa_engine.specs.EngineState.{EngineState}
-use Rattle.mesa_engine.specs.mesa_invariant_spec.Turns.{Faults, Shown}
+use Rattle.mesa_work_turns.specs.mesa_invariant_spec.Turns.{Faults, Shown}
 use Rattle.mesa_model.specs.declared.commands.Script.{Script}
-use Rattle.mesa_plans.specs.mesa_schema.Changes.{Lineage, columns_of, epoch_of}
-use Rattle.mesa_engine.specs.mesa_history_spec.Rows.{Rows}
+use Rattle.mesa_work_turns.specs.mesa_schema.Changes.{Lineage, columns_of, epoch_of}
+use Rattle.mesa_work_turns.specs.mesa_history_spec.Rows.{Rows}
 use Rattle.mesa_work_turns.specs.mesa_publishing.Grown.{HasBecome}
 use Rattle.mesa_work_turns.specs.mesa_publishing.Recasts.{HasItsRange, stock_of_recast}
 use Rattle.mesa_tasks.specs.Recasts.{AreRangesOf, IsRecastTask, recast_table}

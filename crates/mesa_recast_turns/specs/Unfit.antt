@@ -1,16 +1,16 @@
 -- Recasts that aren't done.
 use Rattle.std.specs.Prelude.{◌≡◌, ℕ, None, Ok, Err}
-use Rattle.mesa_engine.specs.mesa_history_spec.Machine.{Claim, claim_checked, still_checked}
+use Rattle.mesa_work_turns.specs.mesa_history_spec.Machine.{Claim, claim_checked, still_checked}
 use Rattle.mesa_lease.specs.Book.{ended}
 use Rattle.mesa_engine.specs.EngineState.{EngineState}
 use Rattle.mesa_engine.specs.Turned.{leased_state}
-use Rattle.mesa_engine.specs.mesa_invariant_spec.Books.{Books}
-use Rattle.mesa_engine.specs.mesa_invariant_spec.Causes.{Cause, NoMemory, Replies}
+use Rattle.mesa_work_turns.specs.mesa_invariant_spec.Books.{Books}
+use Rattle.mesa_work_turns.specs.mesa_invariant_spec.Causes.{Cause, NoMemory, Replies}
 use Rattle.mesa_binding.specs.declared.failure.Failure.{Failure}
 use Rattle.mesa_binding.specs.declared.failure.Failure.TheVariants as asked
 use Rattle.mesa_model.specs.Warehouse.{table_at}
 use Rattle.mesa_model.specs.declared.replies.Reply.TheVariants as reply
-use Rattle.mesa_plans.specs.mesa_schema.Recasts.{Recast}
+use Rattle.mesa_work_turns.specs.mesa_schema.Recasts.{Recast}
 use Rattle.mesa_recast_turns.specs.declared.checking.Unfit.{Unfit}
 use Rattle.mesa_recast_turns.specs.declared.checking.Unfit.TheVariants as why
 

@@ -1,9 +1,9 @@
 // Whether a recast may be done still.
 ghost use Rattle.std.specs.Prelude.{◌≡◌, ◌<◌, length, Ok, IfErr, OnOk};
-ghost use Rattle.mesa_engine.specs.mesa_history_spec.Machine.{claim_checked, still_checked};
+ghost use Rattle.mesa_work_turns.specs.mesa_history_spec.Machine.{claim_checked, still_checked};
 ghost use Rattle.mesa_engine.specs.mesa_image_spec.Catalog.{stock_at};
 ghost use Rattle.mesa_engine.specs.EngineState.{books_of};
-ghost use Rattle.mesa_engine.specs.mesa_history_spec.Rows.{no_rows};
+ghost use Rattle.mesa_work_turns.specs.mesa_history_spec.Rows.{no_rows};
 ghost use Rattle.mesa_tasks.specs.Recasts.{claim_of_recast, recast_in};
 ghost use Rattle.mesa_recast_turns.specs.Unfit.{HasNotRecast, unfit_of};
 

@@ -7,9 +7,6 @@ mod recasting;
 mod resting;
 mod unmade;
 
-pub use mesa_work_turns::{
-    alter, close_query, complete, expire, give_up, grant, grant_recast, pin_query, publish, renew,
-    renew_recast, table, tables_become, view,
-};
+pub use mesa_work_turns::{alter, close_query, complete, expire, explain, give_up, grant, grant_recast, look, pin, pin_query, publish, release, renew, renew_recast, table, tables_become, view};
 pub use recasting::recast;
 pub use resting::rest;

@@ -2,7 +2,7 @@
 ghost use Rattle.std.specs.Prelude.{◌≡◌, ◌+◌, ◌<◌, ◌^◌, ℕ, Some, Ok, IfOk, OnErr, length};
 ghost use Rattle.mesa_plans.specs.Ranges.{HoldsAll};
 ghost use Rattle.mesa_engine.specs.mesa_image_spec.Shape.{IsCatalog};
-ghost use Rattle.mesa_disk.specs.mesa_key.Spelling.{AreBytes};
+ghost use Rattle.mesa_work_turns.specs.mesa_key.Spelling.{AreBytes};
 ghost use Rattle.mesa_engine.specs.EngineState.{books_of, most_files, next_id};
 ghost use Rattle.mesa_engine.specs.Recorded.{removed_by};
 ghost use Rattle.mesa_engine.specs.mesa_image_spec.Countable.{AreCounted};
@@ -10,13 +10,13 @@ ghost use Rattle.mesa_engine.specs.mesa_image_spec.Ids.{dropped_ids, named};
 ghost use Rattle.mesa_engine.specs.mesa_image_spec.Recordable.{AreRecordable};
 ghost use Rattle.mesa_model.specs.Tables.{recast_reply as reply_for};
 ghost use Rattle.mesa_model.specs.Warehouse.{table_at};
-ghost use Rattle.mesa_work_turns.specs.mesa_record.Reading.{record_at};
-ghost use Rattle.mesa_plans.specs.mesa_schema.Recasts.{recast_checked};
-ghost use Rattle.mesa_engine.specs.mesa_history_spec.Rows.{no_rows};
+ghost use Rattle.mesa_engine.specs.mesa_record.Reading.{record_at};
+ghost use Rattle.mesa_work_turns.specs.mesa_schema.Recasts.{recast_checked};
+ghost use Rattle.mesa_work_turns.specs.mesa_history_spec.Rows.{no_rows};
 ghost use Rattle.mesa_work_turns.specs.mesa_publishing.Grown.{HasSameColumns};
 ghost use Rattle.mesa_work_turns.specs.mesa_publishing.Recasts.{IsRecastIn, stock_of_recast};
 ghost use Rattle.mesa_tasks.specs.Recasts.{IsRecastTask, IsRecasted, recast_in, recast_table};
-ghost use Rattle.mesa_work_turns.specs.mesa_commit.Holding.{Among};
+ghost use Rattle.mesa_engine.specs.mesa_commit.Holding.{Among};
 
 use mesa_work_turns::{Swapped, make_room, recast as record_of};
 use mesa_disk::{FileReader, Made};

@@ -5,9 +5,9 @@ ghost use Rattle.mesa_delta.specs.declared.error.FileError.TheVariants as file_e
 ghost use Rattle.mesa_plans.specs.Ranges.{HoldsAll};
 ghost use Rattle.mesa_engine.specs.mesa_image_spec.Catalog.{stock_at};
 ghost use Rattle.mesa_engine.specs.Written.{written_at};
-ghost use Rattle.mesa_engine.specs.mesa_invariant_spec.Turns.{NoneFell, SomeRose};
-ghost use Rattle.mesa_plans.specs.mesa_schema.Changes.{epoch_of};
-ghost use Rattle.mesa_engine.specs.mesa_history_spec.Rows.{Rows};
+ghost use Rattle.mesa_work_turns.specs.mesa_invariant_spec.Turns.{NoneFell, SomeRose};
+ghost use Rattle.mesa_work_turns.specs.mesa_schema.Changes.{epoch_of};
+ghost use Rattle.mesa_work_turns.specs.mesa_history_spec.Rows.{Rows};
 ghost use Rattle.mesa_work_turns.specs.mesa_publishing.Grown.{HasBecome};
 ghost use Rattle.mesa_work_turns.specs.mesa_publishing.Recasts.{HasItsRanges, stock_of_recast};
 ghost use Rattle.mesa_tasks.specs.Recasts.{IsRecastTask, IsRecasted, IsRecastedSoFar, recast_table};

@@ -1,23 +1,23 @@
 // A recast's last turn where its ranges weren't rewritten.
 ghost use Rattle.std.specs.Prelude.{◌≡◌, ◌⊎◌, ◌<◌, ◌==◌, ◌++◌, ◌∷◌, [], Bool, true, false, length, Some};
-ghost use Rattle.mesa_disk.specs.mesa_io.Causes.{last};
-ghost use Rattle.mesa_engine.specs.mesa_history_spec.Run.{Finished};
-ghost use Rattle.mesa_engine.specs.mesa_history_spec.Turns.{IsDue};
+ghost use Rattle.mesa_io.specs.Causes.{last};
+ghost use Rattle.mesa_work_turns.specs.mesa_history_spec.Run.{Finished};
+ghost use Rattle.mesa_work_turns.specs.mesa_history_spec.Turns.{IsDue};
 ghost use Rattle.mesa_model.specs.declared.commands.Command.TheVariants as command;
 ghost use Rattle.mesa_model.specs.declared.commands.RecastWords.{RecastWords};
 ghost use Rattle.mesa_model.specs.declared.entries.Kind.TheVariants as kind;
-ghost use Rattle.mesa_engine.specs.mesa_history_spec.Output.{block};
-ghost use Rattle.mesa_engine.specs.mesa_history_spec.Rows.{Rows, no_rows};
+ghost use Rattle.mesa_work_turns.specs.mesa_history_spec.Output.{block};
+ghost use Rattle.mesa_work_turns.specs.mesa_history_spec.Rows.{Rows, no_rows};
 ghost use Rattle.mesa_tasks.specs.GivingBack.{SomeFailed};
 ghost use Rattle.mesa_tasks.specs.Recasts.{claim_of_recast, recast_inputs};
 ghost use Rattle.mesa_tasks.specs.declared.merging.CompactError.TheVariants as compact;
 ghost use Rattle.mesa_delta.specs.declared.error.FileError.TheVariants as file_error;
-ghost use Rattle.mesa_engine.specs.mesa_invariant_spec.Causes.{is_read_fault, outcome_of, reply_of, told_at};
-ghost use Rattle.mesa_engine.specs.mesa_invariant_spec.Printing.{IsPut};
-ghost use Rattle.mesa_engine.specs.mesa_invariant_spec.Turns.{AnswersDisk, AnswersDraft, SomeRose, Takes, entry};
-ghost use Rattle.mesa_engine.specs.mesa_invariant_spec.Undamaged.{is_damaged};
-ghost use Rattle.mesa_engine.specs.mesa_invariant_spec.Invariant.{run_at};
-ghost use Rattle.mesa_engine.specs.mesa_invariant_spec.Works.{closing_stage};
+ghost use Rattle.mesa_work_turns.specs.mesa_invariant_spec.Causes.{is_read_fault, outcome_of, reply_of, told_at};
+ghost use Rattle.mesa_work_turns.specs.mesa_invariant_spec.Printing.{IsPut};
+ghost use Rattle.mesa_work_turns.specs.mesa_invariant_spec.Turns.{AnswersDisk, AnswersDraft, SomeRose, Takes, entry};
+ghost use Rattle.mesa_work_turns.specs.mesa_invariant_spec.Undamaged.{is_damaged};
+ghost use Rattle.mesa_work_turns.specs.mesa_invariant_spec.Invariant.{run_at};
+ghost use Rattle.mesa_work_turns.specs.mesa_invariant_spec.Works.{closing_stage};
 ghost use Rattle.mesa_work_turns.specs.Unmerged.{MergeDiffered, cause_of, closing_cause, closing_state};
 ghost use Rattle.mesa_recast_turns.specs.Rested.{HasUnpaid};
 

@@ -2,16 +2,16 @@
 use Rattle.std.proofs.Common.{◌≡◌, inl, inr, ⊎_elim, ℕ, ◌+◌, ◌-◌, ◌*◌, ◌/◌, ◌^◌, ◌<◌, ◌≤◌, List, [], ◌∷◌, Option, Some, None, Bool, true, false, ◌&&◌, ◌==◌, nat_le, cond, Result, Ok, Err, refl, sym, ◌∙◌, ap, subst, arith}
 use Rattle.std.proofs.lemmas.Bool.Decides.{nat_tests}
 use Rattle.std.proofs.lemmas.List.Sums.{sum_by-cons}
-use Rattle.mesa_disk.specs.mesa_io.Causes.{last}
-use Rattle.mesa_disk.specs.mesa_key.Spelling.{AreBytes}
+use Rattle.mesa_store.specs.mesa_io.Causes.{last}
+use Rattle.mesa_table.specs.mesa_key.Spelling.{AreBytes}
 use Rattle.mesa_disk.specs.Image.{Image, file_of}
 use Rattle.mesa_disk.specs.Story.{Story, Spans, Unmoved}
 use Rattle.mesa_disk.specs.declared.area.Area.{Area}
 use Rattle.mesa_disk.proofs.Run.{spans_on}
 use Rattle.mesa_journal.proofs.Live.{one_live, same_live}
-use Rattle.mesa_commit.specs.Holding.{Among}
-use Rattle.mesa_commit.specs.Filed.{AreFresh, AreNamedOrWait, FilesAdopted}
-use Rattle.mesa_commit.proofs.Filing.{filed_first}
+use Rattle.mesa_catalog.specs.mesa_commit.Holding.{Among}
+use Rattle.mesa_catalog.specs.mesa_commit.Filed.{AreFresh, AreNamedOrWait, FilesAdopted}
+use Rattle.mesa_store.proofs.mesa_commit.Filing.{filed_first}
 use Rattle.mesa_record.specs.Reading.{record_at}
 use Rattle.mesa_image_spec.specs.Catalog.{Catalog, applied}
 use Rattle.mesa_image_spec.specs.Fitting.{fits, max_runs, shelved}
@@ -19,7 +19,7 @@ use Rattle.mesa_image_spec.specs.Journaled.{catalog}
 use Rattle.mesa_image_spec.proofs.Wholes.{catalog_whole}
 use Rattle.std.specs.List.{AllByRecursion}
 use Rattle.mesa_image_spec.specs.Contents.{Rows, kept_of}
-use Rattle.mesa_image_spec.specs.mesa_commit.Images.{Has}
+use Rattle.mesa_catalog.specs.mesa_commit.Images.{Has}
 use Rattle.mesa_image_spec.specs.Sound.{AreStocked, StandsFor, wants}
 use Rattle.mesa_image_spec.specs.Held.{IsHeld, IsStep, StandsForEither}
 use Rattle.mesa_image_spec.specs.Ids.{HasOwnIds, named, times}

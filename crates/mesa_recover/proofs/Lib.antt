@@ -1,4 +1,4 @@
-pub use Rattle.mesa_image_spec.proofs as mesa_image_spec
+pub use Rattle.mesa_journal.proofs as mesa_journal
 pub mod Tails
 pub mod Firsts
 pub mod Reasons

@@ -1,7 +1,7 @@
 -- What a test of files answers, and what it leaves of counts.
 use Rattle.std.specs.Prelude.{◌≡◌, ◌≢◌, ◌⊎◌, ℕ, ◌≤◌, List, length, drop, Result, Err, ⊤}
 use Rattle.sha2.specs.Sha256.{sha256}
-use Rattle.mesa_disk.specs.mesa_io.Causes.{Rose}
+use Rattle.mesa_store.specs.mesa_io.Causes.{Rose}
 use Rattle.mesa_disk.specs.Story.{Story}
 use Rattle.mesa_table.specs.declared.recorded.Recorded.{Recorded}
 use Rattle.mesa_disk.specs.declared.failures.ListFault.{ListFault}

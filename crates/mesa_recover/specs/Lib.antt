@@ -1,4 +1,5 @@
-pub use Rattle.mesa_table.specs as mesa_table
+pub use Rattle.mesa_store.specs.mesa_io as mesa_io
+pub use Rattle.mesa_journal.specs as mesa_journal
 pub mod Damages
 pub mod Checking
 pub mod Misfits

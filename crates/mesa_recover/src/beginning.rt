@@ -1,10 +1,10 @@
 // Beginning a run.
 ghost use Rattle.std.specs.Prelude.{◌≡◌, ◌≢◌, ◌↔◌, ◌+◌, ◌<◌, ◌≤◌, ℕ, List, [], IfOk, IfErr, IfSome, OnOk, Err, Ok, Some, None, IsTrue};
-ghost use Rattle.mesa_disk.specs.mesa_key.Spelling.{AreBytes};
+ghost use Rattle.mesa_table.specs.mesa_key.Spelling.{AreBytes};
 ghost use Rattle.mesa_disk.specs.Image.{Image as AnyImage};
 ghost use Rattle.mesa_disk.specs.Story.{Spans, Unmoved};
 ghost use Rattle.mesa_journal.specs.Areas.{number_of};
-ghost use Rattle.mesa_commit.specs.Filed.{AreNamedOrWait, FilesAdopted};
+ghost use Rattle.mesa_catalog.specs.mesa_commit.Filed.{AreNamedOrWait, FilesAdopted};
 ghost use Rattle.mesa_record.specs.Reading.{record_at};
 ghost use Rattle.mesa_record.specs.Rules.{keeps_rules};
 ghost use Rattle.mesa_image_spec.specs.Catalog.{applied};

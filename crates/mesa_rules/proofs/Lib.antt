@@ -1,4 +1,7 @@
+pub use Rattle.mesa_catalog.proofs.mesa_batch as mesa_batch
 pub use Rattle.mesa_catalog.proofs as mesa_catalog
+pub use Rattle.mesa_catalog.proofs.mesa_image_spec as mesa_image_spec
+pub use Rattle.mesa_order.proofs as mesa_order
 pub mod Doing
 pub mod Fits
 pub mod Seen

@@ -11,7 +11,7 @@ use Rattle.mesa_schema.specs.Folded.{rows_of}
 use Rattle.mesa_schema.specs.Laws.{AreUnder, LiftedRise}
 use Rattle.mesa_schema.specs.Rows.{AreRowsOf, keys_rise}
 use Rattle.mesa_schema.proofs.Folds.{rows_of-append}
-use Rattle.mesa_delta.specs.mesa_block.Layout.{Layout}
+use Rattle.mesa_block.specs.Layout.{Layout}
 use Rattle.mesa_delta.specs.Reading.{IsIndexed, index_of}
 use Rattle.mesa_delta.specs.Spread.{blocks_of}
 use Rattle.mesa_delta.specs.declared.input.Input.{Input}

@@ -6,8 +6,8 @@ use Rattle.std.specs.Prelude.{flat_map, map, Option, None, Some}
 use Rattle.std.specs.Ordering.{is_lt}
 use Rattle.std.specs.declared.cmp.Ordering.TheVariants.{Less}
 use Rattle.mesa_key.specs.Order.{byte_cmp}
-use Rattle.mesa_disk.specs.mesa_file.declared.damage.Damage.{Damage}
-use Rattle.mesa_disk.specs.mesa_file.declared.damage.Seen.TheVariants as seen
+use Rattle.mesa_delta.specs.mesa_file.declared.damage.Damage.{Damage}
+use Rattle.mesa_delta.specs.mesa_file.declared.damage.Seen.TheVariants as seen
 use Rattle.mesa_schema.specs.declared.rows.Row.{Row}
 use Rattle.mesa_schema.specs.Changes.{columns_at, epoch_of}
 use Rattle.mesa_schema.specs.Columns.{Columns}
@@ -19,7 +19,7 @@ use Rattle.mesa_schema.specs.Rows.{AreRowsOf, keys_rise}
 use Rattle.mesa_schema.proofs.Folds.{rows_of-append}
 use Rattle.mesa_delta.specs.Indexed.{Indexed}
 use Rattle.mesa_delta.specs.Packing.{last_part}
-use Rattle.mesa_delta.specs.mesa_block.Spelling.{block}
+use Rattle.mesa_block.specs.Spelling.{block}
 use Rattle.mesa_delta.specs.Places.{entry_of, places}
 use Rattle.mesa_delta.specs.Reading.{HasRead, IsBlock, IsIndexed, IsOver, IsReaderOf, IsRun, IsWhole, index_of, reader_of}
 use Rattle.mesa_delta.specs.Spread.{blocks_of}

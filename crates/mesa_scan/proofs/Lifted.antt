@@ -3,12 +3,12 @@ use Rattle.std.proofs.Common.{◌≡◌, ℕ, List, [], ◌∷◌, ◌++◌, ref
 use Rattle.std.proofs.lemmas.List.{append-nil}
 use Rattle.std.specs.Prelude.{map}
 use Rattle.std.specs.List.{AllByRecursion}
-use Rattle.mesa_delta.specs.mesa_block.Rows.{AreRows, IsRow}
+use Rattle.mesa_block.specs.Rows.{AreRows, IsRow}
 use Rattle.mesa_schema.specs.declared.rows.Row.{Row}
 use Rattle.mesa_schema.specs.declared.lifting.Lift.{Lift}
 use Rattle.mesa_schema.specs.Changes.{Lineage, columns_at, epoch_of, lifted}
 use Rattle.mesa_schema.specs.Columns.{Columns}
-use Rattle.mesa_delta.specs.mesa_block.Layout.{Layout}
+use Rattle.mesa_block.specs.Layout.{Layout}
 use Rattle.mesa_schema.specs.Folded.{rows_of}
 use Rattle.mesa_schema.specs.Lifting.{Lifts, lifted_with}
 use Rattle.mesa_schema.specs.Rows.{AreRowsOf}

@@ -5,8 +5,8 @@ use Rattle.std.specs.Prelude.{true, Option, None, map}
 use Rattle.std.specs.List.{AllByRecursion}
 use Rattle.std.specs.Ordering.{is_lt}
 use Rattle.mesa_key.specs.Order.{byte_cmp}
-use Rattle.mesa_delta.specs.mesa_block.Rows.{AreRows, Rise}
-use Rattle.mesa_delta.specs.mesa_block.Spelling.{key_of}
+use Rattle.mesa_block.specs.Rows.{AreRows, Rise}
+use Rattle.mesa_block.specs.Spelling.{key_of}
 use Rattle.mesa_schema.specs.declared.rows.Row.{Row}
 use Rattle.mesa_schema.specs.Changes.{Lineage, columns_at, columns_of, epoch_of, lifted}
 use Rattle.mesa_schema.specs.Columns.{Columns}

@@ -3,8 +3,8 @@ use Rattle.std.specs.Prelude.{◌≡◌, ◌≢◌, ◌⊎◌, ℕ, ◌+◌, ◌
 use Rattle.std.specs.Ordering.{is_lt}
 use Rattle.std.specs.declared.cmp.Ordering.TheVariants.{Less}
 use Rattle.mesa_key.specs.Order.{byte_cmp}
-use Rattle.mesa_disk.specs.mesa_file.declared.damage.Damage.{Damage}
-use Rattle.mesa_disk.specs.mesa_file.declared.damage.Seen.TheVariants as seen
+use Rattle.mesa_delta.specs.mesa_file.declared.damage.Damage.{Damage}
+use Rattle.mesa_delta.specs.mesa_file.declared.damage.Seen.TheVariants as seen
 use Rattle.mesa_schema.specs.declared.rows.Row.{Row}
 use Rattle.mesa_schema.specs.declared.lifting.Lift.{Lift}
 use Rattle.mesa_schema.specs.Changes.{columns_at, epoch_of, lifted}
@@ -12,7 +12,7 @@ use Rattle.mesa_schema.specs.Folded.{rows_of}
 use Rattle.mesa_schema.specs.Lifting.{Lifts}
 use Rattle.mesa_schema.specs.Lineages.{IsLineage}
 use Rattle.mesa_schema.specs.Rows.{keys_rise}
-use Rattle.mesa_delta.specs.mesa_block.Rows.{most_rows}
+use Rattle.mesa_block.specs.Rows.{most_rows}
 use Rattle.mesa_delta.specs.Indexed.{Indexed}
 use Rattle.mesa_delta.specs.Packing.{last_part}
 use Rattle.mesa_delta.specs.Places.{entry_of}

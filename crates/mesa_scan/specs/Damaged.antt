@@ -1,6 +1,6 @@
 -- What damage is told of an input.
 use Rattle.std.specs.Prelude.{◌≡◌, ℕ, List, Option, Some}
-use Rattle.mesa_file.specs.declared.damage.Damage.{Damage}
+use Rattle.mesa_delta.specs.mesa_file.declared.damage.Damage.{Damage}
 use Rattle.mesa_schema.specs.declared.rows.Row.{Row}
 use Rattle.mesa_delta.specs.Reading.{IsBlockDamage, IsIndexed, index_of}
 use Rattle.mesa_delta.specs.declared.input.Input.{Input}

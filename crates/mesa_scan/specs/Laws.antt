@@ -1,6 +1,6 @@
 -- Laws of cut rows.
 use Rattle.std.specs.Prelude.{◌≡◌, ℕ, List, Option, None, IsTrue}
-use Rattle.mesa_schema.specs.mesa_value.declared.Agg.{Agg}
+use Rattle.mesa_delta.specs.mesa_value.declared.Agg.{Agg}
 use Rattle.mesa_schema.specs.declared.rows.Row.{Row}
 use Rattle.mesa_schema.specs.Folded.{folded, rows_of}
 use Rattle.mesa_schema.specs.Rows.{keys_rise}

@@ -1,3 +1,5 @@
+pub use Rattle.mesa_delta.specs.mesa_file as mesa_file
+pub use Rattle.mesa_disk.specs.mesa_io as mesa_io
 pub mod Cut
 pub mod Laws
 pub mod Cursors

@@ -1,6 +1,6 @@
 // Blocks of an input read before they are scanned.
 ghost use Rattle.std.specs.Prelude.{◌≡◌, ◌<◌, Some, List, length, slice_get, IfErr};
-ghost use Rattle.mesa_io.specs.Causes.{HasCause, HasFaultCause};
+ghost use Rattle.mesa_disk.specs.mesa_io.Causes.{HasCause, HasFaultCause};
 ghost use Rattle.mesa_delta.specs.declared.error.FileError.TheVariants as file_error;
 ghost use Rattle.mesa_delta.specs.Ahead.{AreAhead, AreOfFile, Told as AnyTold};
 ghost use Rattle.mesa_delta.specs.Reading.{index_of};

@@ -1,8 +1,8 @@
 // A file read as a stream of lifted rows.
 ghost use Rattle.std.specs.Prelude.{◌≡◌, ◌⊎◌, ◌<◌, ◌≤◌, ◌+◌, ◌++◌, [], ◌∷◌, ℕ, List, length, map, drop, IfOk, OnOk, IfErr, OnErr, IfSome, IfNone, IsTrue, Ok, Option, Some, None};
 ghost use Rattle.std.specs.Ordering.{is_le};
-ghost use Rattle.mesa_io.specs.Causes.{HasFaultCause};
-ghost use Rattle.mesa_disk.specs.mesa_file.declared.damage.Damage.{Damage as AnyDamage};
+ghost use Rattle.mesa_disk.specs.mesa_io.Causes.{HasFaultCause};
+ghost use Rattle.mesa_delta.specs.mesa_file.declared.damage.Damage.{Damage as AnyDamage};
 ghost use Rattle.mesa_key.specs.Order.{byte_cmp};
 ghost use Rattle.mesa_schema.specs.declared.rows.Row.{Row as AnyRow};
 ghost use Rattle.mesa_schema.specs.Changes.{columns_of};

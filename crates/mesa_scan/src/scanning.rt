@@ -1,7 +1,7 @@
 // An input scanned block by block.
 ghost use Rattle.std.specs.Prelude.{◌≡◌, ◌<◌, ◌≤◌, ◌+◌, ◌++◌, ◌↔◌, [], List, length, IfOk, OnOk, OnErr, IfErr, IsTrue, Some, slice_get};
-ghost use Rattle.mesa_io.specs.Causes.{HasCause, HasFaultCause};
-ghost use Rattle.mesa_file.specs.declared.damage.Damage.{Damage as AnyDamage};
+ghost use Rattle.mesa_disk.specs.mesa_io.Causes.{HasCause, HasFaultCause};
+ghost use Rattle.mesa_delta.specs.mesa_file.declared.damage.Damage.{Damage as AnyDamage};
 ghost use Rattle.mesa_schema.specs.declared.rows.Row.{Row as AnyRow};
 ghost use Rattle.mesa_delta.specs.declared.error.FileError.TheVariants as file_error;
 ghost use Rattle.mesa_delta.specs.Ahead.{AreAhead, AreOfFile, Told as AnyTold};

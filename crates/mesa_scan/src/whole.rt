@@ -1,7 +1,7 @@
 // A whole input scanned.
 ghost use Rattle.std.specs.Prelude.{◌≡◌, ◌≤◌, ◌+◌, ◌++◌, ℕ, List, length, map, IfOk, OnOk, OnErr, IfErr, Some};
-ghost use Rattle.mesa_io.specs.Causes.{HasFaultCause};
-ghost use Rattle.mesa_file.specs.declared.damage.Damage.{Damage as AnyDamage};
+ghost use Rattle.mesa_disk.specs.mesa_io.Causes.{HasFaultCause};
+ghost use Rattle.mesa_delta.specs.mesa_file.declared.damage.Damage.{Damage as AnyDamage};
 ghost use Rattle.mesa_schema.specs.declared.rows.Row.{Row as AnyRow};
 ghost use Rattle.mesa_schema.specs.Changes.{columns_of};
 ghost use Rattle.mesa_schema.specs.Rows.{AreRowsOf};

@@ -7,7 +7,7 @@ use Rattle.std.proofs.lemmas.Cmp.{nat_list_eq_equiv}
 use Rattle.std.proofs.lemmas.List.{length-map, map-append}
 use Rattle.std.proofs.lemmas.List.Folds.{list_any-append}
 use Rattle.std.proofs.lemmas.Option.{slice_get-map}
-use Rattle.mesa_list.specs.Bytes.{same_bytes}
+use Rattle.mesa_key.specs.mesa_list.Bytes.{same_bytes}
 use Rattle.mesa_schema.specs.Names.{has_name}
 use Rattle.mesa_schema.specs.Columns.{chosen, places_in}
 use Rattle.mesa_schema.specs.Changes.{without}

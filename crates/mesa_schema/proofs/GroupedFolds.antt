@@ -5,9 +5,9 @@ use Rattle.std.proofs.lemmas.Simd.{map-map}
 use Rattle.std.proofs.lemmas.Int.{ints}
 use Rattle.std.specs.Prelude.{ℤ, ◌⊎◌, slice_get}
 use Rattle.std.specs.List.{AllByRecursion, concat, cons_option}
-use Rattle.mesa_value.specs.declared.Agg.{Agg}
-use Rattle.mesa_value.specs.declared.Agg.TheVariants.{Sum, Min, Max, Replace}
-use Rattle.mesa_value.specs.Agg.{IsOrderless, combined}
+use Rattle.mesa_key.specs.mesa_value.declared.Agg.{Agg}
+use Rattle.mesa_key.specs.mesa_value.declared.Agg.TheVariants.{Sum, Min, Max, Replace}
+use Rattle.mesa_key.specs.mesa_value.Agg.{IsOrderless, combined}
 use Rattle.mesa_key.specs.Spelling.{columns_of}
 use Rattle.mesa_schema.specs.declared.rows.Row.{Row}
 use Rattle.mesa_schema.specs.Columns.{Columns, aggs_of, chosen, kinds_of}

@@ -8,11 +8,11 @@ use Rattle.std.specs.Ordering.{eq_by_cmp}
 use Rattle.std.specs.FinMap.{slice_cmp-IsAntisymmetric, nat_cmp-IsAntisymmetric}
 use Rattle.std.specs.FinMap.Entries.{by_order}
 use Rattle.std.proofs.lemmas.List.Folds.{list_any-append}
-use Rattle.mesa_value.specs.declared.Agg.{Agg}
-use Rattle.mesa_value.specs.Agg.{combined}
+use Rattle.mesa_key.specs.mesa_value.declared.Agg.{Agg}
+use Rattle.mesa_key.specs.mesa_value.Agg.{combined}
 use Rattle.mesa_key.specs.Order.{byte_cmp}
 use Rattle.mesa_schema.specs.declared.rows.Row.{Row}
-use Rattle.mesa_list.specs.Bytes.{same_bytes}
+use Rattle.mesa_key.specs.mesa_list.Bytes.{same_bytes}
 use Rattle.mesa_schema.specs.Folded.{keys_of, values_at, row_combined, combined_from, all_combined, rows_of, folded}
 use Rattle.mesa_schema.proofs.Keys.{has, keys_in-same}
 use Rattle.mesa_schema.proofs.Folds.{keys, keys_of-keys_in, values_at-append}

@@ -9,8 +9,8 @@ use Rattle.std.specs.declared.cmp.Ordering.TheVariants.{Less, Equal, Greater}
 use Rattle.std.specs.Cmp.{nat_cmp_is}
 use Rattle.std.specs.Cmp.Lexicographic.{other_text, same_text}
 use Rattle.std.specs.FinMap.Entries.{by_order}
-use Rattle.mesa_list.specs.Bytes.{same_bytes}
-use Rattle.mesa_value.specs.declared.Agg.{Agg}
+use Rattle.mesa_key.specs.mesa_list.Bytes.{same_bytes}
+use Rattle.mesa_key.specs.mesa_value.declared.Agg.{Agg}
 use Rattle.mesa_key.specs.declared.KeyType.{KeyType}
 use Rattle.mesa_key.specs.declared.KeyValue.{KeyValue}
 use Rattle.mesa_key.specs.Order.{byte_cmp, key_cmp}

@@ -9,9 +9,9 @@ use Rattle.std.specs.Cmp.Lexicographic.{nat_list_cmp_total, texts_ties}
 use Rattle.std.specs.Cmp.{eq_by_cmp_equiv}
 use Rattle.std.specs.FinMap.{slice_cmp-IsAntisymmetric, nat_cmp-IsAntisymmetric}
 use Rattle.std.specs.FinMap.Entries.{by_order}
-use Rattle.mesa_value.specs.declared.Agg.{Agg}
+use Rattle.mesa_key.specs.mesa_value.declared.Agg.{Agg}
 use Rattle.mesa_key.specs.Order.{byte_cmp}
-use Rattle.mesa_list.specs.Bytes.{same_bytes}
+use Rattle.mesa_key.specs.mesa_list.Bytes.{same_bytes}
 use Rattle.mesa_schema.specs.declared.rows.Row.{Row}
 use Rattle.mesa_schema.specs.Folded.{all_combined, folded, folded_at, keys_of, rows_of, values_at, with_key}
 use Rattle.mesa_schema.proofs.Keys.{Keys, has, keys_in, keys_in-same}

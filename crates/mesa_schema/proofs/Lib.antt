@@ -1,3 +1,4 @@
+pub use Rattle.mesa_key.proofs as mesa_key
 pub mod Apart
 pub mod ChangeChecks
 pub mod Carrying

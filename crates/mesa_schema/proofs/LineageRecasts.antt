@@ -4,7 +4,7 @@ use Rattle.std.specs.Prelude.{not}
 use Rattle.std.specs.List.{AllByRecursion, list_all}
 use Rattle.std.proofs.lemmas.Bool.{and_from, and_parts, leb-false}
 use Rattle.std.proofs.lemmas.List.{take_all}
-use Rattle.mesa_list.specs.Checks.{◌>>◌, refuse_if, refused_as}
+use Rattle.mesa_key.specs.mesa_list.Checks.{◌>>◌, refuse_if, refused_as}
 use Rattle.mesa_schema.specs.declared.columns.KeyColumn.{KeyColumn}
 use Rattle.mesa_schema.specs.declared.columns.ValueColumn.{ValueColumn}
 use Rattle.mesa_schema.specs.declared.views.View.{View}

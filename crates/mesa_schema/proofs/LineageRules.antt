@@ -3,7 +3,7 @@ use Rattle.std.proofs.Common.{◌≡◌, ℕ, ◌<◌, ◌-◌, List, [], ◌∷
 use Rattle.std.specs.Prelude.{◌&&◌, is_ok, find, option_map, is_some, not, ◌==◌}
 use Rattle.std.specs.List.{list_all}
 use Rattle.std.proofs.lemmas.List.{length-map, take_all}
-use Rattle.mesa_list.specs.Checks.{◌>>◌, refuse_if, refuse_unless}
+use Rattle.mesa_key.specs.mesa_list.Checks.{◌>>◌, refuse_if, refuse_unless}
 use Rattle.mesa_schema.specs.declared.changes.ChangeError.TheVariants.{LastValue, NoColumn}
 use Rattle.mesa_schema.specs.Names.{has_name}
 use Rattle.std.proofs.lemmas.List.Folds.{list_all-append}

@@ -12,8 +12,8 @@ use Rattle.std.proofs.lemmas.Int.{ints}
 use Rattle.std.proofs.lemmas.Bool.Decides.{nat_tests}
 use Rattle.std.proofs.lemmas.Str.Parse.{IsNumeralModel, digit_from_value, numerals_by_fold}
 use Rattle.std.proofs.lemmas.Str.{IsUtf8-from_ascii}
-use Rattle.mesa_value.specs.declared.Agg.{Agg}
-use Rattle.mesa_value.specs.declared.Agg.TheVariants as agg
+use Rattle.mesa_key.specs.mesa_value.declared.Agg.{Agg}
+use Rattle.mesa_key.specs.mesa_value.declared.Agg.TheVariants as agg
 use Rattle.mesa_schema.specs.Names.{is_digit}
 use Rattle.mesa_schema.specs.Numbers.{amount_of, any_signed, digits_from, is_i64, is_i128, number_of, signed_of}
 

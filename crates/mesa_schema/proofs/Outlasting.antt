@@ -3,10 +3,10 @@ use Rattle.std.proofs.Common.{◌≡◌, ℕ, List, [], ◌∷◌, map, true, fa
 use Rattle.std.specs.List.{AllByRecursion}
 use Rattle.std.proofs.lemmas.List.{append-nil, length-map}
 use Rattle.std.proofs.lemmas.Simd.{map-map}
-use Rattle.mesa_list.specs.Checks.{◌>>◌}
-use Rattle.mesa_value.specs.declared.Agg.{Agg}
-use Rattle.mesa_value.specs.declared.Agg.TheVariants.{Sum, Min, Max, Replace}
-use Rattle.mesa_value.specs.Agg.{IsOrderless}
+use Rattle.mesa_key.specs.mesa_list.Checks.{◌>>◌}
+use Rattle.mesa_key.specs.mesa_value.declared.Agg.{Agg}
+use Rattle.mesa_key.specs.mesa_value.declared.Agg.TheVariants.{Sum, Min, Max, Replace}
+use Rattle.mesa_key.specs.mesa_value.Agg.{IsOrderless}
 use Rattle.mesa_schema.specs.declared.columns.ValueColumn.{ValueColumn}
 use Rattle.mesa_schema.specs.declared.rows.Row.{Row}
 use Rattle.mesa_schema.specs.declared.views.View.{View}

@@ -2,10 +2,10 @@
 use Rattle.std.proofs.Common.{◌≡◌, ℕ, zero, suc, List, [], ◌∷◌, ◌++◌, length, map, filter, cond, true, false, Option, Some, None, slice_get, sym, subst, arith}
 use Rattle.std.specs.Prelude.{ℤ, ⊤, int_lt}
 use Rattle.std.specs.List.{AllByRecursion, cons_option}
-use Rattle.mesa_list.specs.Bytes.{same_bytes}
-use Rattle.mesa_value.specs.declared.Agg.{Agg}
-use Rattle.mesa_value.specs.declared.Agg.TheVariants.{Sum, Min, Max, Replace}
-use Rattle.mesa_value.specs.Agg.{IsDefault, IsNarrow, IsOf, combined}
+use Rattle.mesa_key.specs.mesa_list.Bytes.{same_bytes}
+use Rattle.mesa_key.specs.mesa_value.declared.Agg.{Agg}
+use Rattle.mesa_key.specs.mesa_value.declared.Agg.TheVariants.{Sum, Min, Max, Replace}
+use Rattle.mesa_key.specs.mesa_value.Agg.{IsDefault, IsNarrow, IsOf, combined}
 use Rattle.mesa_schema.specs.declared.rows.Row.{Row}
 use Rattle.mesa_schema.specs.Columns.{Columns, aggs_of, chosen}
 use Rattle.mesa_schema.specs.Changes.{without}

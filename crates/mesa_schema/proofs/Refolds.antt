@@ -5,9 +5,9 @@ use Rattle.std.proofs.lemmas.Int.{ints}
 use Rattle.std.specs.Prelude.{ℤ, Bool, true, false, ◌||◌, cond, map}
 use Rattle.std.specs.Ordering.{eq_by_cmp}
 use Rattle.std.proofs.lemmas.List.Folds.{list_any-append}
-use Rattle.mesa_value.specs.declared.Agg.{Agg}
-use Rattle.mesa_value.specs.declared.Agg.TheVariants.{Sum, Min, Max, Replace}
-use Rattle.mesa_value.specs.Agg.{combined}
+use Rattle.mesa_key.specs.mesa_value.declared.Agg.{Agg}
+use Rattle.mesa_key.specs.mesa_value.declared.Agg.TheVariants.{Sum, Min, Max, Replace}
+use Rattle.mesa_key.specs.mesa_value.Agg.{combined}
 use Rattle.mesa_key.specs.Order.{byte_cmp}
 use Rattle.mesa_schema.specs.declared.rows.Row.{Row}
 use Rattle.mesa_schema.specs.Folded.{all_combined, combined_from, folded, folded_at, keys_of, row_combined, rows_of, values_at}

@@ -6,7 +6,7 @@ use Rattle.std.specs.declared.cmp.Ordering.TheVariants.{Less, Equal, Greater}
 use Rattle.std.specs.Cmp.{nat_cmp_is}
 use Rattle.std.specs.List.{AllByRecursion}
 use Rattle.std.proofs.lemmas.Bool.{and_from, and_parts}
-use Rattle.mesa_value.specs.declared.Agg.{Agg}
+use Rattle.mesa_key.specs.mesa_value.declared.Agg.{Agg}
 use Rattle.mesa_key.specs.declared.KeyValue.{KeyValue}
 use Rattle.mesa_key.specs.Order.{byte_cmp, key_cmp}
 use Rattle.mesa_key.specs.Spelling.{key_of, value_spelling}

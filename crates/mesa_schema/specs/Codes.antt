@@ -1,7 +1,7 @@
 -- The bytes of key types and aggregations, wherever columns are written.
 use Rattle.std.specs.Prelude.{ℕ, ◌==◌, if◌then◌else◌, Option, None, Some}
-use Rattle.mesa_value.specs.declared.Agg.{Agg}
-use Rattle.mesa_value.specs.declared.Agg.TheVariants as agg
+use Rattle.mesa_key.specs.mesa_value.declared.Agg.{Agg}
+use Rattle.mesa_key.specs.mesa_value.declared.Agg.TheVariants as agg
 use Rattle.mesa_key.specs.declared.KeyType.{KeyType}
 use Rattle.mesa_key.specs.declared.KeyType.TheVariants as kind
 

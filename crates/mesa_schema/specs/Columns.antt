@@ -1,7 +1,7 @@
 -- The columns of a table or a view, and their places.
 use Rattle.std.specs.Prelude.{ℕ, List, map, Option, slice_get, position, filter_map}
-use Rattle.mesa_list.specs.Bytes.{same_bytes}
-use Rattle.mesa_value.specs.declared.Agg.{Agg}
+use Rattle.mesa_key.specs.mesa_list.Bytes.{same_bytes}
+use Rattle.mesa_key.specs.mesa_value.declared.Agg.{Agg}
 use Rattle.mesa_key.specs.declared.KeyType.{KeyType}
 use Rattle.mesa_schema.specs.declared.columns.KeyColumn.{KeyColumn}
 use Rattle.mesa_schema.specs.declared.columns.ValueColumn.{ValueColumn}

@@ -2,12 +2,12 @@
 use Rattle.std.specs.Prelude.{ℕ, ℤ, List, [], ◌∷◌, map, filter, flat_map, ⊤}
 use Rattle.std.specs.List.{concat}
 use Rattle.std.specs.FinMap.Entries.{by_order}
-use Rattle.mesa_value.specs.declared.Agg.{Agg}
-use Rattle.mesa_value.specs.Agg.{Combines, combined}
+use Rattle.mesa_key.specs.mesa_value.declared.Agg.{Agg}
+use Rattle.mesa_key.specs.mesa_value.Agg.{Combines, combined}
 use Rattle.mesa_key.specs.Order.{byte_cmp}
 use Rattle.mesa_key.specs.Spelling.{columns_of}
 use Rattle.mesa_schema.specs.declared.rows.Row.{Row}
-use Rattle.mesa_list.specs.Bytes.{same_bytes}
+use Rattle.mesa_key.specs.mesa_list.Bytes.{same_bytes}
 use Rattle.mesa_schema.specs.Columns.{Columns, chosen, kinds_of, aggs_of}
 
 -- the keys in order, and this one among them

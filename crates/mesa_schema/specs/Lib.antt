@@ -1,5 +1,6 @@
 pub use Rattle.mesa_key.specs as mesa_key
-pub use Rattle.mesa_value.specs as mesa_value
+pub use Rattle.mesa_key.specs.mesa_list as mesa_list
+pub use Rattle.mesa_key.specs.mesa_value as mesa_value
 pub mod Names
 pub mod Numbers
 pub mod Columns

@@ -1,7 +1,7 @@
 -- Tables whose columns have followed the rules.
 use Rattle.std.specs.Prelude.{◌≡◌, ℕ, ◌≤◌, length, unwrap_or, IsTrue, Bool, is_ok, Option, ⊤}
 use Rattle.std.specs.List.{AllByRecursion, list_all}
-use Rattle.mesa_value.specs.Agg.{IsDefault}
+use Rattle.mesa_key.specs.mesa_value.Agg.{IsDefault}
 use Rattle.mesa_key.specs.Spelling.{IsValue}
 use Rattle.mesa_schema.specs.declared.changes.Change.{Change}
 use Rattle.mesa_schema.specs.declared.changes.Change.TheVariants.{AddKey, AddValue, DropValue}

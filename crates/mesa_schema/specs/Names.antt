@@ -1,7 +1,7 @@
 -- Names of tables, views and columns.
 use Rattle.std.specs.Prelude.{ℕ, List, [], ◌∷◌, length, Bool, false, ◌&&◌, ◌||◌, ◌==◌, nat_le, Option, None, Some, if◌then◌else◌}
 use Rattle.std.specs.List.{list_all, list_any}
-use Rattle.mesa_list.specs.Bytes.{same_bytes}
+use Rattle.mesa_key.specs.mesa_list.Bytes.{same_bytes}
 
 abbrev pub is_digit : ℕ → Bool
 is_digit b = nat_le 48 b && nat_le b 57

@@ -1,7 +1,7 @@
 -- A row more among folded rows.
 use Rattle.std.specs.Prelude.{List, [], ◌∷◌}
 use Rattle.std.specs.FinMap.Entries.{by_order}
-use Rattle.mesa_value.specs.declared.Agg.{Agg}
+use Rattle.mesa_key.specs.mesa_value.declared.Agg.{Agg}
 use Rattle.mesa_key.specs.Order.{byte_cmp}
 use Rattle.mesa_schema.specs.declared.rows.Row.{Row}
 use Rattle.mesa_schema.specs.Folded.{row_combined}

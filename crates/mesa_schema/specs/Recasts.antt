@@ -1,7 +1,7 @@
 -- Recasts: a table takes columns chosen among its own, in an order of their own, and its rows are grouped by them.
 use Rattle.std.specs.Prelude.{◌≡◌, ℕ, ◌+◌, List, [], map, find, Bool, ◌&&◌, ◌==◌, not, nat_le, if◌then◌else◌, Option, Some, None, Result, Ok, Err, IsTrue, is_ok}
 use Rattle.std.specs.List.{enumerate_from, list_all, list_any}
-use Rattle.mesa_list.specs.Checks.{◌>>◌, refuse_if, refused_as}
+use Rattle.mesa_key.specs.mesa_list.Checks.{◌>>◌, refuse_if, refused_as}
 use Rattle.mesa_schema.specs.declared.rows.Row.{Row}
 use Rattle.mesa_schema.specs.declared.columns.ValueColumn.{ValueColumn}
 use Rattle.mesa_schema.specs.declared.views.View.{View}

@@ -2,8 +2,8 @@
 use Rattle.std.specs.Prelude.{◌≡◌, ℤ, List, [], ◌∷◌, length, Bool, true, ◌&&◌, ⊤}
 use Rattle.std.specs.Ordering.{is_lt}
 use Rattle.std.specs.List.{AllByRecursion}
-use Rattle.mesa_value.specs.declared.Agg.{Agg}
-use Rattle.mesa_value.specs.Agg.{IsOf}
+use Rattle.mesa_key.specs.mesa_value.declared.Agg.{Agg}
+use Rattle.mesa_key.specs.mesa_value.Agg.{IsOf}
 use Rattle.mesa_key.specs.Order.{byte_cmp}
 use Rattle.mesa_key.specs.Spelling.{IsKey, key_of, key_spelling}
 use Rattle.mesa_schema.specs.declared.rows.Row.{Row}

@@ -1,6 +1,6 @@
 -- Which columns make a schema.
 use Rattle.std.specs.Prelude.{ℕ, List, length, Bool, ◌==◌, ◌||◌, nat_lt, Option, None, Some, Result, Ok, Err, is_ok}
-use Rattle.mesa_list.specs.Checks.{◌>>◌, refuse_if}
+use Rattle.mesa_key.specs.mesa_list.Checks.{◌>>◌, refuse_if}
 use Rattle.mesa_schema.specs.declared.schema.SchemaError.{SchemaError}
 use Rattle.mesa_schema.specs.declared.schema.SchemaError.TheVariants.{NoKey, NoValue, TooManyColumns, NameTwice}
 use Rattle.mesa_schema.specs.Names.{repeated}

@@ -1,8 +1,8 @@
 -- Views: which are allowed, their columns and their content.
 use Rattle.std.specs.Prelude.{ℕ, List, [], ◌∷◌, ◌++◌, length, find, Bool, ◌==◌, true, false, Option, None, Some, is_some, Result, Ok, Err}
 use Rattle.std.specs.List.{list_all}
-use Rattle.mesa_list.specs.Checks.{◌>>◌, refuse_if, refuse_unless}
-use Rattle.mesa_value.specs.declared.Agg.TheVariants as agg
+use Rattle.mesa_key.specs.mesa_list.Checks.{◌>>◌, refuse_if, refuse_unless}
+use Rattle.mesa_key.specs.mesa_value.declared.Agg.TheVariants as agg
 use Rattle.mesa_schema.specs.declared.columns.ValueColumn.{ValueColumn}
 use Rattle.mesa_schema.specs.declared.rows.Row.{Row}
 use Rattle.mesa_schema.specs.declared.views.View.{View}

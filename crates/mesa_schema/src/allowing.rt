@@ -6,14 +6,12 @@ ghost use Rattle.mesa_schema.specs.declared.views.View.{View as Chosen};
 ghost use Rattle.mesa_schema.specs.declared.columns.ValueColumn.{ValueColumn as Column};
 ghost use Rattle.mesa_schema.specs.declared.columns.KeyColumn.{KeyColumn as Key};
 ghost use Rattle.mesa_schema.specs.Names.{has_name as is_among};
-ghost use Rattle.mesa_value.specs.Agg.{IsDefault};
+ghost use Rattle.mesa_key.specs.mesa_value.Agg.{IsDefault};
 ghost use Rattle.mesa_key.specs.Spelling.{IsValue};
 ghost use Rattle.mesa_schema.specs.Changes.{added_key_checked, added_value_checked, drop_rule, is_default as has_default, is_of_kind as has_kind, new_name_checked};
 
 use crate::{ChangeError, KeyColumn, MAX_COLUMNS, Name, Named, ValueColumn, View, has_name};
-use mesa_key::{KeyType, KeyValue};
-use mesa_list::TryCopy;
-use mesa_value::Agg;
+use mesa_key::{Agg, KeyType, KeyValue, TryCopy};
 
 // A column of this name may join these.
 pub(crate) fn check_new<N: Named>(name: &Name, among: &[N]) -> Result<(), ChangeError>

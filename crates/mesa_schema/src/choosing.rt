@@ -5,7 +5,7 @@ ghost use Rattle.mesa_schema.specs.Columns.{chosen, places_in};
 ghost use Rattle.mesa_schema.specs.Views.{choice_checked, is_replace as replaces};
 
 use crate::{Name, Named, ValueColumn, ViewError, has_names, place_of, repeated_place};
-use mesa_list::TryCopy;
+use mesa_key::TryCopy;
 use std::alloc::{AllocError, Global};
 
 // The columns of these names, in the names' order.

@@ -2,8 +2,7 @@
 ghost use Rattle.std.specs.Prelude.{◌≡◌};
 ghost use Rattle.mesa_schema.specs.Codes.{agg_byte as byte_of_agg, agg_of, kind_byte as byte_of_kind, kind_of};
 
-use mesa_key::KeyType;
-use mesa_value::Agg;
+use mesa_key::{Agg, KeyType};
 
 /// A key type's byte in files and in the journal.
 pub fn kind_byte(kind: KeyType) -> u8

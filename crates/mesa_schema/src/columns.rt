@@ -3,8 +3,7 @@ ghost use Rattle.std.specs.Prelude.{◌≡◌};
 ghost use Rattle.mesa_schema.specs.Views.{is_replace as replaces};
 
 use crate::Name;
-use mesa_key::KeyType;
-use mesa_value::Agg;
+use mesa_key::{Agg, KeyType};
 
 /// A key column.
 #[derive(Drop)]

@@ -1,6 +1,6 @@
 // Copies of columns, schemas, views, changes, rows and refusals.
 use crate::{Change, ChangeError, KeyColumn, Row, SchemaError, ValueColumn, View, ViewError};
-use mesa_list::TryCopy;
+use mesa_key::TryCopy;
 use std::alloc::AllocError;
 
 impl TryCopy for KeyColumn {

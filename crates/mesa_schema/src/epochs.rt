@@ -3,7 +3,7 @@ ghost use Rattle.std.specs.Prelude.{◌≡◌, ◌≤◌, OnOk, count_by, length
 ghost use Rattle.mesa_schema.specs.Changes.{adds_key as adds, changed};
 
 use crate::{Change, KeyColumn, ValueColumn, place_of};
-use mesa_list::TryCopy;
+use mesa_key::TryCopy;
 use std::alloc::AllocError;
 
 // Changes columns: one is appended, or a value column goes.

@@ -16,7 +16,7 @@ use crate::choosing::{check_chosen, chosen_columns, replace_place};
 use crate::epochs::{added_keys, change_columns};
 use crate::recasts::{allows_columns, check_columns, check_views, keeps_views};
 use crate::{Change, ChangeError, Lift, Name, RecastError, Row, Schema, View, ViewError};
-use mesa_list::{Items, TryCopy};
+use mesa_key::{Items, TryCopy};
 use std::alloc::{AllocError, Global};
 use std::marker::Model;
 

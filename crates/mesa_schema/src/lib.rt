@@ -19,6 +19,7 @@ mod rows;
 mod schema;
 mod views;
 
+pub use mesa_key::{Agg, Amount, Column, ColumnValue, Format, KeyBytes, KeyColumns, KeyText, KeyType, KeyValue, Values, combine, combines, compare, encode_int, encode_text, reads_back, reads_spellings, spells_key};
 pub use changes::{Change, ChangeError};
 pub use codes::{agg_byte, agg_of_byte, kind_byte, kind_of_byte};
 pub use columns::{KeyColumn, ValueColumn};

@@ -10,8 +10,7 @@ ghost use Rattle.mesa_schema.specs.Lifting.{lifted_with, moved, value_from};
 use crate::epochs::change_columns;
 use crate::rows::{refill, room};
 use crate::{Change, KeyColumn, LentRow, Row, ValueColumn, place_of};
-use mesa_key::{Amount, KeyBytes, KeyValue, Values, encode_int, encode_text};
-use mesa_list::Items;
+use mesa_key::{Amount, Items, KeyBytes, KeyValue, Values, encode_int, encode_text};
 use std::alloc::{AllocError, Global};
 
 /// How rows of one epoch become rows of the present. It is made once for many rows, as for those of a file, and lifting a row costs the same through one change and through a thousand.

@@ -1,7 +1,7 @@
 // What has a name, and looking it up.
 ghost use Rattle.std.specs.Prelude.{◌≡◌, map, is_some, option_and_then, slice_get, IfSome, ◌<◌, length, position};
 ghost use Rattle.std.specs.List.{list_all};
-ghost use Rattle.mesa_list.specs.Bytes.{same_bytes};
+ghost use Rattle.mesa_key.specs.mesa_list.Bytes.{same_bytes};
 ghost use Rattle.mesa_schema.specs.Names.{has_name as is_among, repeated};
 ghost use Rattle.mesa_schema.specs.Columns.{place_of as place_among};
 

@@ -3,7 +3,7 @@ ghost use Rattle.std.specs.Prelude.{◌≡◌, IsTrue, IfOk, OnOk, false};
 ghost use Rattle.mesa_schema.specs.Names.{is_name, is_name_byte as name_byte};
 ghost use Rattle.std.specs.List.{list_all};
 
-use mesa_list::{Items, TryCopy};
+use mesa_key::{Items, TryCopy};
 use std::alloc::{AllocError, Global};
 use std::marker::Model;
 

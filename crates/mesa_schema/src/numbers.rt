@@ -1,11 +1,9 @@
 // Numbers and key values, as the bytes of a script spell them.
 ghost use Rattle.std.specs.Prelude.{◌≡◌, ◌<◌, ◌^◌, IfOk, IfSome};
-ghost use Rattle.mesa_value.specs.declared.Agg.TheVariants as agg;
+ghost use Rattle.mesa_key.specs.mesa_value.declared.Agg.TheVariants as agg;
 ghost use Rattle.mesa_schema.specs.Numbers.{amount_of, key_value_of, number_of, signed_of};
 
-use mesa_key::{KeyText, KeyType, KeyValue};
-use mesa_list::Items;
-use mesa_value::{Agg, Amount};
+use mesa_key::{Agg, Amount, Items, KeyText, KeyType, KeyValue};
 use std::alloc::{AllocError, Global};
 
 /// The signed number that the bytes spell: an optional `+` or `-` and decimal digits, with a value of 64 bits.

@@ -1,7 +1,7 @@
 // Which columns a recast may ask for.
 ghost use Rattle.std.specs.Prelude.{◌≡◌, ◌≢◌, ℕ, ◌<◌, ◌==◌, [], ◌∷◌, find, is_ok, length, map, not, option_and_then, option_copied, option_map, slice_get, IfErr, IfSome, OnOk, Ok, Err};
 ghost use Rattle.std.specs.List.{enumerate_from, list_all, list_any};
-ghost use Rattle.mesa_list.specs.Checks.{refused_as};
+ghost use Rattle.mesa_key.specs.mesa_list.Checks.{refused_as};
 ghost use Rattle.mesa_schema.specs.declared.columns.KeyColumn.{KeyColumn as Key};
 ghost use Rattle.mesa_schema.specs.declared.columns.ValueColumn.{ValueColumn as Column};
 ghost use Rattle.mesa_schema.specs.declared.views.View.{View as Chosen};
@@ -11,7 +11,7 @@ ghost use Rattle.mesa_schema.specs.Views.{choice_checked};
 
 use crate::choosing::{check_chosen, replace_place};
 use crate::{KeyColumn, Name, Named, Schema, View, ViewError, has_names, place_of};
-use mesa_list::TryCopy;
+use mesa_key::TryCopy;
 use std::alloc::AllocError;
 
 /// Why a recast is refused, the first reason that applies.

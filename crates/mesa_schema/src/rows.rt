@@ -2,8 +2,7 @@
 ghost use Rattle.std.specs.Prelude.{◌≡◌, [], IfOk, OnOk};
 ghost use Rattle.mesa_schema.specs.Lent.{lent};
 
-use mesa_key::{Amount, KeyBytes, Values};
-use mesa_list::Items;
+use mesa_key::{Amount, Items, KeyBytes, Values};
 use std::alloc::{AllocError, Global};
 use std::mem::replace;
 

@@ -3,7 +3,7 @@ ghost use Rattle.std.specs.Prelude.{◌≡◌, IsTrue, IfErr, IfOk, OnOk};
 ghost use Rattle.mesa_schema.specs.Schema.{is_schema, schema_checked};
 
 use crate::{KeyColumn, Name, ValueColumn, repeated_place};
-use mesa_list::{Items, TryCopy};
+use mesa_key::{Items, TryCopy};
 use std::alloc::AllocError;
 use std::marker::Model;
 

@@ -1,6 +1,6 @@
 // Views of a table.
 use crate::Name;
-use mesa_list::Items;
+use mesa_key::Items;
 use std::alloc::AllocError;
 
 /// A view of a table: key columns chosen among the table's, in any order, and value columns among its sum, min and max columns.

@@ -1,7 +1,7 @@
 -- What each record of a script says.
 use Rattle.std.specs.Prelude.{ℕ, List, drop, length, ◌==◌, Bool, true, false, Option, Some, None, Result, Ok, Err}
-use Rattle.mesa_list.specs.Checks.{◌>>=◌, each_of}
-use Rattle.mesa_list.specs.Split.{entries_of}
+use Rattle.mesa_model.specs.mesa_list.Checks.{◌>>=◌, each_of}
+use Rattle.mesa_model.specs.mesa_list.Split.{entries_of}
 use Rattle.mesa_model.specs.mesa_batch.declared.words.RowWords.{RowWords}
 use Rattle.mesa_model.specs.declared.commands.ChangeWords.{ChangeWords}
 use Rattle.mesa_model.specs.declared.commands.ChangeWords.TheVariants as words

@@ -1,6 +1,6 @@
 -- The records of a script: their names, and how many fields each has.
 use Rattle.std.specs.Prelude.{ℕ, zero, suc, List, [], ◌∷◌, length, take, codes, Bool, ◌&&◌, ◌==◌, nat_le, if◌then◌else◌, Option, Some, None}
-use Rattle.mesa_list.specs.Bytes.{same_bytes}
+use Rattle.mesa_model.specs.mesa_list.Bytes.{same_bytes}
 
 -- what a record is for, by its first field
 pub data Name : Type 0 where

@@ -2,10 +2,10 @@
 use Rattle.std.specs.Prelude.{ℕ, List, [], ◌∷◌, ◌++◌, map, flat_map, length, codes, decimal, Option, Some, None, is_some}
 use Rattle.std.specs.Fmt.{signed_decimal}
 use Rattle.csv.specs.Writing.{row_text, default_writer}
-use Rattle.mesa_schema.specs.mesa_key.declared.KeyType.{KeyType}
-use Rattle.mesa_schema.specs.mesa_key.declared.KeyValue.{KeyValue}
-use Rattle.mesa_schema.specs.mesa_key.declared.KeyValue.TheVariants as value
-use Rattle.mesa_schema.specs.mesa_key.Spelling.{key_of}
+use Rattle.mesa_model.specs.mesa_key.declared.KeyType.{KeyType}
+use Rattle.mesa_model.specs.mesa_key.declared.KeyValue.{KeyValue}
+use Rattle.mesa_model.specs.mesa_key.declared.KeyValue.TheVariants as value
+use Rattle.mesa_model.specs.mesa_key.Spelling.{key_of}
 use Rattle.mesa_schema.specs.declared.rows.Row.{Row}
 use Rattle.mesa_model.specs.mesa_filter.Hex.{hex_of}
 use Rattle.mesa_model.specs.declared.replies.Page.{Page}

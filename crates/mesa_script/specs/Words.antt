@@ -2,13 +2,13 @@
 use Rattle.std.specs.Prelude.{ℕ, ◌-◌, ◌^◌, List, [], ◌∷◌, length, drop, codes, Bool, ◌&&◌, ◌||◌, ◌==◌, nat_lt, if◌then◌else◌, Result, Ok, Err}
 use Rattle.std.specs.List.{list_all}
 use Rattle.std.specs.Option.{ok_or}
-use Rattle.mesa_list.specs.Bytes.{same_bytes}
-use Rattle.mesa_list.specs.Checks.{◌>>=◌, ◌>>◌, refuse_unless}
-use Rattle.mesa_list.specs.Split.{split_at}
-use Rattle.mesa_schema.specs.mesa_value.declared.Agg.{Agg}
-use Rattle.mesa_schema.specs.mesa_value.declared.Agg.TheVariants as agg
-use Rattle.mesa_schema.specs.mesa_key.declared.KeyType.{KeyType}
-use Rattle.mesa_schema.specs.mesa_key.declared.KeyType.TheVariants as kind
+use Rattle.mesa_model.specs.mesa_list.Bytes.{same_bytes}
+use Rattle.mesa_model.specs.mesa_list.Checks.{◌>>=◌, ◌>>◌, refuse_unless}
+use Rattle.mesa_model.specs.mesa_list.Split.{split_at}
+use Rattle.mesa_model.specs.mesa_value.declared.Agg.{Agg}
+use Rattle.mesa_model.specs.mesa_value.declared.Agg.TheVariants as agg
+use Rattle.mesa_model.specs.mesa_key.declared.KeyType.{KeyType}
+use Rattle.mesa_model.specs.mesa_key.declared.KeyType.TheVariants as kind
 use Rattle.mesa_schema.specs.Names.{is_digit}
 use Rattle.mesa_schema.specs.Numbers.{number_of}
 use Rattle.mesa_model.specs.mesa_filter.declared.words.VersionWord.{VersionWord}

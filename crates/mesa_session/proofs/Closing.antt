@@ -4,8 +4,8 @@ use Rattle.mesa_core.specs.mesa_history_spec.Machine.{Claim}
 use Rattle.mesa_core.specs.mesa_history_spec.Run.{Finished, Renewed, State}
 use Rattle.mesa_model.specs.declared.commands.Script.{Script}
 use Rattle.mesa_model.specs.declared.entries.Kind.TheVariants as kind
-use Rattle.mesa_engine.specs.mesa_invariant_spec.Turns.{Asks, Shown, Takes, is_recast}
-use Rattle.mesa_engine.specs.mesa_invariant_spec.Invariant.{run_at}
+use Rattle.mesa_core.specs.mesa_invariant_spec.Turns.{Asks, Shown, Takes, is_recast}
+use Rattle.mesa_core.specs.mesa_invariant_spec.Invariant.{run_at}
 
 module _ (script : Script) (start : State) (old now : Shown) where
   -- its last turn is due

@@ -1,21 +1,21 @@
 -- Why files weren't read, as their reading tells it and as a closing turn asks for it.
 use Rattle.std.proofs.Common.{◌≡◌, inl, inr, ⊎_elim, ℕ, ◌<◌, List, [], ◌∷◌, sym, ap, subst, arith}
 use Rattle.std.specs.Prelude.{◌⊎◌, Option, Some, IfSome}
-use Rattle.mesa_disk.specs.mesa_io.Causes.{Rose}
-use Rattle.mesa_disk.specs.mesa_file.declared.damage.Damage.{Damage}
-use Rattle.mesa_disk.specs.mesa_file.declared.damage.Seen.{Seen}
-use Rattle.mesa_disk.specs.mesa_file.declared.damage.Seen.TheVariants as seen
-use Rattle.mesa_model.specs.mesa_schema.declared.rows.Row.{Row}
+use Rattle.mesa_io.specs.Causes.{Rose}
+use Rattle.mesa_core.specs.mesa_file.declared.damage.Damage.{Damage}
+use Rattle.mesa_core.specs.mesa_file.declared.damage.Seen.{Seen}
+use Rattle.mesa_core.specs.mesa_file.declared.damage.Seen.TheVariants as seen
+use Rattle.mesa_core.specs.mesa_schema.declared.rows.Row.{Row}
 use Rattle.mesa_filter.specs.declared.terms.Term.{Term}
-use Rattle.mesa_query.specs.mesa_answer.Gathering.{Wanted}
+use Rattle.mesa_core.specs.mesa_answer.Gathering.{Wanted}
 use Rattle.mesa_delta.specs.Damages.{IsWrongLength, IsPieceDamage}
 use Rattle.mesa_delta.specs.Indexed.{Indexed}
 use Rattle.mesa_delta.specs.Reading.{IsBlockDamage}
 use Rattle.mesa_delta.specs.declared.input.Input.{Input}
-use Rattle.mesa_tasks.specs.mesa_scan.Cursors.{reader_in}
+use Rattle.mesa_query.specs.mesa_scan.Cursors.{reader_in}
 use Rattle.mesa_query.specs.mesa_scan.Damaged.{IsDamaged}
-use Rattle.mesa_compact.specs.mesa_view.SumDamage.{IsSumDamage}
-use Rattle.mesa_compact.specs.mesa_merge.Faults.{SomeRose, faults_of}
+use Rattle.mesa_query.specs.mesa_view.SumDamage.{IsSumDamage}
+use Rattle.mesa_core.specs.mesa_merge.Faults.{SomeRose, faults_of}
 use Rattle.mesa_tasks.specs.declared.querying.PinnedInput.{PinnedInput}
 use Rattle.mesa_query.specs.Files.{IsDamageIn}
 use Rattle.mesa_query.specs.Sums.{IsSumIn}
@@ -29,9 +29,9 @@ use Rattle.mesa_tasks.specs.Errors.{Differs}
 use Rattle.mesa_tasks.specs.Recasts.{own, recast_in, recast_table}
 use Rattle.mesa_tasks.specs.declared.recasting.Recast.{Recast}
 use Rattle.mesa_copy.specs.Copying.{IsRecastDamage}
-use Rattle.mesa_model.specs.mesa_schema.Changes.{columns_of}
-use Rattle.mesa_model.specs.mesa_schema.Columns.{Columns}
-use Rattle.mesa_model.specs.mesa_schema.Recasts.{recast_keys, recast_values}
+use Rattle.mesa_core.specs.mesa_schema.Changes.{columns_of}
+use Rattle.mesa_core.specs.mesa_schema.Columns.{Columns}
+use Rattle.mesa_core.specs.mesa_schema.Recasts.{recast_keys, recast_values}
 
 -- ---- faults
 

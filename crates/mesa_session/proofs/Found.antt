@@ -21,10 +21,10 @@ use Rattle.mesa_core.specs.mesa_history_spec.Run.{State, Finished, place_of, beg
 use Rattle.mesa_core.specs.mesa_history_spec.Turns.{place_then}
 use Rattle.mesa_core.specs.mesa_history_spec.Legal.{AllFit}
 use Rattle.mesa_core.proofs.mesa_history_spec.Due.{fit_below}
-use Rattle.mesa_engine.specs.mesa_history_spec.Rows.{Rows, no_rows}
-use Rattle.mesa_engine.specs.mesa_invariant_spec.Queries.{IsOpenFrom}
-use Rattle.mesa_engine.specs.mesa_invariant_spec.Turns.{Shown, IsTurn, IsSeen}
-use Rattle.mesa_engine.specs.mesa_invariant_spec.Invariant.{run_at}
+use Rattle.mesa_core.specs.mesa_history_spec.Rows.{Rows, no_rows}
+use Rattle.mesa_core.specs.mesa_invariant_spec.Queries.{IsOpenFrom}
+use Rattle.mesa_core.specs.mesa_invariant_spec.Turns.{Shown, IsTurn, IsSeen}
+use Rattle.mesa_core.specs.mesa_invariant_spec.Invariant.{run_at}
 use Rattle.mesa_tasks.specs.declared.prepared.LoadError.{LoadError}
 use Rattle.mesa_tasks.specs.declared.prepared.Prepared.{Prepared}
 use Rattle.mesa_tasks.specs.declared.querying.Pinned.{Pinned}

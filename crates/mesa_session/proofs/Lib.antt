@@ -1,3 +1,5 @@
+pub use Rattle.mesa_core.proofs.mesa_history_laws as mesa_history_laws
+pub use Rattle.mesa_core.proofs.mesa_history_spec as mesa_history_spec
 pub mod Damaged
 pub mod Pinned
 pub mod Spelling

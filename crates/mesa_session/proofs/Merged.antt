@@ -2,17 +2,17 @@
 use Rattle.std.proofs.Common.{◌≡◌, ℕ, zero, suc, ◌+◌, ◌≤◌, List, Vec, [], ◌∷◌, refl, sym, ap, ◌∙◌, subst, arith}
 use Rattle.std.specs.Prelude.{Option, None, Some, option_map, Result, Ok, Err, IfOk, IfErr, min, slice_get}
 use Rattle.std.specs.declared.alloc.Global.{Global}
-use Rattle.mesa_model.specs.mesa_schema.declared.rows.Row.{Row}
-use Rattle.mesa_model.specs.mesa_schema.declared.views.View.{View}
-use Rattle.mesa_model.specs.mesa_schema.Columns.{Columns}
-use Rattle.mesa_model.specs.mesa_schema.Changes.{Lineage, columns_of}
-use Rattle.mesa_model.specs.mesa_schema.Views.{view_columns, view_rows}
+use Rattle.mesa_core.specs.mesa_schema.declared.rows.Row.{Row}
+use Rattle.mesa_core.specs.mesa_schema.declared.views.View.{View}
+use Rattle.mesa_core.specs.mesa_schema.Columns.{Columns}
+use Rattle.mesa_core.specs.mesa_schema.Changes.{Lineage, columns_of}
+use Rattle.mesa_core.specs.mesa_schema.Views.{view_columns, view_rows}
 use Rattle.mesa_delta.specs.declared.error.FileError.TheVariants as file
 use Rattle.mesa_delta.specs.declared.input.Input.{Input}
-use Rattle.mesa_disk.specs.mesa_io.Causes.{HasFaultCause, last}
-use Rattle.mesa_disk.specs.mesa_file.declared.damage.Damage.{Damage}
-use Rattle.mesa_compact.specs.mesa_merge.Faults.{faults_of}
-use Rattle.mesa_compact.specs.mesa_merge.Inputs.{knowns_of}
+use Rattle.mesa_io.specs.Causes.{HasFaultCause, last}
+use Rattle.mesa_core.specs.mesa_file.declared.damage.Damage.{Damage}
+use Rattle.mesa_core.specs.mesa_merge.Faults.{faults_of}
+use Rattle.mesa_core.specs.mesa_merge.Inputs.{knowns_of}
 use Rattle.mesa_tasks.specs.GivingBack.{task_inputs}
 use Rattle.mesa_tasks.specs.Tasks.{AreMergedViews, HaveMerged, IsMerged, IsTask}
 use Rattle.mesa_tasks.specs.declared.made.MadeFiles.{MadeFiles}

@@ -1,21 +1,21 @@
 -- A pinned query that was answered: what is known of its files is what was known before, and its page is that of the files as they are now.
 use Rattle.std.proofs.Common.{◌≡◌, inl, inr, ⊎_elim, ℕ, ◌<◌, List, [], ◌∷◌, map, refl, sym, ap, ◌∙◌, subst}
 use Rattle.std.specs.Prelude.{◌⊎◌, Option, Result, Ok, Err, IfOk, IfErr}
-use Rattle.mesa_disk.specs.mesa_file.declared.damage.Damage.{Damage}
-use Rattle.mesa_model.specs.mesa_schema.declared.rows.Row.{Row}
-use Rattle.mesa_model.specs.mesa_schema.Columns.{Columns}
-use Rattle.mesa_model.specs.mesa_schema.Changes.{epoch_of, lifted}
-use Rattle.mesa_model.specs.mesa_schema.Folded.{rows_of}
+use Rattle.mesa_core.specs.mesa_file.declared.damage.Damage.{Damage}
+use Rattle.mesa_core.specs.mesa_schema.declared.rows.Row.{Row}
+use Rattle.mesa_core.specs.mesa_schema.Columns.{Columns}
+use Rattle.mesa_core.specs.mesa_schema.Changes.{epoch_of, lifted}
+use Rattle.mesa_core.specs.mesa_schema.Folded.{rows_of}
 use Rattle.mesa_model.specs.declared.replies.Page.{Page}
 use Rattle.mesa_script.specs.declared.rendered.Rendered.{Rendered}
 use Rattle.mesa_script.specs.Rows.{rendered}
-use Rattle.mesa_query.specs.mesa_answer.Answering.{KeepsSums}
-use Rattle.mesa_query.specs.mesa_answer.Gathering.{wanted_by}
+use Rattle.mesa_core.specs.mesa_answer.Answering.{KeepsSums}
+use Rattle.mesa_core.specs.mesa_answer.Gathering.{wanted_by}
 use Rattle.mesa_delta.specs.declared.error.FileError.{FileError}
 use Rattle.mesa_delta.specs.declared.error.FileError.TheVariants as file
-use Rattle.mesa_compact.specs.mesa_merge.Faults.{SomeRose, faults_of}
-use Rattle.mesa_compact.specs.mesa_merge.Inputs.{Known, AreTold, known_of, knowns_of}
-use Rattle.mesa_tasks.specs.mesa_scan.Cursors.{reader_in}
+use Rattle.mesa_core.specs.mesa_merge.Faults.{SomeRose, faults_of}
+use Rattle.mesa_core.specs.mesa_merge.Inputs.{Known, AreTold, known_of, knowns_of}
+use Rattle.mesa_query.specs.mesa_scan.Cursors.{reader_in}
 use Rattle.mesa_filter.specs.Query.{BuiltQuery}
 use Rattle.mesa_tasks.specs.GivingBack.{SomeFailed, pinned_inputs}
 use Rattle.mesa_tasks.specs.Pins.{relation_rows}

@@ -1,7 +1,7 @@
 -- A load's rows as they were prepared, and for how long they stand.
 use Rattle.std.proofs.Common.{◌≡◌, ℕ, ◌+◌, ◌<◌, ◌≤◌, List, ◌++◌, refl, sym, ap, ◌∙◌, subst, arith, true≢false}
 use Rattle.std.specs.Prelude.{Option, Result, Ok, Err, IsOk, IfOk, IfErr, OnOk, OnErr, min}
-use Rattle.mesa_disk.specs.mesa_io.Causes.{last}
+use Rattle.mesa_io.specs.Causes.{last}
 use Rattle.mesa_batch.specs.Batch.{Placed, batch_of}
 use Rattle.mesa_batch.specs.Glance.{Sight, tables_of}
 use Rattle.mesa_batch.specs.declared.words.BatchError.{BatchError}

@@ -2,15 +2,15 @@
 use Rattle.std.proofs.Common.{◌≡◌, ◌⊎◌, inl, inr, ℕ, List, refl, sym, ap, ◌∙◌, subst}
 use Rattle.std.specs.Prelude.{Option, None, Some, Result, Ok, Err, IfOk, IfErr, IfSome}
 use Rattle.mesa_compact.specs.Writing.{HasCauses, damaged_by}
-use Rattle.mesa_compact.specs.mesa_merge.Faults.{faults_of}
+use Rattle.mesa_core.specs.mesa_merge.Faults.{faults_of}
 use Rattle.mesa_copy.proofs.Same.{bounded_same}
 use Rattle.mesa_copy.specs.Copying.{AreRangesBounded, IsRecastBounded, IsSameRecast}
 use Rattle.mesa_core.specs.mesa_recast_turns.Rested.{IsLonger}
 use Rattle.mesa_delta.specs.declared.error.FileError.{FileError}
 use Rattle.mesa_delta.specs.declared.error.FileError.TheVariants as file
-use Rattle.mesa_disk.specs.mesa_file.declared.damage.Damage.{Damage}
+use Rattle.mesa_core.specs.mesa_file.declared.damage.Damage.{Damage}
 use Rattle.mesa_core.specs.mesa_history_spec.Machine.{Recasts}
-use Rattle.mesa_model.specs.mesa_schema.Changes.{Lineage, columns_of}
+use Rattle.mesa_core.specs.mesa_schema.Changes.{Lineage, columns_of}
 use Rattle.mesa_core.specs.Recasts.{CanBeRegrouped, HasRegrouped, IsUnmade, KnownRecast, known_recast}
 use Rattle.mesa_tasks.specs.Errors.{Differs}
 use Rattle.mesa_tasks.specs.Recasts.{IsRecastTask, IsRecasted, claim_of_recast, recast_inputs, recast_table}

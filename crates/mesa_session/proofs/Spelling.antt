@@ -5,12 +5,12 @@ use Rattle.std.specs.List.{AllByRecursion}
 use Rattle.mesa_key.specs.declared.KeyType.{KeyType}
 use Rattle.mesa_key.specs.declared.KeyValue.{KeyValue}
 use Rattle.mesa_key.specs.Spelling.{IsKey, is_spelling, key_of, key_spelling}
-use Rattle.mesa_model.specs.mesa_schema.declared.columns.KeyColumn.{KeyColumn}
-use Rattle.mesa_model.specs.mesa_schema.declared.rows.Row.{Row}
-use Rattle.mesa_model.specs.mesa_schema.Columns.{Columns, chosen, kinds_of}
-use Rattle.mesa_model.specs.mesa_schema.Rows.{AreRowsOf, IsRowOf}
+use Rattle.mesa_core.specs.mesa_schema.declared.columns.KeyColumn.{KeyColumn}
+use Rattle.mesa_core.specs.mesa_schema.declared.rows.Row.{Row}
+use Rattle.mesa_core.specs.mesa_schema.Columns.{Columns, chosen, kinds_of}
+use Rattle.mesa_core.specs.mesa_schema.Rows.{AreRowsOf, IsRowOf}
 use Rattle.mesa_filter.specs.Query.{BuiltQuery, IsQueryOf, group_kinds}
-use Rattle.mesa_query.specs.mesa_answer.Answering.{grouped_columns}
+use Rattle.mesa_core.specs.mesa_answer.Answering.{grouped_columns}
 use Rattle.mesa_query.proofs.mesa_answer.Picked.{chosen-map}
 
 rows_spell : (passes : (types : List KeyType) (key : List KeyValue) → IsKey types key → IsTrue (is_spelling types (key_spelling key))) (s : Columns) (kinds : List KeyType) (rows : List Row) → kinds_of s ≡ kinds → AreRowsOf s rows → AllByRecursion (λ (row : Row). IsTrue (is_spelling kinds row.key)) rows

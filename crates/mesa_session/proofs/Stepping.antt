@@ -9,8 +9,8 @@ use Rattle.mesa_model.specs.declared.entries.Kind.{Kind}
 use Rattle.mesa_model.specs.Entry.{numbers_of}
 use Rattle.mesa_core.specs.mesa_history_spec.Run.{State, Stage, place_of}
 use Rattle.mesa_core.specs.mesa_history_spec.Turns.{place_then}
-use Rattle.mesa_engine.specs.mesa_invariant_spec.Turns.{Shown, Asks, IsTurn, IsSeen, Takes}
-use Rattle.mesa_engine.specs.mesa_invariant_spec.Invariant.{run_at}
+use Rattle.mesa_core.specs.mesa_invariant_spec.Turns.{Shown, Asks, IsTurn, IsSeen, Takes}
+use Rattle.mesa_core.specs.mesa_invariant_spec.Invariant.{run_at}
 use Rattle.mesa_core.specs.Passes.{HasSort, Holds, Mine, at_stage}
 use Rattle.mesa_core.proofs.Turning.{Step, asked, one_more, step_mine}
 use Rattle.mesa_session.proofs.Found.{room_left}

@@ -8,8 +8,8 @@ use Rattle.mesa_core.specs.mesa_history_spec.Legal.{IsLegal, has_ended}
 use Rattle.mesa_core.specs.mesa_history_spec.Run.{State}
 use Rattle.mesa_core.proofs.mesa_history_spec.Ending.{legal_ended}
 use Rattle.mesa_turn.specs.Passes.{Known}
-use Rattle.mesa_engine.specs.mesa_invariant_spec.Turns.{IsSeen, Shown}
-use Rattle.mesa_engine.specs.mesa_invariant_spec.Invariant.{run_at}
+use Rattle.mesa_core.specs.mesa_invariant_spec.Turns.{IsSeen, Shown}
+use Rattle.mesa_core.specs.mesa_invariant_spec.Invariant.{run_at}
 use Rattle.mesa_core.specs.Passes.{HasEnded}
 
 -- the last pass has seen the whole history

@@ -3,7 +3,7 @@ ghost use Rattle.std.specs.Prelude.{◌≡◌, ◌<◌, ◌≤◌, ◌+◌, ◌-
 ghost use Rattle.std.specs.Thread.{IsSync};
 ghost use Rattle.mesa_core.specs.mesa_history_spec.Run.{First, commands_of};
 ghost use Rattle.mesa_model.specs.Entry.{history_of};
-ghost use Rattle.mesa_engine.specs.mesa_history_spec.Rows.{no_rows};
+ghost use Rattle.mesa_core.specs.mesa_history_spec.Rows.{no_rows};
 ghost use Rattle.mesa_turn.specs.History.{has};
 ghost use Rattle.mesa_turn.specs.Passes.{IsExact, Joins};
 ghost use Rattle.mesa_core.specs.Answers.{HasCounted, HaveCounted, answered};

@@ -2,7 +2,7 @@
 ghost use Rattle.std.specs.List.{AllByRecursion};
 ghost use Rattle.std.specs.Prelude.{◌≡◌, ◌⊎◌, ◌-◌, ◌≤◌, ℕ, IsTrue, IfOk, IfErr, IfSome, OnOk, Err, None, length, true};
 ghost use Rattle.mesa_key.specs.Spelling.{is_spelling};
-ghost use Rattle.mesa_model.specs.mesa_schema.declared.rows.Row.{Row as AnyRow};
+ghost use Rattle.mesa_core.specs.mesa_schema.declared.rows.Row.{Row as AnyRow};
 ghost use Rattle.mesa_filter.specs.Query.{group_kinds as kinds_grouped};
 ghost use Rattle.mesa_script.specs.Rows.{rendered};
 ghost use Rattle.mesa_core.specs.Answers.{Owes};
@@ -12,7 +12,7 @@ ghost use Rattle.mesa_tasks.specs.declared.merging.CompactError.TheVariants as c
 ghost use Rattle.mesa_delta.specs.declared.error.FileError.TheVariants as file_error;
 ghost use Rattle.mesa_core.specs.Handing.{AllAreRested, IsRecastGranted, IsRecastHeld};
 ghost use Rattle.mesa_core.specs.mesa_recast_turns.Rested.{HasUnpaid};
-ghost use Rattle.mesa_engine.specs.mesa_history_spec.Rows.{no_rows};
+ghost use Rattle.mesa_core.specs.mesa_history_spec.Rows.{no_rows};
 ghost use Rattle.mesa_compact.specs.Tasks.{AreNumbered};
 ghost use Rattle.mesa_core.specs.Drafts.{owed_by_work};
 ghost use Rattle.mesa_core.specs.Pins.{CanBeAnswered, HasAnswered, heading_in, known_pin};

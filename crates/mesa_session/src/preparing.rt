@@ -1,8 +1,8 @@
 // A load's rows with their files: outside its turns, and once more where what it saw has changed.
 ghost use Rattle.std.specs.Prelude.{◌≡◌, ◌≤◌, ◌<◌, ◌+◌, ◌^◌, ℕ, List, Err, IfOk, IfNone, IfSome, OnErr};
-ghost use Rattle.mesa_disk.specs.mesa_io.Causes.{last};
+ghost use Rattle.mesa_io.specs.Causes.{last};
 ghost use Rattle.mesa_model.specs.declared.entries.Entry.{Entry as AnyEntry};
-ghost use Rattle.mesa_engine.specs.mesa_history_spec.Rows.{no_rows};
+ghost use Rattle.mesa_core.specs.mesa_history_spec.Rows.{no_rows};
 ghost use Rattle.mesa_tasks.specs.declared.prepared.LoadError.TheVariants as load;
 ghost use Rattle.mesa_tasks.specs.Batches.{HasPrepared, batch_ids};
 ghost use Rattle.mesa_tasks.specs.Serials.{AreNext, after_drafts};

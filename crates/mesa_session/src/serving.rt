@@ -2,7 +2,7 @@
 ghost use Rattle.std.specs.Prelude.{◌≡◌, ◌<◌, ◌≤◌, ◌^◌, ℕ, [], not, IfErr, IfOk, length};
 ghost use Rattle.mesa_core.specs.mesa_history_spec.Legal.{IsLegal};
 ghost use Rattle.mesa_core.specs.mesa_history_spec.Run.{commands_of};
-ghost use Rattle.mesa_engine.specs.mesa_history_spec.Rows.{no_rows};
+ghost use Rattle.mesa_core.specs.mesa_history_spec.Rows.{no_rows};
 ghost use Rattle.mesa_core.specs.Answers.{HaveCounted};
 ghost use Rattle.mesa_core.specs.Passes.{turns_of};
 

@@ -1,7 +1,7 @@
 // A session's run.
 ghost use Rattle.std.specs.Prelude.{◌≡◌, ◌<◌, ◌≤◌, ◌*◌, length};
 ghost use Rattle.mesa_core.specs.mesa_history_spec.Run.{First, commands_of as commands_in};
-ghost use Rattle.mesa_engine.specs.mesa_history_spec.Rows.{no_rows};
+ghost use Rattle.mesa_core.specs.mesa_history_spec.Rows.{no_rows};
 ghost use Rattle.mesa_core.specs.Answers.{Answers};
 ghost use Rattle.mesa_core.specs.Passes.{Gains, HasEnded, Mine, Took, at_stage};
 

@@ -1,11 +1,11 @@
 -- Whatever rows a store's files have, a run starts from one projection; and the record of a run changes nothing of its start.
 use Rattle.std.proofs.Common.{◌≡◌, ℕ, List, [], ◌∷◌, map, refl}
 use Rattle.mesa_model.specs.declared.commands.Script.{Script}
-use Rattle.mesa_store_digest.specs.mesa_history_spec.Bare.{bare, bare_table, bare_state}
-use Rattle.mesa_store_digest.specs.mesa_history_spec.Rows.{Rows}
-use Rattle.mesa_check.specs.mesa_image_spec.Catalog.{Stock, Catalog, applied}
-use Rattle.mesa_check.specs.mesa_image_spec.Contents.{kept_of, table_of}
-use Rattle.mesa_check.specs.mesa_recover.Opening.{run_record}
+use Rattle.mesa_session.specs.mesa_history_spec.Bare.{bare, bare_table, bare_state}
+use Rattle.mesa_session.specs.mesa_history_spec.Rows.{Rows}
+use Rattle.mesa_engine.specs.mesa_image_spec.Catalog.{Stock, Catalog, applied}
+use Rattle.mesa_engine.specs.mesa_image_spec.Contents.{kept_of, table_of}
+use Rattle.mesa_recover.specs.Opening.{run_record}
 use Rattle.mesa_shell.specs.StoreStart.{start_of}
 
 tables_alike : (rows others : Rows) (next : ℕ) (ts : List Stock) → map bare_table (map (table_of rows next) ts) ≡ map bare_table (map (table_of others next) ts)

@@ -1,13 +1,13 @@
 -- What the sink was given by a run of one session alone.
 use Rattle.std.proofs.Common.{◌≡◌, ℕ, List, Bool, false, not, subst, Option, None}
 use Rattle.std.specs.Io.KnownBytes.{Appends}
-use Rattle.mesa_history_laws.specs.Alone.{AllTurnsStand, IsAlone, output_alone}
-use Rattle.mesa_history_laws.proofs.OneText.{prints_alone}
+use Rattle.mesa_session.specs.mesa_history_laws.Alone.{AllTurnsStand, IsAlone, output_alone}
+use Rattle.mesa_session.proofs.mesa_history_laws.OneText.{prints_alone}
 use Rattle.mesa_model.specs.declared.commands.Script.{Script}
 use Rattle.mesa_model.specs.declared.entries.Entry.{Entry}
-use Rattle.mesa_check.specs.mesa_history_spec.Legal.{IsLegal}
-use Rattle.mesa_check.specs.mesa_history_spec.Run.{State, begins}
-use Rattle.mesa_invariant_spec.specs.Printing.{HasAll, IsPrinted}
+use Rattle.mesa_session.specs.mesa_history_spec.Legal.{IsLegal}
+use Rattle.mesa_session.specs.mesa_history_spec.Run.{State, begins}
+use Rattle.mesa_session.specs.mesa_invariant_spec.Printing.{HasAll, IsPrinted}
 
 -- Where its sink didn't fail and every turn but a look stands, it is one text.
 pub alone_appends : (start : State) (script : Script) (h : List Entry) (failed : Bool) (before now : Option (List ℕ)) → start.warehouse.closed ≡ None → IsLegal start script h failed → IsPrinted script (begins start) h (not failed) before now

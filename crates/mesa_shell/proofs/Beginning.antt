@@ -7,26 +7,26 @@ use Rattle.mesa_disk.specs.declared.area.Area.{Area}
 use Rattle.mesa_model.specs.Warehouse.{Table}
 use Rattle.mesa_model.specs.declared.commands.Command.{Command}
 use Rattle.mesa_model.specs.declared.commands.Script.{Script}
-use Rattle.mesa_check.specs.mesa_history_spec.Claims.{HasRanges}
-use Rattle.mesa_check.specs.mesa_history_spec.Found.{Found, kept_in}
-use Rattle.mesa_check.specs.mesa_history_spec.Replay.{runs}
-use Rattle.mesa_check.specs.mesa_history_spec.Run.{begins}
-use Rattle.mesa_store_digest.specs.mesa_history_spec.Bare.{bare_table}
-use Rattle.mesa_store_digest.specs.mesa_history_spec.Rows.{Rows}
+use Rattle.mesa_session.specs.mesa_history_spec.Claims.{HasRanges}
+use Rattle.mesa_session.specs.mesa_history_spec.Found.{Found, kept_in}
+use Rattle.mesa_session.specs.mesa_history_spec.Replay.{runs}
+use Rattle.mesa_session.specs.mesa_history_spec.Run.{begins}
+use Rattle.mesa_session.specs.mesa_history_spec.Bare.{bare_table}
+use Rattle.mesa_session.specs.mesa_history_spec.Rows.{Rows}
 use Rattle.mesa_engine.specs.mesa_commit.Filed.{AreFresh}
 use Rattle.mesa_engine.specs.mesa_commit.Holding.{Among}
-use Rattle.mesa_engine.specs.mesa_invariant_spec.Books.{AreBooksOf}
-use Rattle.mesa_check.specs.mesa_catalog.mesa_image_spec.Catalog.{Stock, Catalog, ranges_of}
-use Rattle.mesa_check.specs.mesa_catalog.mesa_image_spec.Contents.{kept_of, table_of}
-use Rattle.mesa_check.specs.mesa_catalog.mesa_image_spec.Sound.{StandsFor}
-use Rattle.mesa_check.specs.mesa_catalog.mesa_image_spec.Ids.{named}
-use Rattle.mesa_check.proofs.mesa_catalog.mesa_image_spec.AllSourced.{all_found}
+use Rattle.mesa_session.specs.mesa_invariant_spec.Books.{AreBooksOf}
+use Rattle.mesa_engine.specs.mesa_image_spec.Catalog.{Stock, Catalog, ranges_of}
+use Rattle.mesa_engine.specs.mesa_image_spec.Contents.{kept_of, table_of}
+use Rattle.mesa_engine.specs.mesa_image_spec.Sound.{StandsFor}
+use Rattle.mesa_engine.specs.mesa_image_spec.Ids.{named}
+use Rattle.mesa_engine.proofs.mesa_image_spec.AllSourced.{all_found}
 use Rattle.mesa_engine.specs.EngineState.{books_of, first_id, projection_of}
 use Rattle.mesa_engine.specs.Vault.{IsReady, Starts}
-use Rattle.mesa_session.specs.mesa_engine.Memory.{opened_state}
-use Rattle.mesa_session.specs.mesa_engine.Beginning.{IsBegun}
-use Rattle.mesa_session.specs.mesa_engine.Engine.{most_turns, starts_of}
-use Rattle.mesa_check.specs.mesa_catalog.declared.begun.Begun.{Begun}
+use Rattle.mesa_engine.specs.Memory.{opened_state}
+use Rattle.mesa_engine.specs.Beginning.{IsBegun}
+use Rattle.mesa_engine.specs.Engine.{most_turns, starts_of}
+use Rattle.mesa_engine.specs.mesa_catalog.declared.begun.Begun.{Begun}
 use Rattle.mesa_session.specs.mesa_core.Passes.{turns_of}
 use Rattle.mesa_shell.specs.Scripts.{IsSmall, commands_in}
 use Rattle.mesa_shell.specs.StoreStart.{start_of}

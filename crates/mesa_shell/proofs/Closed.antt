@@ -11,13 +11,13 @@ use Rattle.mesa_model.specs.declared.entries.Outcome.TheVariants as outcome
 use Rattle.mesa_model.specs.declared.replies.Refusal.{Refusal}
 use Rattle.mesa_model.specs.declared.replies.Refusal.TheVariants as no
 use Rattle.mesa_model.specs.Warehouse.{Warehouse}
-use Rattle.mesa_check.specs.mesa_history_spec.Found.{Found, Kept, WasTried, kept_in}
-use Rattle.mesa_check.specs.mesa_history_spec.Legal.{AllFit, Fits, is_answered, is_due_at, same_kind}
-use Rattle.mesa_check.specs.mesa_history_spec.Replay.{Turned, closed_if, closes, closes_as, go, refused_turn, runs, some_damage, standing, turn_of, turned}
-use Rattle.mesa_check.specs.mesa_history_spec.Run.{State, Stage, First, Looked, Answered, Granted, Renewed, Finished, CutOff, Run, begins, place_of}
-use Rattle.mesa_check.proofs.mesa_history_spec.ClosedRuns.{turned-closed}
-use Rattle.mesa_check.proofs.mesa_history_spec.Due.{due_turn}
-use Rattle.mesa_check.proofs.mesa_history_spec.More.{state_after, turned_is}
+use Rattle.mesa_session.specs.mesa_history_spec.Found.{Found, Kept, WasTried, kept_in}
+use Rattle.mesa_session.specs.mesa_history_spec.Legal.{AllFit, Fits, is_answered, is_due_at, same_kind}
+use Rattle.mesa_session.specs.mesa_history_spec.Replay.{Turned, closed_if, closes, closes_as, go, refused_turn, runs, some_damage, standing, turn_of, turned}
+use Rattle.mesa_session.specs.mesa_history_spec.Run.{State, Stage, First, Looked, Answered, Granted, Renewed, Finished, CutOff, Run, begins, place_of}
+use Rattle.mesa_session.proofs.mesa_history_spec.ClosedRuns.{turned-closed}
+use Rattle.mesa_session.proofs.mesa_history_spec.Due.{due_turn}
+use Rattle.mesa_session.proofs.mesa_history_spec.More.{state_after, turned_is}
 
 -- the state closed at some position
 abbrev IsClosed : State → Type 0

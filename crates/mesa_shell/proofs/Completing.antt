@@ -1,21 +1,21 @@
 -- Completeness follows from how calls end.
 use Rattle.std.proofs.Common.{◌≡◌, ⊎_elim, inl, inr, ◌≤◌, ◌<◌, ◌+◌, ℕ, List, [], length, Bool, true, false, sym, ◌∙◌, ap, subst, arith, Option, Some, None}
 use Rattle.std.specs.Prelude.{IfSome, Result, Ok, Err, if◌then◌else◌}
-use Rattle.mesa_disk.specs.mesa_io.Causes.{Rose}
+use Rattle.mesa_io.specs.Causes.{Rose}
 use Rattle.mesa_model.specs.declared.commands.Script.{Script}
-use Rattle.mesa_check.specs.mesa_history_spec.Counting.{count_in, is_disk_fault, is_bench_fault}
-use Rattle.mesa_check.specs.mesa_history_spec.Refused.{some_refused}
-use Rattle.mesa_check.specs.mesa_history_spec.Run.{Run, begins}
+use Rattle.mesa_session.specs.mesa_history_spec.Counting.{count_in, is_disk_fault, is_bench_fault}
+use Rattle.mesa_session.specs.mesa_history_spec.Refused.{some_refused}
+use Rattle.mesa_session.specs.mesa_history_spec.Run.{Run, begins}
 use Rattle.mesa_script.specs.declared.script.ScriptError.{ScriptError}
 use Rattle.mesa_script.specs.Generated.{generated}
 use Rattle.mesa_script.specs.Script.{script_of}
 use Rattle.mesa_parse.specs.declared.forms.Form.{Form}
 use Rattle.mesa_parse.specs.declared.forms.Form.TheVariants as form
-use Rattle.mesa_store_digest.specs.mesa_history_spec.Rows.{Rows}
-use Rattle.mesa_check.specs.mesa_image_spec.Catalog.{Catalog}
-use Rattle.mesa_check.specs.mesa_recover.declared.error.OpenError.{OpenError}
-use Rattle.mesa_check.specs.mesa_recover.declared.error.OpenError.TheVariants as open_error
-use Rattle.mesa_check.specs.mesa_recover.Opening.{ReadsAs}
+use Rattle.mesa_session.specs.mesa_history_spec.Rows.{Rows}
+use Rattle.mesa_engine.specs.mesa_image_spec.Catalog.{Catalog}
+use Rattle.mesa_recover.specs.declared.error.OpenError.{OpenError}
+use Rattle.mesa_recover.specs.declared.error.OpenError.TheVariants as open_error
+use Rattle.mesa_recover.specs.Opening.{ReadsAs}
 use Rattle.mesa_shell.specs.Ports.{Ports, in_memory}
 use Rattle.mesa_shell.specs.Exits.{max_input}
 use Rattle.mesa_shell.specs.Scripts.{IsSmall}
@@ -25,7 +25,7 @@ use Rattle.mesa_shell.specs.Ending.{Ended, EndedOpening, Ends, EndsForm, EndsGen
 use Rattle.mesa_shell.specs.Completing.{AllQuiet, AsksFor, Completes, HasRoomToRun, NothingFailed}
 use Rattle.mesa_shell.specs.declared.done.Devices.{Devices}
 use Rattle.mesa_shell.specs.declared.done.Done.{Done}
-use Rattle.mesa_history_laws.proofs.Settled.{ends_unskipped, none_skipped}
+use Rattle.mesa_session.proofs.mesa_history_laws.Settled.{ends_unskipped, none_skipped}
 use Rattle.mesa_shell.proofs.Quiet.{all_quiet, not_risen, sessions_there}
 use Rattle.mesa_shell.proofs.Readable.{reads_same, sound_fits, sound_whole}
 use Rattle.mesa_shell.proofs.Small.{scripts_small}

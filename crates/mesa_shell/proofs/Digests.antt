@@ -1,6 +1,6 @@
 -- How a call ends that digests a relation, from the opening's clauses and those of the look-up.
 use Rattle.std.proofs.Common.{◌≡◌, ◌⊎◌, inl, inr, ℕ, List, refl, sym, subst}
-use Rattle.mesa_disk.specs.mesa_io.Causes.{Rose}
+use Rattle.mesa_io.specs.Causes.{Rose}
 use Rattle.mesa_disk.specs.Story.{Story, Unmoved}
 use Rattle.mesa_disk.specs.declared.area.Area.{Area}
 use Rattle.mesa_delta.specs.declared.error.FileError.TheVariants as file_error
@@ -8,10 +8,10 @@ use Rattle.mesa_store_digest.specs.Latest.{HasLookReason}
 use Rattle.mesa_store_digest.specs.declared.error.LookError.{LookError}
 use Rattle.mesa_store_digest.specs.declared.error.LookError.TheVariants as look
 use Rattle.mesa_store_digest.specs.Looked.{IsDigestOf}
-use Rattle.mesa_check.specs.mesa_catalog.mesa_image_spec.Catalog.{Catalog}
-use Rattle.mesa_shell.specs.mesa_recover.declared.error.OpenError.{OpenError}
-use Rattle.mesa_shell.specs.mesa_recover.declared.error.OpenError.TheVariants as open_error
-use Rattle.mesa_shell.specs.mesa_recover.Opening.{HasReason, IsRead}
+use Rattle.mesa_engine.specs.mesa_image_spec.Catalog.{Catalog}
+use Rattle.mesa_recover.specs.declared.error.OpenError.{OpenError}
+use Rattle.mesa_recover.specs.declared.error.OpenError.TheVariants as open_error
+use Rattle.mesa_recover.specs.Opening.{HasReason, IsRead}
 use Rattle.mesa_shell.specs.Ports.{Ports}
 use Rattle.mesa_shell.specs.Exits.{answered_status, digest_line, no_table_line, no_version_line, open_line, open_status, refused_status}
 use Rattle.mesa_shell.specs.Ending.{Ended, EndsDigest, EndsNamed}

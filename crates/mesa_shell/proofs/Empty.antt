@@ -2,14 +2,14 @@
 use Rattle.std.proofs.Common.{◌≡◌, ℕ, ◌≤◌, List, length, inl, [], refl, sym, subst, arith}
 use Rattle.mesa_disk.specs.Image.{Image}
 use Rattle.mesa_disk.specs.declared.area.Area.TheVariants.{Zero}
-use Rattle.mesa_journal.specs.Journal.{IsJournal}
+use Rattle.mesa_recover.specs.mesa_journal.Journal.{IsJournal}
 use Rattle.mesa_model.specs.declared.commands.Script.{Script}
-use Rattle.mesa_check.specs.mesa_history_spec.Run.{nothing_there}
-use Rattle.mesa_store_digest.specs.mesa_history_spec.Rows.{no_rows}
-use Rattle.mesa_check.specs.mesa_image_spec.Catalog.{empty_catalog}
-use Rattle.mesa_check.specs.mesa_image_spec.Contents.{kept_of}
-use Rattle.mesa_check.specs.mesa_image_spec.Fitting.{catalog_from}
-use Rattle.mesa_check.specs.mesa_image_spec.Sound.{IsSoundAs, StandsFor}
+use Rattle.mesa_session.specs.mesa_history_spec.Run.{nothing_there}
+use Rattle.mesa_session.specs.mesa_history_spec.Rows.{no_rows}
+use Rattle.mesa_engine.specs.mesa_image_spec.Catalog.{empty_catalog}
+use Rattle.mesa_engine.specs.mesa_image_spec.Contents.{kept_of}
+use Rattle.mesa_engine.specs.mesa_image_spec.Fitting.{catalog_from}
+use Rattle.mesa_engine.specs.mesa_image_spec.Sound.{IsSoundAs, StandsFor}
 use Rattle.mesa_shell.specs.Life.{kept_at_first}
 use Rattle.mesa_shell.specs.StoreStart.{start_of}
 

@@ -1,4 +1,3 @@
-pub use Rattle.mesa_check.proofs.mesa_recover as mesa_recover
 pub mod Small
 pub mod Alike
 pub mod WellFormed

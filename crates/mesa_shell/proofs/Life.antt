@@ -2,20 +2,20 @@
 use Rattle.std.proofs.Common.{◌≡◌, ℕ, ◌-◌, List, [], ◌∷◌, map, cond, refl, true, ◌∙◌, ap, arith}
 use Rattle.std.specs.Prelude.{filter, nat_le}
 use Rattle.std.proofs.lemmas.Bool.Decides.{nat_tests}
-use Rattle.mesa_check.specs.mesa_schema.Changes.{columns_of, epoch_of, lifted}
-use Rattle.mesa_check.specs.mesa_schema.Columns.{aggs_of}
-use Rattle.mesa_check.specs.mesa_schema.Folded.{folded}
-use Rattle.mesa_check.proofs.mesa_schema.Lists.{all_so}
+use Rattle.mesa_schema.specs.Changes.{columns_of, epoch_of, lifted}
+use Rattle.mesa_schema.specs.Columns.{aggs_of}
+use Rattle.mesa_schema.specs.Folded.{folded}
+use Rattle.mesa_schema.proofs.Lists.{all_so}
 use Rattle.mesa_model.specs.Warehouse.{empty_warehouse}
 use Rattle.mesa_model.specs.WellFormed.{IsTable, IsWellFormed}
-use Rattle.mesa_check.specs.mesa_history_spec.Found.{Kept, kept_in}
-use Rattle.mesa_check.specs.mesa_history_spec.Law.{carried_in, written_in}
-use Rattle.mesa_check.specs.mesa_history_spec.Replay.{runs}
-use Rattle.mesa_check.specs.mesa_history_spec.Run.{Run, begins}
-use Rattle.mesa_check.specs.mesa_history_spec.Sources.{Source, Written, rows_now, source_written, sources_to}
-use Rattle.mesa_history_laws.proofs.FoldLaw.{law_runs, law_starts, start_early}
-use Rattle.mesa_history_laws.proofs.Kept.{Law, all_written, first_written, law_late}
-use Rattle.mesa_history_laws.proofs.WellFormed.{empty_well, runs_well}
+use Rattle.mesa_session.specs.mesa_history_spec.Found.{Kept, kept_in}
+use Rattle.mesa_session.specs.mesa_history_spec.Law.{carried_in, written_in}
+use Rattle.mesa_session.specs.mesa_history_spec.Replay.{runs}
+use Rattle.mesa_session.specs.mesa_history_spec.Run.{Run, begins}
+use Rattle.mesa_session.specs.mesa_history_spec.Sources.{Source, Written, rows_now, source_written, sources_to}
+use Rattle.mesa_session.proofs.mesa_history_laws.FoldLaw.{law_runs, law_starts, start_early}
+use Rattle.mesa_session.proofs.mesa_history_laws.Kept.{Law, all_written, first_written, law_late}
+use Rattle.mesa_session.proofs.mesa_history_laws.WellFormed.{empty_well, runs_well}
 use Rattle.mesa_shell.specs.Life.{LifeLaw, Stretch, kept_after, kept_at_first, kept_next, warehouse_of, written_over}
 use Rattle.mesa_shell.specs.StoreStart.{state_of}
 

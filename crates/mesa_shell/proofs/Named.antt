@@ -2,29 +2,29 @@
 use Rattle.std.proofs.Common.{◌≡◌, ℕ, zero, suc, ◌+◌, List, [], ◌∷◌, take, drop, length, Option, Some, None, Bool, true, false, refl, sym, subst}
 use Rattle.std.specs.Prelude.{unwrap_or}
 use Rattle.std.specs.List.{AllByRecursion}
-use Rattle.mesa_disk.specs.mesa_key.Spelling.{AreBytes}
+use Rattle.mesa_key.specs.Spelling.{AreBytes}
 use Rattle.mesa_disk.specs.declared.area.Area.{Area}
-use Rattle.mesa_check.specs.mesa_schema.declared.changes.Change.{Change}
-use Rattle.mesa_check.specs.mesa_schema.declared.changes.Change.TheVariants.{AddKey, AddValue, DropValue}
-use Rattle.mesa_check.specs.mesa_schema.declared.columns.ValueColumn.{ValueColumn}
-use Rattle.mesa_check.specs.mesa_schema.Columns.{Columns, place_of, value_names}
-use Rattle.mesa_check.specs.mesa_schema.Changes.{changed, columns_after, columns_of}
-use Rattle.mesa_check.proofs.mesa_schema.Lists.{all_append, all_at, all_drop, all_map, all_set, all_so}
-use Rattle.mesa_check.specs.mesa_schema.Recasts.{recast_values}
-use Rattle.mesa_check.proofs.mesa_schema.PresentRows.{columns_more}
+use Rattle.mesa_schema.specs.declared.changes.Change.{Change}
+use Rattle.mesa_schema.specs.declared.changes.Change.TheVariants.{AddKey, AddValue, DropValue}
+use Rattle.mesa_schema.specs.declared.columns.ValueColumn.{ValueColumn}
+use Rattle.mesa_schema.specs.Columns.{Columns, place_of, value_names}
+use Rattle.mesa_schema.specs.Changes.{changed, columns_after, columns_of}
+use Rattle.mesa_schema.proofs.Lists.{all_append, all_at, all_drop, all_map, all_set, all_so}
+use Rattle.mesa_schema.specs.Recasts.{recast_values}
+use Rattle.mesa_schema.proofs.PresentRows.{columns_more}
 use Rattle.mesa_model.specs.declared.commands.Script.{Script}
-use Rattle.mesa_store_digest.specs.mesa_history_spec.Rows.{Rows}
-use Rattle.mesa_check.specs.mesa_record.declared.record.Record.{Record}
-use Rattle.mesa_check.specs.mesa_record.declared.record.Record.TheVariants as record_of
-use Rattle.mesa_check.specs.mesa_record.declared.record.Part.{Part}
-use Rattle.mesa_check.specs.mesa_record.declared.checkpoint.StatedTable.{StatedTable}
-use Rattle.mesa_check.specs.mesa_record.declared.checkpoint.Checkpoint.{Checkpoint}
-use Rattle.mesa_check.specs.mesa_record.Rules.{IsNamed, IsTyped, IsTypedChange, IsTypedCheckpoint, IsTypedTable}
-use Rattle.mesa_check.specs.mesa_image_spec.Catalog.{Catalog, Delta, Stock, applied, new_stock, no_stock, part_of, stock_at, stock_changed, stock_from, stock_loaded, stock_recast, stock_swapped, stocks_loaded, merged_delta, recast_in}
-use Rattle.mesa_check.specs.mesa_image_spec.Contents.{kept_of, table_of}
-use Rattle.mesa_check.specs.mesa_image_spec.Checkpoint.{stated, stock_stated}
-use Rattle.mesa_check.specs.mesa_image_spec.Journaled.{catalog}
-use Rattle.mesa_check.proofs.mesa_recover.mesa_image_spec.Wholes.{whole}
+use Rattle.mesa_session.specs.mesa_history_spec.Rows.{Rows}
+use Rattle.mesa_engine.specs.mesa_record.declared.record.Record.{Record}
+use Rattle.mesa_engine.specs.mesa_record.declared.record.Record.TheVariants as record_of
+use Rattle.mesa_engine.specs.mesa_record.declared.record.Part.{Part}
+use Rattle.mesa_engine.specs.mesa_record.declared.checkpoint.StatedTable.{StatedTable}
+use Rattle.mesa_engine.specs.mesa_record.declared.checkpoint.Checkpoint.{Checkpoint}
+use Rattle.mesa_engine.specs.mesa_record.Rules.{IsNamed, IsTyped, IsTypedChange, IsTypedCheckpoint, IsTypedTable}
+use Rattle.mesa_engine.specs.mesa_image_spec.Catalog.{Catalog, Delta, Stock, applied, new_stock, no_stock, part_of, stock_at, stock_changed, stock_from, stock_loaded, stock_recast, stock_swapped, stocks_loaded, merged_delta, recast_in}
+use Rattle.mesa_engine.specs.mesa_image_spec.Contents.{kept_of, table_of}
+use Rattle.mesa_engine.specs.mesa_image_spec.Checkpoint.{stated, stock_stated}
+use Rattle.mesa_engine.specs.mesa_image_spec.Journaled.{catalog}
+use Rattle.mesa_engine.proofs.mesa_image_spec.Wholes.{whole}
 use Rattle.mesa_generate.specs.Excerpt.{ArePlainColumns, HasPlainNames, IsPlainColumn, IsPlainTable}
 use Rattle.mesa_generate.specs.Lines.{IsUnbroken}
 use Rattle.mesa_generate.proofs.Breaks.{name_unbroken}

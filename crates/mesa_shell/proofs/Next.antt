@@ -2,26 +2,26 @@
 use Rattle.std.proofs.Common.{◌≡◌, ◌⊎◌, inl, inr, ◌≤◌, ◌<◌, ℕ, List, [], ◌∷◌, ◌++◌, Bool, true, false, refl, sym, ◌∙◌, ap, subst, arith, Option, Some, None, Result, Ok, Err}
 use Rattle.std.specs.List.{AllByRecursion}
 use Rattle.std.specs.Prelude.{IfSome}
-use Rattle.mesa_disk.specs.mesa_io.Causes.{last}
+use Rattle.mesa_io.specs.Causes.{last}
 use Rattle.mesa_disk.specs.Image.{Image}
 use Rattle.mesa_disk.specs.Story.{Story, Unmoved}
 use Rattle.mesa_model.specs.declared.commands.Script.{Script}
 use Rattle.mesa_model.specs.declared.entries.Entry.{Entry}
-use Rattle.mesa_check.specs.mesa_history_spec.Found.{Kept, kept_in}
-use Rattle.mesa_check.specs.mesa_history_spec.Replay.{runs}
-use Rattle.mesa_check.specs.mesa_history_spec.Run.{begins}
+use Rattle.mesa_session.specs.mesa_history_spec.Found.{Kept, kept_in}
+use Rattle.mesa_session.specs.mesa_history_spec.Replay.{runs}
+use Rattle.mesa_session.specs.mesa_history_spec.Run.{begins}
 use Rattle.mesa_script.specs.declared.script.ScriptError.{ScriptError}
 use Rattle.mesa_script.specs.Generated.{generated}
 use Rattle.mesa_script.specs.Script.{script_of}
 use Rattle.mesa_parse.specs.declared.forms.Form.{Form}
 use Rattle.mesa_parse.specs.declared.forms.Form.TheVariants as form
-use Rattle.mesa_store_digest.specs.mesa_history_spec.Rows.{Rows}
-use Rattle.mesa_invariant_spec.specs.Invariant.{run_at}
-use Rattle.mesa_check.specs.mesa_image_spec.Catalog.{Catalog}
-use Rattle.mesa_check.specs.mesa_image_spec.Contents.{kept_of}
-use Rattle.mesa_check.specs.mesa_image_spec.Sound.{StandsFor}
-use Rattle.mesa_check.specs.mesa_recover.declared.error.OpenError.{OpenError}
-use Rattle.mesa_check.specs.mesa_recover.Opening.{IsSoundStart}
+use Rattle.mesa_session.specs.mesa_history_spec.Rows.{Rows}
+use Rattle.mesa_session.specs.mesa_invariant_spec.Invariant.{run_at}
+use Rattle.mesa_engine.specs.mesa_image_spec.Catalog.{Catalog}
+use Rattle.mesa_engine.specs.mesa_image_spec.Contents.{kept_of}
+use Rattle.mesa_engine.specs.mesa_image_spec.Sound.{StandsFor}
+use Rattle.mesa_recover.specs.declared.error.OpenError.{OpenError}
+use Rattle.mesa_recover.specs.Opening.{IsSoundStart}
 use Rattle.mesa_shell.specs.Ports.{Ports, in_memory}
 use Rattle.mesa_shell.specs.StoreStart.{AreTold, IsSoundStore, start_of}
 use Rattle.mesa_shell.specs.Run.{Ran}

@@ -2,24 +2,24 @@
 use Rattle.std.proofs.Common.{◌≡◌, ⊎_elim, ℕ, ◌+◌, ◌<◌, ◌≤◌, [], sym, ◌∙◌, ap, subst, arith, Some, None}
 use Rattle.std.proofs.lemmas.Bool.{cases_lt}
 use Rattle.std.specs.Prelude.{Result, Ok, Err, IfOk, IfErr}
-use Rattle.mesa_disk.specs.mesa_io.Causes.{last}
+use Rattle.mesa_io.specs.Causes.{last}
 use Rattle.mesa_disk.specs.Image.{Image}
 use Rattle.mesa_disk.specs.Story.{Story, Unmoved}
 use Rattle.mesa_engine.specs.mesa_commit.Filed.{FilesAdopted}
-use Rattle.mesa_store_digest.specs.mesa_history_spec.Rows.{Rows}
-use Rattle.mesa_check.specs.mesa_catalog.mesa_image_spec.Catalog.{Catalog, applied}
-use Rattle.mesa_check.specs.mesa_catalog.mesa_image_spec.Shape.{IsCatalog}
-use Rattle.mesa_check.specs.mesa_catalog.mesa_image_spec.Fitting.{max_runs}
-use Rattle.mesa_check.specs.mesa_catalog.mesa_image_spec.Countable.{AreCounted}
-use Rattle.mesa_check.specs.mesa_catalog.mesa_image_spec.Ids.{HasOwnIds, named}
-use Rattle.mesa_check.specs.mesa_catalog.mesa_image_spec.Recordable.{AreRecordable}
-use Rattle.mesa_check.proofs.mesa_catalog.mesa_image_spec.Wholes.{catalog_whole}
-use Rattle.mesa_shell.specs.mesa_recover.declared.error.OpenError.{OpenError}
-use Rattle.mesa_shell.specs.mesa_recover.declared.error.OpenError.TheVariants as open_error
-use Rattle.mesa_shell.specs.mesa_recover.Opening.{HasReason, IsHeldAs, IsSoundStart, Keeps, first_id, most_runs, run_record}
-use Rattle.mesa_shell.proofs.mesa_recover.Beginnings.{runs_few}
+use Rattle.mesa_session.specs.mesa_history_spec.Rows.{Rows}
+use Rattle.mesa_engine.specs.mesa_image_spec.Catalog.{Catalog, applied}
+use Rattle.mesa_engine.specs.mesa_image_spec.Shape.{IsCatalog}
+use Rattle.mesa_engine.specs.mesa_image_spec.Fitting.{max_runs}
+use Rattle.mesa_engine.specs.mesa_image_spec.Countable.{AreCounted}
+use Rattle.mesa_engine.specs.mesa_image_spec.Ids.{HasOwnIds, named}
+use Rattle.mesa_engine.specs.mesa_image_spec.Recordable.{AreRecordable}
+use Rattle.mesa_engine.proofs.mesa_image_spec.Wholes.{catalog_whole}
+use Rattle.mesa_recover.specs.declared.error.OpenError.{OpenError}
+use Rattle.mesa_recover.specs.declared.error.OpenError.TheVariants as open_error
+use Rattle.mesa_recover.specs.Opening.{HasReason, IsHeldAs, IsSoundStart, Keeps, first_id, most_runs, run_record}
+use Rattle.mesa_recover.proofs.Beginnings.{runs_few}
 use Rattle.mesa_engine.specs.Vault.{IsRead}
-use Rattle.mesa_check.specs.mesa_catalog.declared.begun.Begun.{Begun}
+use Rattle.mesa_engine.specs.mesa_catalog.declared.begun.Begun.{Begun}
 use Rattle.mesa_recover.specs.declared.opened.Opened.{Opened}
 use Rattle.mesa_recover.specs.Opened.{IsOpened}
 use Rattle.mesa_shell.specs.Unopened.{HasSameCounts, IsUnopened}

@@ -3,23 +3,23 @@ use Rattle.std.proofs.Common.{◌≡◌, ℕ, ◌+◌, ◌^◌, ◌<◌, ◌≤�
 use Rattle.std.proofs.lemmas.List.{append-nil, drop_all, take_all}
 use Rattle.std.specs.List.{AllByRecursion}
 use Rattle.std.specs.Prelude.{◌==◌, ◌&&◌}
-use Rattle.mesa_disk.specs.mesa_io.Causes.{last}
+use Rattle.mesa_io.specs.Causes.{last}
 use Rattle.mesa_disk.specs.Story.{Story}
 use Rattle.mesa_model.specs.declared.commands.Script.{Script}
 use Rattle.mesa_model.specs.declared.entries.Entry.{Entry}
-use Rattle.mesa_check.specs.mesa_history_spec.Counting.{answers_bench, count_in, is_bench_fault, is_disk_fault, one_if}
-use Rattle.mesa_check.specs.mesa_history_spec.Legal.{IsLegal}
-use Rattle.mesa_check.specs.mesa_history_spec.Replay.{closes, go, runs}
-use Rattle.mesa_check.specs.mesa_history_spec.Run.{Run, State, begins}
-use Rattle.mesa_store_digest.specs.mesa_history_spec.Bare.{bare_run, bare_state}
-use Rattle.mesa_store_digest.proofs.mesa_history_spec.Alike.{go_alike, legal_alike}
+use Rattle.mesa_session.specs.mesa_history_spec.Counting.{answers_bench, count_in, is_bench_fault, is_disk_fault, one_if}
+use Rattle.mesa_session.specs.mesa_history_spec.Legal.{IsLegal}
+use Rattle.mesa_session.specs.mesa_history_spec.Replay.{closes, go, runs}
+use Rattle.mesa_session.specs.mesa_history_spec.Run.{Run, State, begins}
+use Rattle.mesa_session.specs.mesa_history_spec.Bare.{bare_run, bare_state}
+use Rattle.mesa_session.proofs.mesa_history_spec.Alike.{go_alike, legal_alike}
 use Rattle.mesa_session.specs.mesa_core.Answers.{AreTimely, HasCounted, HaveCounted}
-use Rattle.mesa_engine.specs.mesa_invariant_spec.Printing.{IsPrintedButRows}
-use Rattle.mesa_engine.specs.mesa_invariant_spec.Invariant.{HasCounted as HasCountedFaults}
+use Rattle.mesa_session.specs.mesa_invariant_spec.Printing.{IsPrintedButRows}
+use Rattle.mesa_session.specs.mesa_invariant_spec.Invariant.{HasCounted as HasCountedFaults}
 use Rattle.mesa_shell.specs.Counting.{HasBenchCounts}
 use Rattle.mesa_shell.specs.Run.{RanAnyhow}
 use Rattle.mesa_engine.specs.Vault.{IsRead}
-use Rattle.mesa_session.specs.mesa_engine.Ending.{ReadsState}
+use Rattle.mesa_engine.specs.Ending.{ReadsState}
 
 -- ---- moments
 

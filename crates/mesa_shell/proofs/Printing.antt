@@ -3,8 +3,8 @@ use Rattle.std.proofs.Common.{◌≡◌, inl, inr, ℕ, ◌/◌, ◌%◌, List, 
 use Rattle.std.specs.Prelude.{if◌then◌else◌}
 use Rattle.std.specs.Io.KnownBytes.{Appends}
 use Rattle.std.proofs.KnownBytes.{Appends-nil}
-use Rattle.mesa_disk.specs.mesa_io.Causes.{Rose}
-use Rattle.mesa_shell.specs.mesa_filter.Hex.{hex_digit, hex_of}
+use Rattle.mesa_io.specs.Causes.{Rose}
+use Rattle.mesa_session.specs.mesa_filter.Hex.{hex_digit, hex_of}
 use Rattle.mesa_print.specs.declared.printer.Printer.{Printer}
 use Rattle.mesa_print.specs.Printed.{Printed}
 use Rattle.mesa_shell.specs.Ports.{Ports}

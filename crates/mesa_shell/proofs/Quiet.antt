@@ -4,19 +4,19 @@ use Rattle.std.specs.Prelude.{slice_get, slice_index_or}
 use Rattle.std.proofs.lemmas.Bool.{cases_lt}
 use Rattle.std.proofs.Math.Nat.{min-le_left, min-le_right}
 use Rattle.std.specs.List.{AllByRecursion}
-use Rattle.mesa_disk.specs.mesa_io.Causes.{Rose, last}
+use Rattle.mesa_io.specs.Causes.{Rose, last}
 use Rattle.mesa_model.specs.declared.commands.Command.{Command}
 use Rattle.mesa_model.specs.declared.commands.Script.{Script}
 use Rattle.mesa_model.specs.declared.entries.Entry.{Entry}
 use Rattle.mesa_model.specs.declared.entries.Outcome.{Outcome}
 use Rattle.mesa_model.specs.declared.entries.Outcome.TheVariants as outcome
-use Rattle.mesa_check.specs.mesa_history_spec.Counting.{count_in, is_disk_fault, is_bench_fault, answers_disk, answers_bench, one_if}
-use Rattle.mesa_check.specs.mesa_history_spec.Legal.{AllFit, is_due, is_due_of}
-use Rattle.mesa_check.specs.mesa_history_spec.Replay.{is_skip, is_skipped, closes, go}
-use Rattle.mesa_check.specs.mesa_history_spec.Run.{Place, Run, command_of, numbered, place_of}
-use Rattle.mesa_check.proofs.mesa_history_spec.Places.{same_is}
+use Rattle.mesa_session.specs.mesa_history_spec.Counting.{count_in, is_disk_fault, is_bench_fault, answers_disk, answers_bench, one_if}
+use Rattle.mesa_session.specs.mesa_history_spec.Legal.{AllFit, is_due, is_due_of}
+use Rattle.mesa_session.specs.mesa_history_spec.Replay.{is_skip, is_skipped, closes, go}
+use Rattle.mesa_session.specs.mesa_history_spec.Run.{Place, Run, command_of, numbered, place_of}
+use Rattle.mesa_session.proofs.mesa_history_spec.Places.{same_is}
 use Rattle.mesa_shell.specs.Completing.{is_quiet, AllQuiet}
-use Rattle.mesa_invariant_spec.specs.Undamaged.{is_damaged, NoneDamaged}
+use Rattle.mesa_session.specs.mesa_invariant_spec.Undamaged.{is_damaged, NoneDamaged}
 
 -- ---- each entry is of a session that is there
 

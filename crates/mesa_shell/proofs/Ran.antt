@@ -1,24 +1,24 @@
 -- What a call's run was to the store that the call was given.
 use Rattle.std.proofs.Common.{◌≡◌, ℕ, ◌+◌, ◌<◌, [], refl, sym, ◌∙◌, ap, subst, arith, inl, inr, ◌∷◌, ◌++◌, List}
 use Rattle.std.specs.Prelude.{if◌then◌else◌}
-use Rattle.mesa_disk.specs.mesa_io.Causes.{last}
+use Rattle.mesa_io.specs.Causes.{last}
 use Rattle.mesa_disk.specs.Image.{Image}
 use Rattle.mesa_disk.specs.Story.{Story}
 use Rattle.mesa_model.specs.declared.commands.Script.{Script}
 use Rattle.mesa_model.specs.declared.entries.Entry.{Entry}
-use Rattle.mesa_check.specs.mesa_history_spec.Found.{Found, kept_in}
-use Rattle.mesa_check.specs.mesa_history_spec.Refused.{some_refused}
-use Rattle.mesa_check.specs.mesa_history_spec.Replay.{runs}
-use Rattle.mesa_check.specs.mesa_history_spec.Run.{begins}
-use Rattle.mesa_history_laws.specs.Printed.{AnswersFromTheFold}
-use Rattle.mesa_history_laws.proofs.ReachedAnswers.{pages_fold}
-use Rattle.mesa_store_digest.specs.mesa_history_spec.Rows.{Rows}
-use Rattle.mesa_check.specs.mesa_catalog.mesa_image_spec.Catalog.{Catalog}
-use Rattle.mesa_check.specs.mesa_catalog.mesa_image_spec.Contents.{kept_of}
-use Rattle.mesa_check.specs.mesa_catalog.mesa_image_spec.Sound.{StandsFor}
-use Rattle.mesa_check.proofs.mesa_catalog.mesa_image_spec.Wholes.{catalog_whole}
-use Rattle.mesa_shell.specs.mesa_recover.Opening.{IsSoundStart, Keeps}
-use Rattle.mesa_check.specs.mesa_catalog.declared.begun.Begun.{Begun}
+use Rattle.mesa_session.specs.mesa_history_spec.Found.{Found, kept_in}
+use Rattle.mesa_session.specs.mesa_history_spec.Refused.{some_refused}
+use Rattle.mesa_session.specs.mesa_history_spec.Replay.{runs}
+use Rattle.mesa_session.specs.mesa_history_spec.Run.{begins}
+use Rattle.mesa_session.specs.mesa_history_laws.Printed.{AnswersFromTheFold}
+use Rattle.mesa_session.proofs.mesa_history_laws.ReachedAnswers.{pages_fold}
+use Rattle.mesa_session.specs.mesa_history_spec.Rows.{Rows}
+use Rattle.mesa_engine.specs.mesa_image_spec.Catalog.{Catalog}
+use Rattle.mesa_engine.specs.mesa_image_spec.Contents.{kept_of}
+use Rattle.mesa_engine.specs.mesa_image_spec.Sound.{StandsFor}
+use Rattle.mesa_engine.proofs.mesa_image_spec.Wholes.{catalog_whole}
+use Rattle.mesa_recover.specs.Opening.{IsSoundStart, Keeps}
+use Rattle.mesa_engine.specs.mesa_catalog.declared.begun.Begun.{Begun}
 use Rattle.mesa_shell.specs.Counting.{HasBenchCounts}
 use Rattle.mesa_shell.specs.Ports.{Ports}
 use Rattle.mesa_shell.specs.Run.{Ran, RanAnyhow, RanSoundly}

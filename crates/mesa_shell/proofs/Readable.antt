@@ -3,19 +3,19 @@ use Rattle.std.proofs.Common.{◌≡◌, ℕ, List, [], ◌∷◌, ◌++◌, Boo
 use Rattle.std.specs.Prelude.{if◌then◌else◌}
 use Rattle.mesa_disk.specs.Image.{Image}
 use Rattle.mesa_disk.specs.Story.{Story}
-use Rattle.mesa_disk.specs.mesa_file.declared.damage.Seen.{Seen}
+use Rattle.mesa_file.specs.declared.damage.Seen.{Seen}
 use Rattle.mesa_disk.specs.declared.area.Area.{Area}
-use Rattle.mesa_journal.proofs.Live.{never_damaged, one_live, same_live}
-use Rattle.mesa_check.specs.mesa_record.declared.record.Record.{Record}
-use Rattle.mesa_check.specs.mesa_record.declared.error.RecordError.{RecordError}
-use Rattle.mesa_check.specs.mesa_record.Reading.{record_at}
-use Rattle.mesa_store_digest.specs.mesa_history_spec.Rows.{Rows}
-use Rattle.mesa_check.specs.mesa_image_spec.Catalog.{Catalog}
-use Rattle.mesa_check.specs.mesa_image_spec.Fitting.{applied_if, catalog_from, fits, read_record, then_bodies, with_body}
-use Rattle.mesa_check.specs.mesa_image_spec.Journaled.{catalog, first_body}
-use Rattle.mesa_check.specs.mesa_image_spec.Sound.{IsSoundAs}
-use Rattle.mesa_check.specs.mesa_recover.Damages.{HasMisfit, IsCutOff, MisfitsBehind, first_place, misfit_of, place_if_none}
-use Rattle.mesa_check.specs.mesa_recover.Opening.{IsSoundStart, ReadsAs}
+use Rattle.mesa_recover.proofs.mesa_journal.Live.{never_damaged, one_live, same_live}
+use Rattle.mesa_engine.specs.mesa_record.declared.record.Record.{Record}
+use Rattle.mesa_engine.specs.mesa_record.declared.error.RecordError.{RecordError}
+use Rattle.mesa_engine.specs.mesa_record.Reading.{record_at}
+use Rattle.mesa_session.specs.mesa_history_spec.Rows.{Rows}
+use Rattle.mesa_engine.specs.mesa_image_spec.Catalog.{Catalog}
+use Rattle.mesa_engine.specs.mesa_image_spec.Fitting.{applied_if, catalog_from, fits, read_record, then_bodies, with_body}
+use Rattle.mesa_engine.specs.mesa_image_spec.Journaled.{catalog, first_body}
+use Rattle.mesa_engine.specs.mesa_image_spec.Sound.{IsSoundAs}
+use Rattle.mesa_recover.specs.Damages.{HasMisfit, IsCutOff, MisfitsBehind, first_place, misfit_of, place_if_none}
+use Rattle.mesa_recover.specs.Opening.{IsSoundStart, ReadsAs}
 use Rattle.mesa_shell.proofs.Journals.{same_catalog}
 
 some_same : (o : Option Catalog) (c d : Catalog) → o ≡ Some c → o ≡ Some d → c ≡ d

@@ -2,17 +2,17 @@
 use Rattle.std.proofs.Common.{◌≡◌, ℕ, ◌+◌, ◌++◌, List, [], Bool, true, false, refl, sym, ap, subst, inl, inr, Option, Some, Ok}
 use Rattle.std.specs.Prelude.{if◌then◌else◌}
 use Rattle.std.specs.Io.KnownBytes.{Appends}
-use Rattle.mesa_shell.specs.mesa_history_laws.Alone.{output_alone}
+use Rattle.mesa_session.specs.mesa_history_laws.Alone.{output_alone}
 use Rattle.mesa_disk.specs.Story.{Story}
 use Rattle.mesa_model.specs.declared.commands.Script.{Script}
-use Rattle.mesa_check.specs.mesa_history_spec.Refused.{some_refused}
-use Rattle.mesa_check.specs.mesa_history_spec.Run.{begins}
+use Rattle.mesa_session.specs.mesa_history_spec.Refused.{some_refused}
+use Rattle.mesa_session.specs.mesa_history_spec.Run.{begins}
 use Rattle.mesa_script.specs.Generated.{generated}
 use Rattle.mesa_script.specs.Script.{script_of}
-use Rattle.mesa_store_digest.specs.mesa_history_spec.Rows.{Rows}
-use Rattle.mesa_engine.specs.mesa_invariant_spec.Printing.{HasAll, HasAllButRows, IsOutputButRows}
-use Rattle.mesa_engine.specs.mesa_invariant_spec.mesa_history_spec.Output.{IsOutput}
-use Rattle.mesa_check.specs.mesa_catalog.mesa_image_spec.Catalog.{Catalog}
+use Rattle.mesa_session.specs.mesa_history_spec.Rows.{Rows}
+use Rattle.mesa_session.specs.mesa_invariant_spec.Printing.{HasAll, HasAllButRows, IsOutputButRows}
+use Rattle.mesa_session.specs.mesa_history_spec.Output.{IsOutput}
+use Rattle.mesa_engine.specs.mesa_image_spec.Catalog.{Catalog}
 use Rattle.mesa_generate.specs.Excerpt.{CutsOut, HasPlainNames}
 use Rattle.mesa_shell.specs.Ports.{ports}
 use Rattle.mesa_shell.specs.Exits.{gen_line, memory_line, memory_status}

@@ -2,7 +2,7 @@
 use Rattle.std.proofs.Common.{◌≡◌, ⊎_elim, ◌+◌, ◌≤◌, ◌<◌, ℕ, zero, suc, List, [], ◌∷◌, ◌++◌, length, true, false, refl, subst, arith, length-append}
 use Rattle.std.specs.Prelude.{Result, Ok, Err, IfOk, nat_le, ◌==◌, if◌then◌else◌}
 use Rattle.std.proofs.lemmas.Bool.Decides.{leb_tells}
-use Rattle.mesa_check.specs.mesa_list.Checks.{◌>>◌, refuse_if, refused_as}
+use Rattle.mesa_store_digest.specs.mesa_list.Checks.{◌>>◌, refuse_if, refused_as}
 use Rattle.mesa_model.specs.declared.commands.Command.{Command}
 use Rattle.mesa_model.specs.declared.commands.Command.TheVariants as command
 use Rattle.mesa_model.specs.declared.commands.Script.{Script}
@@ -11,8 +11,8 @@ use Rattle.mesa_script.specs.declared.script.ScriptError.{ScriptError}
 use Rattle.mesa_script.specs.declared.script.ScriptError.TheVariants as bad
 use Rattle.mesa_script.specs.Items.{Item, LeaseOf, NextSession, RowOf, EndOfLoad, Single}
 use Rattle.mesa_script.specs.Script.{Read, nothing_read, item_at, with_item, with_record, read_from, script_from, script_of, records_of, max_commands, max_sessions}
-use Rattle.mesa_check.specs.mesa_history_spec.Run.{commands_of}
-use Rattle.mesa_check.proofs.mesa_history_spec.Checks.{ok_on}
+use Rattle.mesa_session.specs.mesa_history_spec.Run.{commands_of}
+use Rattle.mesa_session.proofs.mesa_history_spec.Checks.{ok_on}
 use Rattle.mesa_shell.specs.Scripts.{IsSmall, commands_in}
 
 commands_more : (xs ys : List (List Command)) → commands_in (xs ++ ys) ≡ commands_in xs + commands_in ys

@@ -1,22 +1,22 @@
 -- What a status tells follows from how calls end.
 use Rattle.std.proofs.Common.{◌≡◌, ◌⊎◌, inl, inr, ◌≤◌, ◌<◌, ℕ, List, length, Bool, true, false, refl, sym, ◌∙◌, subst, arith, Option, Some, None}
 use Rattle.std.specs.Prelude.{◌≢◌, IfSome, Ok, if◌then◌else◌}
-use Rattle.mesa_disk.specs.mesa_io.Causes.{Rose}
+use Rattle.mesa_io.specs.Causes.{Rose}
 use Rattle.mesa_disk.specs.Story.{Unmoved}
-use Rattle.mesa_disk.specs.mesa_file.declared.damage.Damage.{Damage}
+use Rattle.mesa_file.specs.declared.damage.Damage.{Damage}
 use Rattle.mesa_model.specs.declared.commands.Script.{Script}
-use Rattle.mesa_check.specs.mesa_history_spec.Refused.{some_refused}
-use Rattle.mesa_check.specs.mesa_history_spec.Run.{begins}
+use Rattle.mesa_session.specs.mesa_history_spec.Refused.{some_refused}
+use Rattle.mesa_session.specs.mesa_history_spec.Run.{begins}
 use Rattle.mesa_script.specs.Generated.{generated}
 use Rattle.mesa_script.specs.Script.{script_of}
 use Rattle.mesa_parse.specs.declared.forms.Form.{Form}
 use Rattle.mesa_parse.specs.declared.forms.Form.TheVariants as form
-use Rattle.mesa_store_digest.specs.mesa_history_spec.Rows.{no_rows}
-use Rattle.mesa_check.specs.mesa_image_spec.Catalog.{Catalog}
-use Rattle.mesa_check.specs.mesa_recover.declared.error.OpenError.{OpenError}
-use Rattle.mesa_check.specs.mesa_recover.declared.error.OpenError.TheVariants as open_error
+use Rattle.mesa_session.specs.mesa_history_spec.Rows.{no_rows}
+use Rattle.mesa_engine.specs.mesa_image_spec.Catalog.{Catalog}
+use Rattle.mesa_recover.specs.declared.error.OpenError.{OpenError}
+use Rattle.mesa_recover.specs.declared.error.OpenError.TheVariants as open_error
 use Rattle.mesa_store_digest.specs.Latest.{relation_named}
-use Rattle.mesa_check.specs.mesa_recover.Opening.{ReadsAs}
+use Rattle.mesa_recover.specs.Opening.{ReadsAs}
 use Rattle.mesa_check.specs.Faults.{Fault}
 use Rattle.mesa_shell.specs.Ports.{Ports}
 use Rattle.mesa_shell.specs.Exits.{max_input, memory_line, memory_status, open_status, usage_line, usage_status}

@@ -6,30 +6,30 @@ use Rattle.std.proofs.Math.Seq.{drop-append_seam}
 use Rattle.std.proofs.lemmas.List.{length-append, length-take-le}
 use Rattle.sha2.specs.Sha256.{sha256}
 use Rattle.sha2.proofs.Facts256.{length-sha256}
-use Rattle.mesa_disk.specs.mesa_file.declared.damage.Damage.{Damage}
-use Rattle.mesa_disk.specs.mesa_key.Order.{short_key}
-use Rattle.mesa_check.specs.mesa_schema.declared.rows.Row.{Row}
-use Rattle.mesa_check.proofs.mesa_schema.Lists.{all_so}
+use Rattle.mesa_file.specs.declared.damage.Damage.{Damage}
+use Rattle.mesa_key.specs.Order.{short_key}
+use Rattle.mesa_schema.specs.declared.rows.Row.{Row}
+use Rattle.mesa_schema.proofs.Lists.{all_so}
 use Rattle.mesa_check.specs.mesa_block.Layout.{Layout}
 use Rattle.mesa_check.specs.mesa_block.Spelling.{block}
 use Rattle.mesa_disk.specs.Image.{Image, file_of}
-use Rattle.mesa_check.specs.mesa_delta.File.{file_bytes, file_tail}
-use Rattle.mesa_check.specs.mesa_delta.Indexed.{tail_length}
-use Rattle.mesa_check.specs.mesa_delta.Reading.{tail_place}
-use Rattle.mesa_check.specs.mesa_delta.Spread.{blocks_of}
-use Rattle.mesa_check.specs.mesa_delta.Tail.{entries, entry, first_key, foot}
-use Rattle.mesa_check.proofs.mesa_delta.Placed.{laid}
-use Rattle.mesa_check.proofs.mesa_delta.Tailing.{foot_long}
-use Rattle.mesa_store_digest.specs.mesa_history_spec.Rows.{Rows}
-use Rattle.mesa_check.specs.mesa_commit.Images.{Has}
-use Rattle.mesa_check.specs.mesa_image_spec.Catalog.{Catalog}
-use Rattle.mesa_check.specs.mesa_image_spec.Fitting.{Shelved, shelved, stock_shelved}
-use Rattle.mesa_check.specs.mesa_image_spec.Sound.{IsSoundAs, IsStocked, IsTold, bytes_of, layout_of, wants}
-use Rattle.mesa_check.proofs.mesa_recover.mesa_image_spec.Lists.{all_flat}
-use Rattle.mesa_check.specs.mesa_recover.mesa_table.declared.recorded.Recorded.{Recorded}
-use Rattle.mesa_check.specs.mesa_recover.mesa_table.Files.{recorded_of}
-use Rattle.mesa_check.specs.mesa_recover.Damages.{HasDamagedFile, IsFileDamage}
-use Rattle.mesa_check.proofs.mesa_recover.Reasons.{recorded_all}
+use Rattle.mesa_delta.specs.File.{file_bytes, file_tail}
+use Rattle.mesa_delta.specs.Indexed.{tail_length}
+use Rattle.mesa_delta.specs.Reading.{tail_place}
+use Rattle.mesa_delta.specs.Spread.{blocks_of}
+use Rattle.mesa_delta.specs.Tail.{entries, entry, first_key, foot}
+use Rattle.mesa_delta.proofs.Placed.{laid}
+use Rattle.mesa_delta.proofs.Tailing.{foot_long}
+use Rattle.mesa_session.specs.mesa_history_spec.Rows.{Rows}
+use Rattle.mesa_engine.specs.mesa_commit.Images.{Has}
+use Rattle.mesa_engine.specs.mesa_image_spec.Catalog.{Catalog}
+use Rattle.mesa_engine.specs.mesa_image_spec.Fitting.{Shelved, shelved, stock_shelved}
+use Rattle.mesa_engine.specs.mesa_image_spec.Sound.{IsSoundAs, IsStocked, IsTold, bytes_of, layout_of, wants}
+use Rattle.mesa_engine.proofs.mesa_image_spec.Lists.{all_flat}
+use Rattle.mesa_check.specs.mesa_table.declared.recorded.Recorded.{Recorded}
+use Rattle.mesa_check.specs.mesa_table.Files.{recorded_of}
+use Rattle.mesa_recover.specs.Damages.{HasDamagedFile, IsFileDamage}
+use Rattle.mesa_recover.proofs.Reasons.{recorded_all}
 use Rattle.mesa_shell.proofs.Journals.{same_catalog}
 
 -- ---- the tail of a file

@@ -1,7 +1,7 @@
 -- A run in which no count rose and no printed reply is memory.
 use Rattle.std.proofs.Common.{◌≡◌, ◌⊎◌, inl, inr, ◌<◌, ℕ, List, [], ◌∷◌, length, Bool, true, false, refl, sym, ◌∙◌, ap, subst, arith, Option, Some}
 use Rattle.std.specs.Prelude.{◌≢◌, ◌||◌, IfSome, Ok}
-use Rattle.mesa_history_laws.specs.Alone.{AllTurnsStand}
+use Rattle.mesa_session.specs.mesa_history_laws.Alone.{AllTurnsStand}
 use Rattle.mesa_model.specs.declared.commands.Script.{Script}
 use Rattle.mesa_model.specs.declared.entries.Entry.{Entry}
 use Rattle.mesa_model.specs.declared.entries.Kind.{Kind}
@@ -9,15 +9,15 @@ use Rattle.mesa_model.specs.declared.entries.Kind.TheVariants as kind
 use Rattle.mesa_model.specs.declared.entries.Outcome.{Outcome}
 use Rattle.mesa_model.specs.declared.entries.Outcome.TheVariants as outcome
 use Rattle.mesa_model.specs.declared.replies.Refusal.TheVariants as no
-use Rattle.mesa_check.specs.mesa_history_spec.Legal.{AllFit, Fits}
-use Rattle.mesa_check.specs.mesa_history_spec.Replay.{Turned, go, refused_turn, told_by, turn_of}
-use Rattle.mesa_check.specs.mesa_history_spec.Run.{Run, Stage, State, begins, place_of}
-use Rattle.mesa_check.proofs.mesa_history_spec.Due.{due_turn}
-use Rattle.mesa_check.proofs.mesa_history_spec.More.{turned_is}
+use Rattle.mesa_session.specs.mesa_history_spec.Legal.{AllFit, Fits}
+use Rattle.mesa_session.specs.mesa_history_spec.Replay.{Turned, go, refused_turn, told_by, turn_of}
+use Rattle.mesa_session.specs.mesa_history_spec.Run.{Run, Stage, State, begins, place_of}
+use Rattle.mesa_session.proofs.mesa_history_spec.Due.{due_turn}
+use Rattle.mesa_session.proofs.mesa_history_spec.More.{turned_is}
 use Rattle.mesa_script.specs.Script.{script_of}
 use Rattle.mesa_parse.specs.declared.forms.Form.TheVariants as form
-use Rattle.mesa_store_digest.specs.mesa_history_spec.Rows.{Rows}
-use Rattle.mesa_check.specs.mesa_image_spec.Catalog.{Catalog}
+use Rattle.mesa_session.specs.mesa_history_spec.Rows.{Rows}
+use Rattle.mesa_engine.specs.mesa_image_spec.Catalog.{Catalog}
 use Rattle.mesa_shell.specs.Ports.{Ports}
 use Rattle.mesa_shell.specs.Exits.{max_input}
 use Rattle.mesa_shell.specs.StoreStart.{start_of}

@@ -1,14 +1,14 @@
 -- An opening's first part moves no image: what is said of the disk that it leaves is so of the one that it was given.
 use Rattle.std.proofs.Common.{◌≡◌, ⊎_elim, inl, inr, ℕ, ◌<◌, List, ◌∙◌, subst, arith}
-use Rattle.mesa_disk.specs.mesa_io.Causes.{last, Rose}
+use Rattle.mesa_io.specs.Causes.{last, Rose}
 use Rattle.mesa_disk.specs.Image.{Image}
 use Rattle.mesa_disk.specs.Story.{Story, Unmoved}
 use Rattle.mesa_disk.specs.declared.area.Area.{Area}
-use Rattle.mesa_store_digest.specs.mesa_history_spec.Rows.{Rows}
-use Rattle.mesa_check.specs.mesa_image_spec.Catalog.{Catalog}
-use Rattle.mesa_check.specs.mesa_recover.declared.error.OpenError.{OpenError}
-use Rattle.mesa_check.specs.mesa_recover.declared.error.OpenError.TheVariants as open_error
-use Rattle.mesa_check.specs.mesa_recover.Opening.{HasReason, IsRead, IsSoundStart, Keeps}
+use Rattle.mesa_session.specs.mesa_history_spec.Rows.{Rows}
+use Rattle.mesa_engine.specs.mesa_image_spec.Catalog.{Catalog}
+use Rattle.mesa_recover.specs.declared.error.OpenError.{OpenError}
+use Rattle.mesa_recover.specs.declared.error.OpenError.TheVariants as open_error
+use Rattle.mesa_recover.specs.Opening.{HasReason, IsRead, IsSoundStart, Keeps}
 
 module _ (old now : Story) (still : Unmoved old now) where
   pub read_before : (live : Area) (bodies : List (List ℕ)) (end : ℕ) (c : Catalog) → IsRead now live bodies end c → IsRead old live bodies end c

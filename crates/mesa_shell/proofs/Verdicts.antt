@@ -1,16 +1,16 @@
 -- How a call ends that checks a store, from the opening's clauses and the check's.
 use Rattle.std.proofs.Common.{◌≡◌, ◌⊎◌, inl, inr, ℕ, ◌+◌, ◌<◌, ◌≤◌, List, sym, ◌∙◌, subst, arith, Option}
 use Rattle.std.proofs.lemmas.Bool.{cases_lt}
-use Rattle.mesa_disk.specs.mesa_io.Causes.{last, Rose}
+use Rattle.mesa_io.specs.Causes.{last, Rose}
 use Rattle.mesa_disk.specs.Story.{Story, Unmoved}
 use Rattle.mesa_disk.specs.declared.area.Area.{Area}
-use Rattle.mesa_check.specs.mesa_catalog.mesa_image_spec.Catalog.{Catalog}
-use Rattle.mesa_shell.specs.mesa_check.Faults.{Fault}
-use Rattle.mesa_shell.specs.mesa_check.Verdict.{IsFirstFault}
-use Rattle.mesa_shell.specs.mesa_recover.declared.error.OpenError.{OpenError}
-use Rattle.mesa_shell.specs.mesa_recover.declared.error.OpenError.TheVariants as open_error
-use Rattle.mesa_shell.specs.mesa_recover.Opening.{HasReason, IsRead, ReadsAs}
-use Rattle.mesa_shell.proofs.mesa_recover.Firsts.{unmoved_twice}
+use Rattle.mesa_engine.specs.mesa_image_spec.Catalog.{Catalog}
+use Rattle.mesa_check.specs.Faults.{Fault}
+use Rattle.mesa_check.specs.Verdict.{IsFirstFault}
+use Rattle.mesa_recover.specs.declared.error.OpenError.{OpenError}
+use Rattle.mesa_recover.specs.declared.error.OpenError.TheVariants as open_error
+use Rattle.mesa_recover.specs.Opening.{HasReason, IsRead, ReadsAs}
+use Rattle.mesa_recover.proofs.Firsts.{unmoved_twice}
 use Rattle.mesa_shell.specs.Ports.{Ports}
 use Rattle.mesa_shell.specs.Exits.{open_line, open_status, verdict_line, verdict_status}
 use Rattle.mesa_shell.specs.Ending.{Ended, EndsCheck}

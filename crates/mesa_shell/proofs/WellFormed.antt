@@ -4,22 +4,22 @@ use Rattle.std.proofs.lemmas.List.{length-map}
 use Rattle.std.proofs.lemmas.List.FromFn.{length-range_with_len}
 use Rattle.std.proofs.lemmas.Bool.{lt-ltb, or_left, or_right}
 use Rattle.std.specs.List.{AllByRecursion, range_with_len}
-use Rattle.mesa_check.specs.mesa_schema.Names.{repeated}
-use Rattle.mesa_check.specs.mesa_schema.Columns.{aggs_of}
-use Rattle.mesa_check.specs.mesa_schema.Changes.{columns_of}
-use Rattle.mesa_check.proofs.mesa_schema.Forms.{folded_form}
-use Rattle.mesa_check.proofs.mesa_schema.Lists.{all_map}
-use Rattle.mesa_check.proofs.mesa_schema.RisingRows.{folded_rise}
+use Rattle.mesa_schema.specs.Names.{repeated}
+use Rattle.mesa_schema.specs.Columns.{aggs_of}
+use Rattle.mesa_schema.specs.Changes.{columns_of}
+use Rattle.mesa_schema.proofs.Forms.{folded_form}
+use Rattle.mesa_schema.proofs.Lists.{all_map}
+use Rattle.mesa_schema.proofs.RisingRows.{folded_rise}
 use Rattle.mesa_model.specs.declared.commands.Script.{Script}
 use Rattle.mesa_model.specs.WellFormed.{IsContent, IsTable, IsWellFormed, is_kept, relation_names}
-use Rattle.mesa_store_digest.specs.mesa_history_spec.Rows.{Rows}
-use Rattle.mesa_check.specs.mesa_image_spec.Catalog.{Stock, Catalog}
-use Rattle.mesa_check.specs.mesa_image_spec.Contents.{present, deltas_to, content, table_of, kept_of}
-use Rattle.mesa_check.specs.mesa_image_spec.Fitting.{deltas_of, delta_shelved, names_in}
-use Rattle.mesa_check.specs.mesa_image_spec.Shape.{IsShaped, IsCatalog}
-use Rattle.mesa_check.specs.mesa_image_spec.Sound.{IsStocked, AreStocked, IsTold}
-use Rattle.mesa_check.proofs.mesa_recover.mesa_image_spec.Formed.{AreFormed, all_formed, rows_formed, up_to}
-use Rattle.mesa_check.proofs.mesa_recover.mesa_image_spec.Lists.{all_unflat}
+use Rattle.mesa_session.specs.mesa_history_spec.Rows.{Rows}
+use Rattle.mesa_engine.specs.mesa_image_spec.Catalog.{Stock, Catalog}
+use Rattle.mesa_engine.specs.mesa_image_spec.Contents.{present, deltas_to, content, table_of, kept_of}
+use Rattle.mesa_engine.specs.mesa_image_spec.Fitting.{deltas_of, delta_shelved, names_in}
+use Rattle.mesa_engine.specs.mesa_image_spec.Shape.{IsShaped, IsCatalog}
+use Rattle.mesa_engine.specs.mesa_image_spec.Sound.{IsStocked, AreStocked, IsTold}
+use Rattle.mesa_engine.proofs.mesa_image_spec.Formed.{AreFormed, all_formed, rows_formed, up_to}
+use Rattle.mesa_engine.proofs.mesa_image_spec.Lists.{all_unflat}
 use Rattle.mesa_shell.specs.StoreStart.{start_of}
 
 content_is : (rows : Rows) (t : Stock) (floor next : ℕ) → IsShaped floor next t → IsStocked rows t → (version : ℕ) → IsContent (columns_of t.lineage) (content rows t version)

@@ -1,21 +1,21 @@
 -- A store on which a run has begun.
 use Rattle.std.specs.Prelude.{◌≡◌, ℕ, ◌+◌, ◌<◌, ◌≤◌, ◌^◌, List, [], None, Option, Some}
-use Rattle.mesa_disk.specs.mesa_io.Causes.{last}
+use Rattle.mesa_io.specs.Causes.{last}
 use Rattle.mesa_disk.specs.Image.{Image}
 use Rattle.mesa_disk.specs.Story.{Story}
 use Rattle.mesa_disk.specs.declared.area.Area.{Area}
 use Rattle.mesa_engine.specs.mesa_commit.Filed.{FilesAdopted}
-use Rattle.mesa_store_digest.specs.mesa_history_spec.Rows.{Rows}
-use Rattle.mesa_check.specs.mesa_catalog.mesa_image_spec.Catalog.{Catalog, applied}
-use Rattle.mesa_check.specs.mesa_catalog.mesa_image_spec.Contents.{kept_of}
-use Rattle.mesa_check.specs.mesa_catalog.mesa_image_spec.Shape.{IsCatalog}
-use Rattle.mesa_check.specs.mesa_catalog.mesa_image_spec.Sound.{StandsFor}
-use Rattle.mesa_check.specs.mesa_catalog.mesa_image_spec.Countable.{AreCounted}
-use Rattle.mesa_check.specs.mesa_catalog.mesa_image_spec.Ids.{HasOwnIds, named}
-use Rattle.mesa_check.specs.mesa_catalog.mesa_image_spec.Recordable.{AreRecordable}
-use Rattle.mesa_shell.specs.mesa_recover.Opening.{IsHeldAs, IsSoundStart, Keeps, ReadsAs, first_id, most_runs, run_record}
+use Rattle.mesa_session.specs.mesa_history_spec.Rows.{Rows}
+use Rattle.mesa_engine.specs.mesa_image_spec.Catalog.{Catalog, applied}
+use Rattle.mesa_engine.specs.mesa_image_spec.Contents.{kept_of}
+use Rattle.mesa_engine.specs.mesa_image_spec.Shape.{IsCatalog}
+use Rattle.mesa_engine.specs.mesa_image_spec.Sound.{StandsFor}
+use Rattle.mesa_engine.specs.mesa_image_spec.Countable.{AreCounted}
+use Rattle.mesa_engine.specs.mesa_image_spec.Ids.{HasOwnIds, named}
+use Rattle.mesa_engine.specs.mesa_image_spec.Recordable.{AreRecordable}
+use Rattle.mesa_recover.specs.Opening.{IsHeldAs, IsSoundStart, Keeps, ReadsAs, first_id, most_runs, run_record}
 use Rattle.mesa_engine.specs.Vault.{IsRead}
-use Rattle.mesa_check.specs.mesa_catalog.declared.begun.Begun.{Begun}
+use Rattle.mesa_engine.specs.mesa_catalog.declared.begun.Begun.{Begun}
 use Rattle.mesa_shell.specs.StoreStart.{AreTold}
 
 -- What holds on any store on which a run has begun: its catalogue is that of the run, and has the shape and the ids of one, and what its files are to keep; the area in which the journal goes on has room for a body behind its end; the files that are there are those that the catalogue names, and none has an id that the run may give; and the clock isn't before the run's start.

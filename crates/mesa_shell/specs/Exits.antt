@@ -1,16 +1,16 @@
 -- The statuses that a call ends with, and the line that it prints where it runs nothing.
 use Rattle.std.specs.Prelude.{ℕ, List, [], ◌∷◌, ◌++◌, codes, decimal, if◌then◌else◌, Option, None, Some}
 use Rattle.std.specs.Int.{w128, to_be_bytes}
-use Rattle.mesa_model.specs.mesa_filter.Hex.{hex_of}
+use Rattle.mesa_session.specs.mesa_filter.Hex.{hex_of}
 use Rattle.mesa_model.specs.declared.commands.Script.{Script}
 use Rattle.mesa_model.specs.declared.entries.Entry.{Entry}
-use Rattle.mesa_check.specs.mesa_history_spec.Refused.{some_refused}
-use Rattle.mesa_check.specs.mesa_history_spec.Run.{State, begins}
+use Rattle.mesa_session.specs.mesa_history_spec.Refused.{some_refused}
+use Rattle.mesa_session.specs.mesa_history_spec.Run.{State, begins}
 use Rattle.mesa_script.specs.declared.script.ScriptError.{ScriptError}
 use Rattle.mesa_script.specs.Errors.{error_text}
 use Rattle.mesa_script.specs.Replies.{damage_text, seen_text}
-use Rattle.mesa_check.specs.mesa_recover.declared.error.OpenError.{OpenError}
-use Rattle.mesa_check.specs.mesa_recover.declared.error.OpenError.TheVariants as open_error
+use Rattle.mesa_recover.specs.declared.error.OpenError.{OpenError}
+use Rattle.mesa_recover.specs.declared.error.OpenError.TheVariants as open_error
 use Rattle.mesa_check.specs.Faults.{Fault}
 
 -- the longest input, in bytes

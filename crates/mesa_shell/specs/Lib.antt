@@ -1,7 +1,3 @@
-pub use Rattle.mesa_check.specs as mesa_check
-pub use Rattle.mesa_model.specs.mesa_filter as mesa_filter
-pub use Rattle.mesa_check.specs.mesa_recover as mesa_recover
-pub use Rattle.mesa_history_laws.specs as mesa_history_laws
 pub mod Ports
 pub mod Exits
 pub mod Scripts

@@ -2,16 +2,16 @@
 use Rattle.std.specs.Prelude.{ℕ, List, [], ◌∷◌, map, None}
 use Rattle.mesa_model.specs.declared.commands.Script.{Script}
 use Rattle.mesa_model.specs.declared.entries.Entry.{Entry}
-use Rattle.mesa_model.specs.mesa_schema.declared.rows.Row.{Row}
-use Rattle.mesa_model.specs.mesa_schema.Changes.{columns_of}
-use Rattle.mesa_model.specs.mesa_schema.Columns.{aggs_of}
-use Rattle.mesa_model.specs.mesa_schema.Folded.{folded}
+use Rattle.mesa_schema.specs.declared.rows.Row.{Row}
+use Rattle.mesa_schema.specs.Changes.{columns_of}
+use Rattle.mesa_schema.specs.Columns.{aggs_of}
+use Rattle.mesa_schema.specs.Folded.{folded}
 use Rattle.mesa_model.specs.Warehouse.{Table, Warehouse, empty_warehouse}
-use Rattle.mesa_check.specs.mesa_history_spec.Found.{Kept, kept_in}
-use Rattle.mesa_check.specs.mesa_history_spec.Law.{HoldsIn, written_in}
-use Rattle.mesa_check.specs.mesa_history_spec.Run.{begins}
-use Rattle.mesa_check.specs.mesa_history_spec.Sources.{Written, rows_now, sources_to}
-use Rattle.mesa_invariant_spec.specs.Invariant.{run_at}
+use Rattle.mesa_session.specs.mesa_history_spec.Found.{Kept, kept_in}
+use Rattle.mesa_session.specs.mesa_history_spec.Law.{HoldsIn, written_in}
+use Rattle.mesa_session.specs.mesa_history_spec.Run.{begins}
+use Rattle.mesa_session.specs.mesa_history_spec.Sources.{Written, rows_now, sources_to}
+use Rattle.mesa_session.specs.mesa_invariant_spec.Invariant.{run_at}
 use Rattle.mesa_shell.specs.StoreStart.{state_of}
 
 -- A run in a store's life: its script, and those of its turns that the store has: all of them, or the ones before a crash.

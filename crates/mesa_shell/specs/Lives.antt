@@ -4,10 +4,10 @@ use Rattle.std.specs.List.{AllByRecursion}
 use Rattle.mesa_disk.specs.Image.{Image}
 use Rattle.mesa_model.specs.declared.commands.Script.{Script}
 use Rattle.mesa_model.specs.declared.entries.Entry.{Entry}
-use Rattle.mesa_check.specs.mesa_history_spec.Found.{Kept}
-use Rattle.mesa_check.specs.mesa_history_spec.Law.{HoldsIn}
+use Rattle.mesa_session.specs.mesa_history_spec.Found.{Kept}
+use Rattle.mesa_session.specs.mesa_history_spec.Law.{HoldsIn}
 use Rattle.mesa_parse.specs.declared.forms.Form.{Form}
-use Rattle.mesa_invariant_spec.specs.Invariant.{run_at}
+use Rattle.mesa_session.specs.mesa_invariant_spec.Invariant.{run_at}
 use Rattle.mesa_shell.specs.Ports.{Ports}
 use Rattle.mesa_shell.specs.StoreStart.{state_of}
 use Rattle.mesa_shell.specs.Completing.{AsksFor}

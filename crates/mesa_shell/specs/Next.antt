@@ -1,18 +1,18 @@
 -- What a call leaves for the next one.
 use Rattle.std.specs.Prelude.{◌≡◌, ◌<◌, ◌≤◌, ℕ, List, [], ◌++◌, Option, None, Some}
 use Rattle.std.specs.List.{AllByRecursion}
-use Rattle.mesa_disk.specs.mesa_io.Causes.{last}
+use Rattle.mesa_io.specs.Causes.{last}
 use Rattle.mesa_disk.specs.Image.{Image}
 use Rattle.mesa_disk.specs.Story.{Story}
 use Rattle.mesa_model.specs.declared.commands.Script.{Script}
 use Rattle.mesa_model.specs.declared.entries.Entry.{Entry}
-use Rattle.mesa_check.specs.mesa_history_spec.Found.{Kept}
+use Rattle.mesa_session.specs.mesa_history_spec.Found.{Kept}
 use Rattle.mesa_parse.specs.declared.forms.Form.{Form}
-use Rattle.mesa_store_digest.specs.mesa_history_spec.Rows.{Rows}
-use Rattle.mesa_invariant_spec.specs.Invariant.{run_at}
-use Rattle.mesa_check.specs.mesa_image_spec.Catalog.{Catalog}
-use Rattle.mesa_check.specs.mesa_image_spec.Contents.{kept_of}
-use Rattle.mesa_check.specs.mesa_image_spec.Sound.{StandsFor}
+use Rattle.mesa_session.specs.mesa_history_spec.Rows.{Rows}
+use Rattle.mesa_session.specs.mesa_invariant_spec.Invariant.{run_at}
+use Rattle.mesa_engine.specs.mesa_image_spec.Catalog.{Catalog}
+use Rattle.mesa_engine.specs.mesa_image_spec.Contents.{kept_of}
+use Rattle.mesa_engine.specs.mesa_image_spec.Sound.{StandsFor}
 use Rattle.mesa_shell.specs.Ports.{Ports}
 use Rattle.mesa_shell.specs.StoreStart.{AreTold, IsSoundStore, start_of}
 use Rattle.mesa_shell.specs.Life.{kept_next}

@@ -1,14 +1,14 @@
 -- What a run leaves that was begun on a store.
 use Rattle.std.specs.Prelude.{◌≡◌, ◌+◌, ◌<◌, List, [], length, true, false}
-use Rattle.mesa_disk.specs.mesa_io.Causes.{last, Rose}
+use Rattle.mesa_io.specs.Causes.{last, Rose}
 use Rattle.mesa_model.specs.declared.commands.Script.{Script}
-use Rattle.mesa_check.specs.mesa_history_spec.Refused.{some_refused}
-use Rattle.mesa_check.specs.mesa_history_spec.Run.{begins}
-use Rattle.mesa_store_digest.specs.mesa_history_spec.Rows.{Rows}
-use Rattle.mesa_check.specs.mesa_catalog.declared.begun.Begun.{Begun}
+use Rattle.mesa_session.specs.mesa_history_spec.Refused.{some_refused}
+use Rattle.mesa_session.specs.mesa_history_spec.Run.{begins}
+use Rattle.mesa_session.specs.mesa_history_spec.Rows.{Rows}
+use Rattle.mesa_engine.specs.mesa_catalog.declared.begun.Begun.{Begun}
 use Rattle.mesa_shell.specs.Counting.{HasBenchCounts}
 use Rattle.mesa_shell.specs.Ports.{Ports}
-use Rattle.mesa_engine.specs.mesa_invariant_spec.Invariant.{AllFound}
+use Rattle.mesa_session.specs.mesa_invariant_spec.Invariant.{AllFound}
 use Rattle.mesa_engine.specs.Vault.{IsRead}
 use Rattle.mesa_shell.specs.Run.{RanAnyhow, RanSoundly, outset_from}
 use Rattle.mesa_shell.specs.StoreStart.{start_of}

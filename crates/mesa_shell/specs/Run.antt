@@ -2,24 +2,24 @@
 use Rattle.std.specs.Prelude.{◌≡◌, ℕ, ◌+◌, ◌<◌, ◌≤◌, List, length, Option, None, Some, Bool, false, not}
 use Rattle.std.specs.Io.KnownBytes.{Appends}
 use Rattle.std.specs.List.{AllByRecursion}
-use Rattle.mesa_disk.specs.mesa_io.Causes.{last}
-use Rattle.mesa_history_laws.specs.Alone.{AllTurnsStand, IsAlone, output_alone}
+use Rattle.mesa_io.specs.Causes.{last}
+use Rattle.mesa_session.specs.mesa_history_laws.Alone.{AllTurnsStand, IsAlone, output_alone}
 use Rattle.mesa_disk.specs.Image.{Image}
 use Rattle.mesa_disk.specs.Story.{Story}
 use Rattle.mesa_model.specs.declared.commands.Script.{Script}
 use Rattle.mesa_model.specs.declared.entries.Entry.{Entry}
-use Rattle.mesa_check.specs.mesa_history_spec.Counting.{count_in, is_disk_fault}
-use Rattle.mesa_check.specs.mesa_history_spec.Found.{kept_of}
-use Rattle.mesa_check.specs.mesa_history_spec.Legal.{IsLegal}
-use Rattle.mesa_check.specs.mesa_history_spec.Run.{State, begins}
-use Rattle.mesa_history_laws.specs.Printed.{AnswersFromTheFold}
-use Rattle.mesa_store_digest.specs.mesa_history_spec.Rows.{Rows}
-use Rattle.mesa_invariant_spec.specs.Printing.{IsPrinted, IsPrintedButRows}
-use Rattle.mesa_invariant_spec.specs.Undamaged.{NoneDamaged}
-use Rattle.mesa_invariant_spec.specs.Invariant.{AllFound, HasCounted, Outset, run_at}
-use Rattle.mesa_check.specs.mesa_image_spec.Catalog.{Catalog}
-use Rattle.mesa_check.specs.mesa_image_spec.Sound.{StandsFor}
-use Rattle.mesa_check.specs.mesa_recover.Opening.{ReadsAs, most_runs}
+use Rattle.mesa_session.specs.mesa_history_spec.Counting.{count_in, is_disk_fault}
+use Rattle.mesa_session.specs.mesa_history_spec.Found.{kept_of}
+use Rattle.mesa_session.specs.mesa_history_spec.Legal.{IsLegal}
+use Rattle.mesa_session.specs.mesa_history_spec.Run.{State, begins}
+use Rattle.mesa_session.specs.mesa_history_laws.Printed.{AnswersFromTheFold}
+use Rattle.mesa_session.specs.mesa_history_spec.Rows.{Rows}
+use Rattle.mesa_session.specs.mesa_invariant_spec.Printing.{IsPrinted, IsPrintedButRows}
+use Rattle.mesa_session.specs.mesa_invariant_spec.Undamaged.{NoneDamaged}
+use Rattle.mesa_session.specs.mesa_invariant_spec.Invariant.{AllFound, HasCounted, Outset, run_at}
+use Rattle.mesa_engine.specs.mesa_image_spec.Catalog.{Catalog}
+use Rattle.mesa_engine.specs.mesa_image_spec.Sound.{StandsFor}
+use Rattle.mesa_recover.specs.Opening.{ReadsAs, most_runs}
 use Rattle.mesa_shell.specs.Ports.{Ports}
 use Rattle.mesa_shell.specs.StoreStart.{IsSoundStore, start_of}
 use Rattle.mesa_shell.specs.Counting.{HasBenchCounts}

@@ -1,8 +1,8 @@
 -- What a run over a store finds when it begins.
-use Rattle.mesa_store_digest.specs.mesa_history_spec.Rows.{Rows}
-use Rattle.mesa_check.specs.mesa_catalog.mesa_image_spec.Catalog.{Catalog, stock_at}
-use Rattle.mesa_check.specs.mesa_catalog.mesa_image_spec.Sourced.{found_written}
-use Rattle.mesa_check.specs.mesa_catalog.Lookups.{generation_of}
+use Rattle.mesa_session.specs.mesa_history_spec.Rows.{Rows}
+use Rattle.mesa_engine.specs.mesa_image_spec.Catalog.{Catalog, stock_at}
+use Rattle.mesa_engine.specs.mesa_image_spec.Sourced.{found_written}
+use Rattle.mesa_engine.specs.mesa_catalog.Lookups.{generation_of}
 use Rattle.mesa_engine.specs.Vault.{Origin}
 
 -- the number of a run by its catalogue, what it finds written of each table, and how often tables, views and columns had changed

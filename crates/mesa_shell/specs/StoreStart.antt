@@ -2,13 +2,13 @@
 use Rattle.std.specs.Prelude.{◌≡◌, ℕ, List, [], Option, None, Some}
 use Rattle.mesa_disk.specs.Story.{Story}
 use Rattle.mesa_model.specs.declared.commands.Script.{Script}
-use Rattle.mesa_check.specs.mesa_history_spec.Machine.{machine_of}
-use Rattle.mesa_check.specs.mesa_history_spec.Run.{State}
-use Rattle.mesa_check.specs.mesa_history_spec.Found.{Kept}
-use Rattle.mesa_store_digest.specs.mesa_history_spec.Rows.{Rows}
-use Rattle.mesa_check.specs.mesa_image_spec.Catalog.{Catalog}
-use Rattle.mesa_check.specs.mesa_image_spec.Contents.{kept_of}
-use Rattle.mesa_check.specs.mesa_recover.Opening.{IsSoundStart}
+use Rattle.mesa_session.specs.mesa_history_spec.Machine.{machine_of}
+use Rattle.mesa_session.specs.mesa_history_spec.Run.{State}
+use Rattle.mesa_session.specs.mesa_history_spec.Found.{Kept}
+use Rattle.mesa_session.specs.mesa_history_spec.Rows.{Rows}
+use Rattle.mesa_engine.specs.mesa_image_spec.Catalog.{Catalog}
+use Rattle.mesa_engine.specs.mesa_image_spec.Contents.{kept_of}
+use Rattle.mesa_recover.specs.Opening.{IsSoundStart}
 
 -- the state of a run that starts from what a store keeps: no pins, no leases, not closed
 abbrev pub state_of : Script → Kept → State

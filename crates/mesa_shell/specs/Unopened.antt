@@ -1,13 +1,13 @@
 -- What an opening leaves of a store that it doesn't open.
 use Rattle.std.specs.Prelude.{◌≡◌, ◌≢◌, ◌<◌, Some}
-use Rattle.mesa_disk.specs.mesa_io.Causes.{last}
+use Rattle.mesa_io.specs.Causes.{last}
 use Rattle.mesa_disk.specs.Image.{Image}
 use Rattle.mesa_disk.specs.Story.{Story, Unmoved}
-use Rattle.mesa_store_digest.specs.mesa_history_spec.Rows.{Rows}
-use Rattle.mesa_check.specs.mesa_image_spec.Catalog.{Catalog}
-use Rattle.mesa_check.specs.mesa_recover.declared.error.OpenError.{OpenError}
-use Rattle.mesa_check.specs.mesa_recover.declared.error.OpenError.TheVariants as open_error
-use Rattle.mesa_check.specs.mesa_recover.Opening.{HasReason, IsSoundStart, Keeps}
+use Rattle.mesa_session.specs.mesa_history_spec.Rows.{Rows}
+use Rattle.mesa_engine.specs.mesa_image_spec.Catalog.{Catalog}
+use Rattle.mesa_recover.specs.declared.error.OpenError.{OpenError}
+use Rattle.mesa_recover.specs.declared.error.OpenError.TheVariants as open_error
+use Rattle.mesa_recover.specs.Opening.{HasReason, IsSoundStart, Keeps}
 
 -- Both counts of the disk's faults stay.
 abbrev pub HasSameCounts : Story → Story → Type 0

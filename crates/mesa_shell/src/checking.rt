@@ -2,12 +2,12 @@
 ghost use Rattle.std.specs.Prelude.{◌≡◌, ◌≢◌, Err, IfErr, IfOk};
 ghost use Rattle.mesa_disk.specs.Story.{Unmoved};
 ghost use Rattle.mesa_shell.specs.Ending as spec;
-ghost use Rattle.mesa_shell.specs.mesa_recover.Opening.{HasReason, ReadsAs};
-ghost use Rattle.mesa_shell.specs.mesa_recover.declared.error.OpenError.TheVariants as open_error;
-ghost use Rattle.mesa_shell.specs.mesa_check.Verdict.{IsFirstFault, fault_told};
+ghost use Rattle.mesa_recover.specs.Opening.{HasReason, ReadsAs};
+ghost use Rattle.mesa_recover.specs.declared.error.OpenError.TheVariants as open_error;
+ghost use Rattle.mesa_check.specs.Verdict.{IsFirstFault, fault_told};
 ghost use Rattle.mesa_shell.specs.Ports.{ports};
 ghost use Rattle.mesa_shell.specs.Unopened.{HasSameCounts};
-ghost use Rattle.mesa_check.specs.mesa_catalog.mesa_image_spec.Catalog.{Catalog};
+ghost use Rattle.mesa_engine.specs.mesa_image_spec.Catalog.{Catalog};
 
 use mesa_check::{CheckError, Verdict, check};
 use mesa_disk::{Bench, Disk, Made};

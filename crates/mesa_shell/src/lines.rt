@@ -1,7 +1,7 @@
 // What a call tells that runs nothing.
 ghost use Rattle.std.specs.Prelude.{◌≡◌, ◌≤◌, ◌++◌, codes, decimal, length};
 ghost use Rattle.std.specs.Int.{w64, to_be_bytes};
-ghost use Rattle.mesa_shell.specs.mesa_filter.Hex.{hex_of};
+ghost use Rattle.mesa_session.specs.mesa_filter.Hex.{hex_of};
 ghost use Rattle.mesa_print.specs.Printed.{Printed};
 ghost use Rattle.mesa_script.specs.Errors.{error_text, reason_word as word_of};
 ghost use Rattle.mesa_script.specs.Replies.{damage_text, seen_text};

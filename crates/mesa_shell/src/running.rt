@@ -1,15 +1,15 @@
 // The run of a script over a store on which it has begun.
 ghost use Rattle.std.specs.Prelude.{◌≡◌, ◌+◌, ◌<◌, ◌≤◌, ◌^◌, [], Bool, true, false, None, IfErr, IfOk, IsTrue, length};
-ghost use Rattle.mesa_disk.specs.mesa_io.Causes.{last, Rose};
-ghost use Rattle.mesa_session.specs.mesa_engine.Beginning.{IsBegun};
-ghost use Rattle.mesa_session.specs.mesa_engine.Engine.{most_turns, starts_of};
-ghost use Rattle.mesa_check.specs.mesa_history_spec.Refused.{some_refused};
-ghost use Rattle.mesa_check.specs.mesa_history_spec.Run.{begins};
-ghost use Rattle.mesa_store_digest.specs.mesa_history_spec.Rows.{Rows};
+ghost use Rattle.mesa_io.specs.Causes.{last, Rose};
+ghost use Rattle.mesa_engine.specs.Beginning.{IsBegun};
+ghost use Rattle.mesa_engine.specs.Engine.{most_turns, starts_of};
+ghost use Rattle.mesa_session.specs.mesa_history_spec.Refused.{some_refused};
+ghost use Rattle.mesa_session.specs.mesa_history_spec.Run.{begins};
+ghost use Rattle.mesa_session.specs.mesa_history_spec.Rows.{Rows};
 ghost use Rattle.mesa_session.specs.mesa_core.Passes.{turns_of};
 ghost use Rattle.mesa_shell.specs.Counting.{HasBenchCounts};
 ghost use Rattle.mesa_shell.specs.Ports.{ports};
-ghost use Rattle.mesa_engine.specs.mesa_invariant_spec.Invariant.{AllFound};
+ghost use Rattle.mesa_session.specs.mesa_invariant_spec.Invariant.{AllFound};
 ghost use Rattle.mesa_engine.specs.Vault.{IsRead};
 ghost use Rattle.mesa_shell.specs.Run.{RanAnyhow, RanSoundly, outset_from};
 ghost use Rattle.mesa_shell.specs.Scripts.{IsSmall};

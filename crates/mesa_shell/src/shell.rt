@@ -1,14 +1,14 @@
 // The top call.
 ghost use Rattle.std.specs.Prelude.{◌≡◌, ◌≢◌, ◌≤◌, ℕ, List, Some, length, map};
-ghost use Rattle.mesa_check.specs.mesa_catalog.mesa_image_spec.Catalog.{Catalog as AnyCatalog};
+ghost use Rattle.mesa_engine.specs.mesa_image_spec.Catalog.{Catalog as AnyCatalog};
 ghost use Rattle.mesa_model.specs.declared.commands.Script.{Script as AnyScript};
-ghost use Rattle.mesa_store_digest.specs.mesa_history_spec.Rows.{Rows};
+ghost use Rattle.mesa_session.specs.mesa_history_spec.Rows.{Rows};
 ghost use Rattle.mesa_shell.specs.Completing.{AsksFor, Completes, Decides, HasRoomToRun, IsUndamaged, NoneRose, NothingFailed};
 ghost use Rattle.mesa_shell.specs.Ending as spec;
 ghost use Rattle.mesa_shell.specs.Ports.{ports};
 ghost use Rattle.mesa_shell.specs.Scripts.{IsSmall};
 ghost use Rattle.mesa_shell.specs.Statuses.{Tells};
-ghost use Rattle.mesa_shell.specs.mesa_recover.Opening.{IsSoundStart};
+ghost use Rattle.mesa_recover.specs.Opening.{IsSoundStart};
 ghost use Rattle.mesa_parse.specs.Forms.{form_of};
 ghost use Rattle.mesa_parse.specs.declared.forms.Form.TheVariants as form;
 

@@ -5,8 +5,8 @@ use Rattle.std.specs.List.{AllByRecursion}
 use Rattle.mesa_schema.specs.declared.rows.Row.{Row}
 use Rattle.mesa_schema.specs.Columns.{Columns}
 use Rattle.mesa_schema.specs.Rows.{AreRowsOf, IsRowOf}
-use Rattle.mesa_block.specs.Fill.{AreOver, rows_over}
-use Rattle.mesa_block.proofs.Held.{over_more, rows_of_row}
+use Rattle.mesa_compact.specs.mesa_block.Fill.{AreOver, rows_over}
+use Rattle.mesa_delta.proofs.mesa_block.Held.{over_more, rows_of_row}
 
 -- each row has as many values as this one
 abbrev pub AreAsLong : Row → List Row → Type 0

@@ -10,8 +10,8 @@ use Rattle.mesa_schema.specs.Rows.{IsRowOf}
 use Rattle.mesa_delta.specs.declared.error.FileError.{FileError}
 use Rattle.mesa_delta.specs.declared.error.FileError.TheVariants.{Damaged, Memory, Read}
 use Rattle.mesa_delta.specs.declared.input.Input.{Input}
-use Rattle.mesa_scan.specs.Cursors.{IsInput}
-use Rattle.mesa_scan.specs.Cut.{lies_in}
+use Rattle.mesa_compact.specs.mesa_scan.Cursors.{IsInput}
+use Rattle.mesa_compact.specs.mesa_scan.Cut.{lies_in}
 use Rattle.mesa_merge.specs.Calls.{IsNextBetween, answer_of}
 use Rattle.mesa_merge.specs.Faults.{HaveFaultCause, NoneFell, SomeRose}
 use Rattle.mesa_merge.specs.Merged.{HasMergedBetween, row_in}

@@ -7,8 +7,8 @@ use Rattle.std.proofs.lemmas.List.Elements.{Contains-append_left, Contains-push}
 use Rattle.std.proofs.lemmas.List.FromFn.{length-map-range_with_len, map-range_with_len_more}
 use Rattle.std.specs.Prelude.{Option, None, Some, IfNone, IfSome, slice_get, if◌then◌else◌}
 use Rattle.std.specs.List.{AllByRecursion, Contains, range_with_len}
-use Rattle.mesa_scan.specs.Cut.{CutsRise, IsLow}
-use Rattle.mesa_scan.proofs.Cutting.{is_less}
+use Rattle.mesa_compact.specs.mesa_scan.Cut.{CutsRise, IsLow}
+use Rattle.mesa_merge.proofs.mesa_scan.Cutting.{is_less}
 use Rattle.mesa_delta.specs.Indexed.{Indexed}
 use Rattle.mesa_delta.specs.Places.{shorts_of}
 use Rattle.mesa_delta.specs.Reading.{index_of}

@@ -12,9 +12,9 @@ use Rattle.mesa_schema.specs.Folded.{folded, rows_of}
 use Rattle.mesa_schema.specs.Rows.{AreRowsOf, IsRowOf, keys_rise}
 use Rattle.mesa_schema.proofs.RisingRows.{folded_rise}
 use Rattle.mesa_merge.specs.Inputs.{AreTold, Known, lifted_parts}
-use Rattle.mesa_scan.specs.Cut.{CutsRise, IsLow, cuts_from, is_from, is_under, lies_in}
-use Rattle.mesa_scan.proofs.Cutting.{below_at, cut_none, cuts_whole, is_less, from_cut}
-use Rattle.mesa_scan.proofs.Cuts.{all_both}
+use Rattle.mesa_compact.specs.mesa_scan.Cut.{CutsRise, IsLow, cuts_from, is_from, is_under, lies_in}
+use Rattle.mesa_merge.proofs.mesa_scan.Cutting.{below_at, cut_none, cuts_whole, is_less, from_cut}
+use Rattle.mesa_merge.proofs.mesa_scan.Cuts.{all_both}
 use Rattle.mesa_split.specs.Parts.{ArePartsOf}
 
 abbrev AllFrom : Option (List ℕ) → List Row → Type 0

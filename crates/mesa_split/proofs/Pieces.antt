@@ -13,9 +13,9 @@ use Rattle.mesa_schema.specs.Rows.{AreRowsOf, IsRowOf, keys_rise}
 use Rattle.mesa_schema.proofs.RisingRows.{folded_rise}
 use Rattle.mesa_answer.specs.Answering.{KeepsSums}
 use Rattle.mesa_merge.specs.Inputs.{AreTold, Known, lifted_parts}
-use Rattle.mesa_scan.specs.Cut.{CutsRise, cut, cuts_from, is_from, is_under, lies_in}
-use Rattle.mesa_scan.proofs.Cutting.{below_at, cut_none, cuts_whole, is_less}
-use Rattle.mesa_scan.proofs.Cuts.{all_both}
+use Rattle.mesa_compact.specs.mesa_scan.Cut.{CutsRise, cut, cuts_from, is_from, is_under, lies_in}
+use Rattle.mesa_merge.proofs.mesa_scan.Cutting.{below_at, cut_none, cuts_whole, is_less}
+use Rattle.mesa_merge.proofs.mesa_scan.Cuts.{all_both}
 use Rattle.mesa_delta.specs.declared.input.Input.{Input}
 use Rattle.mesa_merge.specs.Inputs.{knowns_of}
 use Rattle.mesa_split.specs.Lending.{AllTell, HavePieces, answers_of}

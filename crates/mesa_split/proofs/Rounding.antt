@@ -11,7 +11,7 @@ use Rattle.mesa_delta.specs.declared.error.FileError.TheVariants.{Damaged, Memor
 use Rattle.mesa_delta.specs.declared.input.Input.{Input}
 use Rattle.mesa_delta.specs.declared.writer.DeltaWriter.{DeltaWriter}
 use Rattle.mesa_answer.specs.declared.groups.Groups.{Groups}
-use Rattle.mesa_scan.specs.Cursors.{IsInput}
+use Rattle.mesa_compact.specs.mesa_scan.Cursors.{IsInput}
 use Rattle.mesa_merge.specs.Faults.{faults_of}
 use Rattle.mesa_merge.specs.Inputs.{knowns_of}
 use Rattle.mesa_tasks.specs.declared.merging.CompactError.{CompactError}

@@ -10,7 +10,7 @@ use Rattle.mesa_delta.specs.declared.error.FileError.TheVariants.{Memory}
 use Rattle.mesa_delta.specs.declared.input.Input.{Input}
 use Rattle.mesa_answer.specs.Answering.{KeepsSums}
 use Rattle.mesa_answer.specs.declared.groups.Groups.{Groups}
-use Rattle.mesa_scan.specs.Cursors.{IsInput}
+use Rattle.mesa_compact.specs.mesa_scan.Cursors.{IsInput}
 use Rattle.mesa_merge.specs.Faults.{faults_of}
 use Rattle.mesa_merge.specs.Inputs.{knowns_of}
 use Rattle.mesa_merge.specs.Sums.{sum_damage}

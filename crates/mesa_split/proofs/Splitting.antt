@@ -11,13 +11,13 @@ use Rattle.mesa_schema.specs.Lineages.{IsLineage}
 use Rattle.mesa_schema.specs.Rows.{AreRowsOf}
 use Rattle.mesa_schema.proofs.PresentRows.{present_form}
 use Rattle.mesa_batch.specs.Bound.{FoldsTotals}
-use Rattle.mesa_delta.specs.mesa_block.Layout.{Layout}
-use Rattle.mesa_delta.specs.mesa_block.Rows.{IsRow}
+use Rattle.mesa_compact.specs.mesa_block.Layout.{Layout}
+use Rattle.mesa_compact.specs.mesa_block.Rows.{IsRow}
 use Rattle.mesa_delta.specs.Indexed.{IsIndexOf}
 use Rattle.mesa_delta.specs.Summary.{file_layout}
 use Rattle.mesa_delta.specs.declared.input.Input.{Input}
-use Rattle.mesa_scan.specs.Cursors.{IsInput, lift_by}
-use Rattle.mesa_scan.proofs.Cutting.{cut_none}
+use Rattle.mesa_compact.specs.mesa_scan.Cursors.{IsInput, lift_by}
+use Rattle.mesa_merge.proofs.mesa_scan.Cutting.{cut_none}
 use Rattle.mesa_file.specs.declared.damage.Damage.{Damage}
 use Rattle.mesa_merge.specs.Damaged.{IsDamageOf}
 use Rattle.mesa_merge.specs.Faults.{faults_of}

@@ -14,7 +14,7 @@ use Rattle.mesa_delta.specs.declared.error.FileError.TheVariants.{Read}
 use Rattle.mesa_delta.specs.declared.input.Input.{Input}
 use Rattle.mesa_answer.specs.Answering.{KeepsSums}
 use Rattle.mesa_answer.specs.declared.groups.Groups.{Groups}
-use Rattle.mesa_scan.specs.Cursors.{IsInput}
+use Rattle.mesa_compact.specs.mesa_scan.Cursors.{IsInput}
 use Rattle.mesa_merge.specs.Faults.{HaveFaultCause, NoneFell, SomeRose, faults_of}
 use Rattle.mesa_merge.specs.Inputs.{AreInputs, knowns_of}
 use Rattle.mesa_merge.proofs.Inputs.{none_fell}

@@ -7,7 +7,7 @@ use Rattle.mesa_schema.specs.Changes.{Lineage, columns_of}
 use Rattle.mesa_schema.specs.Folded.{folded, rows_of}
 use Rattle.mesa_schema.specs.Rows.{AreRowsOf, keys_rise}
 use Rattle.mesa_schema.specs.Views.{view_columns, view_rows}
-use Rattle.mesa_scan.specs.Cut.{CutsRise}
+use Rattle.mesa_compact.specs.mesa_scan.Cut.{CutsRise}
 use Rattle.mesa_merge.specs.Inputs.{Known, lifted_parts}
 use Rattle.mesa_merge.specs.Inputs.{AreTold as AreToldKnowns}
 use Rattle.mesa_tasks.specs.Inputs.{AreTold, present_parts}

@@ -1,4 +1,3 @@
-pub use Rattle.mesa_compact.specs as mesa_compact
 pub mod Parts
 pub mod Held
 pub mod Lending

@@ -10,8 +10,8 @@ use Rattle.mesa_batch.specs.Bound.{KeepsBound}
 use Rattle.mesa_delta.specs.declared.error.FileError.{FileError}
 use Rattle.mesa_delta.specs.declared.error.FileError.TheVariants.{Damaged, Read}
 use Rattle.mesa_delta.specs.declared.input.Input.{Input}
-use Rattle.mesa_scan.specs.Cursors.{IsInput}
-use Rattle.mesa_scan.specs.Cut.{cut, cuts_from, is_under, lies_in}
+use Rattle.mesa_compact.specs.mesa_scan.Cursors.{IsInput}
+use Rattle.mesa_compact.specs.mesa_scan.Cut.{cut, cuts_from, is_under, lies_in}
 use Rattle.mesa_merge.specs.Damaged.{IsDamageOf}
 use Rattle.mesa_merge.specs.Faults.{HaveFaultCause, faults_of}
 use Rattle.mesa_merge.specs.Inputs.{AreTold, Known, knowns_of, lifted_parts}

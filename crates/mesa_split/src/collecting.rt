@@ -7,7 +7,7 @@ ghost use Rattle.mesa_schema.specs.Columns.{Columns, aggs_of};
 ghost use Rattle.mesa_schema.specs.Folded.{folded, rows_of};
 ghost use Rattle.mesa_batch.specs.Bound.{KeepsBound};
 ghost use Rattle.mesa_delta.specs.declared.error.FileError.TheVariants as file_error;
-ghost use Rattle.mesa_scan.specs.Cursors.{IsInput};
+ghost use Rattle.mesa_compact.specs.mesa_scan.Cursors.{IsInput};
 ghost use Rattle.mesa_merge.specs.Damaged.{IsDamageOf};
 ghost use Rattle.mesa_merge.specs.Faults.{HaveFaultCause, faults_of};
 ghost use Rattle.mesa_merge.specs.Inputs.{AreInputs, AreTold, knowns_of, lifted_parts};

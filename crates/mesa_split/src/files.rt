@@ -2,7 +2,7 @@
 ghost use Rattle.std.specs.Prelude.{◌≡◌, ◌<◌, [], length, None};
 ghost use Rattle.std.specs.List.{AllByRecursion};
 ghost use Rattle.mesa_delta.specs.Writing.{HasTaken, columns_of, draft_of, id_of};
-ghost use Rattle.mesa_scan.specs.Cut.{CutsRise};
+ghost use Rattle.mesa_compact.specs.mesa_scan.Cut.{CutsRise};
 ghost use Rattle.mesa_compact.specs.Grouping.{HavePut, TakesRows};
 ghost use Rattle.mesa_split.specs.Held.{held_bytes, sent_bytes};
 ghost use Rattle.mesa_split.specs.Lending.{AllTell, AreReady, own_in};

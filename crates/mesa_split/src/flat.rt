@@ -22,7 +22,7 @@ pub(crate) struct FlatRows {
 impl Model for FlatRows {
     ghost use Rattle.std.specs.Prelude.{List};
     ghost use Rattle.mesa_schema.specs.declared.rows.Row.{Row};
-    ghost use Rattle.mesa_block.specs.Fill.{AreOver, rows_over};
+    ghost use Rattle.mesa_compact.specs.mesa_block.Fill.{AreOver, rows_over};
 
     ghost Value = { List Row };
 

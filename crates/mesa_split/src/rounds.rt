@@ -5,7 +5,7 @@ ghost use Rattle.std.specs.Thread.{IsSend, IsSync};
 ghost use Rattle.mesa_schema.specs.declared.rows.Row.{Row as AnyRow};
 ghost use Rattle.mesa_schema.specs.Rows.{AreRowsOf, keys_rise};
 ghost use Rattle.mesa_delta.specs.Writing.{columns_of, draft_of};
-ghost use Rattle.mesa_scan.specs.Cut.{CutsRise};
+ghost use Rattle.mesa_compact.specs.mesa_scan.Cut.{CutsRise};
 ghost use Rattle.mesa_compact.specs.Grouping.{TakesRows};
 ghost use Rattle.mesa_split.specs.Held.{held_bytes, sent_bytes};
 ghost use Rattle.mesa_split.specs.Lending.{AllTell, AreReady, HavePieces, answers_of, lists_in, own_in};

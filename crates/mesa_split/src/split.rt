@@ -3,7 +3,7 @@ ghost use Rattle.std.specs.Prelude.{◌≡◌, ◌<◌, ◌≤◌, ℕ, length, 
 ghost use Rattle.std.specs.List.{AllByRecursion};
 ghost use Rattle.mesa_file.specs.declared.damage.Damage.{Damage as AnyDamage};
 ghost use Rattle.mesa_schema.specs.Changes.{Lineage};
-ghost use Rattle.mesa_scan.specs.Cut.{CutsRise};
+ghost use Rattle.mesa_compact.specs.mesa_scan.Cut.{CutsRise};
 ghost use Rattle.mesa_merge.specs.Faults.{faults_of};
 ghost use Rattle.mesa_tasks.specs.GivingBack.{task_inputs};
 ghost use Rattle.mesa_tasks.specs.Spares.{IsSpareOf};

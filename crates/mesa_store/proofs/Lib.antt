@@ -1,2 +1,3 @@
+pub use Rattle.mesa_commit.proofs as mesa_commit
 mod Joined
 mod Gates

@@ -1,7 +1,7 @@
 -- A disk on which a store was found, and a record that is written to one.
 use Rattle.std.specs.Prelude.{◌≡◌, ℕ, ◌+◌, List, [], ◌∷◌, length, Option, None, Some, ⊤}
 use Rattle.std.specs.List.{AllByRecursion}
-use Rattle.mesa_disk.specs.mesa_key.Spelling.{AreBytes}
+use Rattle.mesa_image_spec.specs.mesa_key.Spelling.{AreBytes}
 use Rattle.mesa_disk.specs.Image.{Image}
 use Rattle.mesa_disk.specs.Story.{Story}
 use Rattle.mesa_disk.specs.declared.area.Area.{Area}

@@ -1,5 +1,5 @@
 ghost use Rattle.std.specs.Prelude.{◌≡◌, ◌+◌, ◌<◌, ◌≤◌, ℕ, List, [], ◌∷◌, length, IfOk, OnOk, Some, Option};
-ghost use Rattle.mesa_disk.specs.mesa_io.Causes.{HasCause};
+ghost use Rattle.mesa_commit.specs.mesa_io.Causes.{HasCause};
 ghost use Rattle.mesa_disk.specs.Image.{Image, area_of, file_of};
 ghost use Rattle.mesa_disk.specs.Story.{Spans, Steps};
 ghost use Rattle.mesa_disk.specs.declared.area.Area.{Area};

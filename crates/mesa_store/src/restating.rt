@@ -1,5 +1,5 @@
 ghost use Rattle.std.specs.Prelude.{◌≡◌, ◌+◌, ◌<◌, ◌≤◌, ℕ, List, [], ◌∷◌, length, IfOk, OnOk, Some};
-ghost use Rattle.mesa_disk.specs.mesa_io.Causes.{HasCause};
+ghost use Rattle.mesa_commit.specs.mesa_io.Causes.{HasCause};
 ghost use Rattle.mesa_disk.specs.Image.{AnyChange, Image, area_of};
 ghost use Rattle.mesa_disk.specs.Story.{Spans, Steps};
 ghost use Rattle.mesa_journal.specs.Areas.{holds_body, other_of};

@@ -1,5 +1,5 @@
 ghost use Rattle.std.specs.Prelude.{◌≡◌, ◌<◌, ◌≤◌, ℕ, List, OnOk, Some};
-ghost use Rattle.mesa_disk.specs.mesa_io.Causes.{HasCause};
+ghost use Rattle.mesa_commit.specs.mesa_io.Causes.{HasCause};
 ghost use Rattle.mesa_disk.specs.Image.{AnyChange, Image};
 ghost use Rattle.mesa_disk.specs.Story.{Spans, Steps};
 ghost use Rattle.mesa_disk.specs.declared.area.Area.{Area};

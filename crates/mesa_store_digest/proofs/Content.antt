@@ -2,24 +2,24 @@
 use Rattle.std.proofs.Common.{◌≡◌, ℕ, ◌+◌, ◌<◌, List, [], ◌∷◌, inl, inr, true, refl, sym, ◌∙◌, ap, subst, arith}
 use Rattle.std.specs.Prelude.{Option, Result, Err}
 use Rattle.std.specs.List.{AllByRecursion}
-use Rattle.mesa_disk.specs.mesa_io.Causes.{Rose}
+use Rattle.mesa_recover.specs.mesa_io.Causes.{Rose}
 use Rattle.mesa_disk.specs.Story.{Story}
 use Rattle.mesa_delta.specs.declared.input.Input.{Input}
-use Rattle.mesa_tasks.specs.mesa_scan.Cursors.{reader_in}
+use Rattle.mesa_query.specs.mesa_scan.Cursors.{reader_in}
 use Rattle.mesa_digest.specs.Digests.{digests_of}
 use Rattle.mesa_digest.specs.Digests as digest
 use Rattle.mesa_digest.specs.declared.digesting.DigestPair.{DigestPair}
-use Rattle.mesa_image_spec.specs.mesa_schema.declared.rows.Row.{Row}
-use Rattle.mesa_image_spec.specs.mesa_schema.Columns.{Columns, aggs_of}
-use Rattle.mesa_image_spec.specs.mesa_schema.Rows.{AreRowsOf, keys_rise}
-use Rattle.mesa_image_spec.proofs.mesa_schema.RisingRows.{folded_rise}
+use Rattle.mesa_plans.specs.mesa_schema.declared.rows.Row.{Row}
+use Rattle.mesa_plans.specs.mesa_schema.Columns.{Columns, aggs_of}
+use Rattle.mesa_plans.specs.mesa_schema.Rows.{AreRowsOf, keys_rise}
+use Rattle.mesa_plans.proofs.mesa_schema.RisingRows.{folded_rise}
 use Rattle.mesa_filter.specs.Asked.{Asked, places_below}
-use Rattle.mesa_image_spec.specs.mesa_model.Query.{answer_rows}
-use Rattle.mesa_image_spec.specs.mesa_model.Relations.{relation_columns, relation_content}
-use Rattle.mesa_query.specs.mesa_answer.Answering.{grouped_columns}
+use Rattle.mesa_plans.specs.mesa_model.Query.{answer_rows}
+use Rattle.mesa_plans.specs.mesa_model.Relations.{relation_columns, relation_content}
+use Rattle.mesa_plans.specs.mesa_answer.Answering.{grouped_columns}
 use Rattle.mesa_image_spec.specs.Catalog.{Catalog}
-use Rattle.mesa_merge.specs.Faults.{SomeRose, faults_of}
-use Rattle.mesa_merge.specs.Inputs.{AreTold, knowns_of}
+use Rattle.mesa_plans.specs.mesa_merge.Faults.{SomeRose, faults_of}
+use Rattle.mesa_plans.specs.mesa_merge.Inputs.{AreTold, knowns_of}
 use Rattle.mesa_plans.specs.Told.{TellContent}
 use Rattle.mesa_query.specs.Files.{inputs_in}
 use Rattle.mesa_query.specs.Relation.{parts_pinned}

@@ -4,14 +4,14 @@ use Rattle.std.specs.Prelude.{◌⊎◌, ◌≢◌, is_some, nat_lt, option_map}
 use Rattle.std.proofs.lemmas.Bool.{ltb-false, ltb-true}
 use Rattle.std.proofs.lemmas.Bool.Decides.{eqb_tells}
 use Rattle.std.proofs.lemmas.Simd.{map-map}
-use Rattle.mesa_disk.specs.mesa_io.Causes.{Rose, last}
-use Rattle.mesa_disk.specs.mesa_file.declared.damage.Damage.{Damage}
+use Rattle.mesa_recover.specs.mesa_io.Causes.{Rose, last}
+use Rattle.mesa_tasks.specs.mesa_file.declared.damage.Damage.{Damage}
 use Rattle.mesa_disk.specs.Story.{Story}
 use Rattle.mesa_delta.specs.declared.error.FileError.{FileError}
 use Rattle.mesa_delta.specs.declared.error.FileError.TheVariants as file_error
-use Rattle.mesa_image_spec.specs.mesa_schema.Columns.{Columns}
+use Rattle.mesa_plans.specs.mesa_schema.Columns.{Columns}
 use Rattle.mesa_filter.specs.Query.{BuiltQuery, IsQueryOf}
-use Rattle.mesa_image_spec.specs.mesa_model.Relations.{Relation, relation_columns, relation_content, relation_of}
+use Rattle.mesa_plans.specs.mesa_model.Relations.{Relation, relation_columns, relation_content, relation_of}
 use Rattle.mesa_image_spec.specs.Catalog.{Catalog, Stock, no_stock, stock_at}
 use Rattle.mesa_image_spec.specs.Contents.{Rows, kept_of, table_of}
 use Rattle.mesa_image_spec.specs.Fitting.{delta_shelved, deltas_of}
@@ -36,9 +36,9 @@ use Rattle.mesa_rules.proofs.Answering.{columns_there, relation_there}
 use Rattle.mesa_rules.specs.Found.{columns_at, relation_seen}
 use Rattle.mesa_rules.specs.Seen.{known_in, known_of}
 use Rattle.mesa_rules.specs.declared.found.Found.{Found}
-use Rattle.mesa_catalog.specs.mesa_table.declared.relation.Relation.{Relation as Place}
-use Rattle.mesa_history_spec.specs.Rows.{no_rows}
-use Rattle.mesa_catalog.specs.mesa_history_spec.mesa_span.Ranges.{base_before}
+use Rattle.mesa_plans.specs.mesa_table.declared.relation.Relation.{Relation as Place}
+use Rattle.mesa_rules.specs.mesa_history_spec.Rows.{no_rows}
+use Rattle.mesa_plans.specs.mesa_span.Ranges.{base_before}
 use Rattle.mesa_tasks.specs.Opening.{Counted, is_read_fault}
 use Rattle.mesa_tasks.specs.Pins.{IsPinned}
 use Rattle.mesa_tasks.specs.declared.querying.Pinned.{Pinned}

@@ -1,4 +1,4 @@
-pub use Rattle.mesa_history_spec.specs as mesa_history_spec
+pub use Rattle.mesa_list.specs as mesa_list
 pub mod Errors
 pub mod Latest
 pub mod Looked

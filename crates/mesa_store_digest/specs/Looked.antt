@@ -1,12 +1,12 @@
 -- The digests of a relation at the newest version.
 use Rattle.std.specs.Prelude.{◌≡◌, ℕ, ◌+◌, List, length, Option, Some}
-use Rattle.mesa_image_spec.specs.mesa_schema.Columns.{Columns}
-use Rattle.mesa_image_spec.specs.mesa_schema.Rows.{AreRowsOf}
-use Rattle.mesa_image_spec.specs.mesa_schema.declared.rows.Row.{Row}
+use Rattle.mesa_plans.specs.mesa_schema.Columns.{Columns}
+use Rattle.mesa_plans.specs.mesa_schema.Rows.{AreRowsOf}
+use Rattle.mesa_plans.specs.mesa_schema.declared.rows.Row.{Row}
 use Rattle.mesa_digest.specs.Digests as digest
 use Rattle.mesa_digest.specs.declared.digesting.DigestPair.{DigestPair}
 use Rattle.mesa_disk.specs.Story.{Story}
-use Rattle.mesa_image_spec.specs.mesa_model.Relations.{Relation, relation_columns}
+use Rattle.mesa_plans.specs.mesa_model.Relations.{Relation, relation_columns}
 use Rattle.mesa_image_spec.specs.Catalog.{Catalog}
 use Rattle.mesa_image_spec.specs.Contents.{Rows, kept_of}
 use Rattle.mesa_recover.specs.Opening.{IsSoundStart}

@@ -5,7 +5,7 @@ ghost use Rattle.mesa_delta.specs.declared.error.FileError.TheVariants as file_e
 ghost use Rattle.mesa_disk.specs.Story.{Unmoved};
 ghost use Rattle.mesa_filter.specs.Query.{IsQueryOf};
 ghost use Rattle.mesa_image_spec.specs.Catalog.{stock_at};
-ghost use Rattle.mesa_tasks.specs.mesa_scan.Cursors.{reader_in};
+ghost use Rattle.mesa_query.specs.mesa_scan.Cursors.{reader_in};
 ghost use Rattle.mesa_catalog.specs.Lookups.{relation_of};
 ghost use Rattle.mesa_tasks.specs.GivingBack.{pinned_inputs};
 ghost use Rattle.mesa_rules.specs.Found.{columns_at};

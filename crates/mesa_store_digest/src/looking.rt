@@ -2,14 +2,14 @@
 ghost use Rattle.std.specs.Prelude.{◌≡◌, ◌<◌, List, Err, IfErr, IfOk, IfSome, length};
 ghost use Rattle.mesa_delta.specs.declared.error.FileError.TheVariants as file_error;
 ghost use Rattle.mesa_disk.specs.Story.{Unmoved};
-ghost use Rattle.mesa_disk.specs.mesa_file.declared.damage.Damage.{Damage as AnyDamage};
+ghost use Rattle.mesa_tasks.specs.mesa_file.declared.damage.Damage.{Damage as AnyDamage};
 ghost use Rattle.mesa_image_spec.specs.Catalog.{stock_at};
-ghost use Rattle.mesa_merge.specs.Faults.{HaveFaultCause, faults_of};
+ghost use Rattle.mesa_plans.specs.mesa_merge.Faults.{HaveFaultCause, faults_of};
 ghost use Rattle.mesa_plans.specs.Told.{TellContent};
 ghost use Rattle.mesa_query.specs.Files.{inputs_in};
 ghost use Rattle.mesa_recover.specs.Opened.{IsOpened};
 ghost use Rattle.mesa_rules.specs.Found.{columns_at};
-ghost use Rattle.mesa_image_spec.specs.mesa_schema.declared.rows.Row.{Row as AnyRow};
+ghost use Rattle.mesa_plans.specs.mesa_schema.declared.rows.Row.{Row as AnyRow};
 ghost use Rattle.mesa_tasks.specs.Errors.{Differs};
 ghost use Rattle.mesa_tasks.specs.Pins.{IsPinned};
 ghost use Rattle.mesa_store_digest.specs.Latest.{HasLookReason, all_asked};

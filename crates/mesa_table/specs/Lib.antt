@@ -1,4 +1,11 @@
+pub use Rattle.mesa_image_spec.specs.mesa_commit as mesa_commit
+pub use Rattle.mesa_image_spec.specs.mesa_delta as mesa_delta
+pub use Rattle.mesa_file.specs as mesa_file
+pub use Rattle.mesa_image_spec.specs.mesa_history_spec as mesa_history_spec
 pub use Rattle.mesa_image_spec.specs as mesa_image_spec
+pub use Rattle.mesa_key.specs as mesa_key
+pub use Rattle.mesa_image_spec.specs.mesa_model as mesa_model
+pub use Rattle.mesa_value.specs as mesa_value
 pub mod Meaning
 pub mod Lookups
 pub mod Readied

@@ -5,7 +5,7 @@ use Rattle.mesa_schema.specs.Columns.{key_names, value_names}
 use Rattle.mesa_schema.specs.Recasts.{recast_lineage}
 use Rattle.mesa_batch.specs.Totals.{totals_recast, totals_with}
 use Rattle.mesa_span.specs.Ranges.{end_of}
-use Rattle.mesa_record.specs.mesa_key.declared.Format.TheVariants as format
+use Rattle.mesa_key.specs.declared.Format.TheVariants as format
 use Rattle.mesa_record.specs.declared.record.Files.{Files}
 use Rattle.mesa_record.specs.declared.record.Part.{Part}
 use Rattle.mesa_record.specs.declared.checkpoint.StatedSingle.{StatedSingle}

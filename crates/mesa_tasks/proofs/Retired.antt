@@ -1,7 +1,7 @@
 -- Readers that are given back one after another.
 use Rattle.std.proofs.Common.{◌≡◌, ℕ, ◌≤◌, List, [], ◌∷◌, ◌++◌, refl, sym, ap, subst, ◌∙◌, arith, append_assoc, append-nil}
 use Rattle.std.specs.List.{AllByRecursion}
-use Rattle.mesa_io.specs.Causes.{Rose}
+use Rattle.mesa_scan.specs.mesa_io.Causes.{Rose}
 use Rattle.mesa_disk.specs.Story.{Story}
 use Rattle.mesa_delta.specs.declared.input.Input.{Input}
 use Rattle.mesa_tasks.specs.GivingBack.{GivesBack}

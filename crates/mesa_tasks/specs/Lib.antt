@@ -1,6 +1,9 @@
+pub use Rattle.mesa_batch.specs as mesa_batch
+pub use Rattle.mesa_delta.specs.mesa_block as mesa_block
+pub use Rattle.mesa_file.specs as mesa_file
+pub use Rattle.mesa_filter.specs as mesa_filter
+pub use Rattle.mesa_scan.specs.mesa_io as mesa_io
 pub use Rattle.mesa_scan.specs as mesa_scan
-pub use Rattle.mesa_delta.specs as mesa_delta
-pub use Rattle.mesa_history_spec.specs as mesa_history_spec
 pub mod Serials
 pub mod Errors
 pub mod Made

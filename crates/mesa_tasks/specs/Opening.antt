@@ -1,7 +1,7 @@
 -- What is met where files are opened.
 use Rattle.std.specs.Prelude.{◌≡◌, ℕ, ◌+◌, ◌<◌, ◌≤◌, ◌⊎◌, List, [], ◌∷◌, Bool, true, false, Option, None, Some, Result, Ok, Err, ⊤}
 use Rattle.sha2.specs.Sha256.{sha256}
-use Rattle.mesa_io.specs.Causes.{last}
+use Rattle.mesa_scan.specs.mesa_io.Causes.{last}
 use Rattle.mesa_file.specs.declared.damage.Damage.{Damage}
 use Rattle.mesa_file.specs.declared.damage.Seen.TheVariants as seen
 use Rattle.mesa_file.specs.declared.file_ref.FileRef.{FileRef}

@@ -4,8 +4,8 @@ use Rattle.std.specs.Prelude.{pos, nat_abs, sum_by, map, filter}
 use Rattle.std.proofs.lemmas.List.{map-append, take-append-drop}
 use Rattle.std.proofs.lemmas.List.Elements.{filter-append}
 use Rattle.std.proofs.lemmas.List.Sums.{sum_by-append}
-use Rattle.mesa_schema.specs.mesa_value.Agg.{sum_bound}
-use Rattle.mesa_key.specs.Spelling.{key_of}
+use Rattle.mesa_answer.specs.mesa_value.Agg.{sum_bound}
+use Rattle.mesa_answer.specs.mesa_key.Spelling.{key_of}
 use Rattle.mesa_schema.specs.declared.rows.Row.{Row}
 use Rattle.mesa_schema.specs.Changes.{columns_of}
 use Rattle.mesa_schema.specs.Columns.{Columns, kinds_of}

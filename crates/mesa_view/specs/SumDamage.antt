@@ -1,7 +1,7 @@
 -- A sum that would leave its type, which only unsound bytes can bring.
 use Rattle.std.specs.Prelude.{◌≡◌, ℕ, ◌-◌, ◌^◌, List, [], ◌++◌, map, Option, Some, None, false}
-use Rattle.mesa_file.specs.declared.damage.Damage.{Damage}
-use Rattle.mesa_file.specs.declared.damage.Seen.TheVariants as seen
+use Rattle.mesa_scan.specs.mesa_file.declared.damage.Damage.{Damage}
+use Rattle.mesa_scan.specs.mesa_file.declared.damage.Seen.TheVariants as seen
 use Rattle.mesa_schema.specs.declared.rows.Row.{Row}
 use Rattle.mesa_schema.specs.declared.views.View.{View}
 use Rattle.mesa_schema.specs.Columns.{Columns}

@@ -1,7 +1,7 @@
 // The rows of a view, derived from a file of its table.
 ghost use Rattle.std.specs.Prelude.{◌≡◌, ◌⊎◌, ◌<◌, ℕ, List, [], length, map, slice_get, IfOk, IfErr, IfSome, IsTrue, OnOk, Some};
-ghost use Rattle.mesa_io.specs.Causes.{HasFaultCause};
-ghost use Rattle.mesa_file.specs.declared.damage.Damage.{Damage as AnyDamage};
+ghost use Rattle.mesa_scan.specs.mesa_io.Causes.{HasFaultCause};
+ghost use Rattle.mesa_scan.specs.mesa_file.declared.damage.Damage.{Damage as AnyDamage};
 ghost use Rattle.mesa_schema.specs.declared.rows.Row.{Row as AnyRow};
 ghost use Rattle.mesa_schema.specs.Changes.{columns_of};
 ghost use Rattle.mesa_schema.specs.Folded.{grouped};

@@ -1,7 +1,7 @@
 // A file's matching rows put into groups as they are read.
 ghost use Rattle.std.specs.Prelude.{◌≡◌, ◌++◌, ℕ, List, map, OnOk, IfErr, Some, slice_get};
-ghost use Rattle.mesa_io.specs.Causes.{HasFaultCause};
-ghost use Rattle.mesa_file.specs.declared.damage.Damage.{Damage as AnyDamage};
+ghost use Rattle.mesa_scan.specs.mesa_io.Causes.{HasFaultCause};
+ghost use Rattle.mesa_scan.specs.mesa_file.declared.damage.Damage.{Damage as AnyDamage};
 ghost use Rattle.mesa_schema.specs.declared.rows.Row.{Row as AnyRow};
 ghost use Rattle.mesa_schema.specs.Changes.{columns_of};
 ghost use Rattle.mesa_filter.specs.Filter.{filtered};

@@ -2,18 +2,18 @@
 use Rattle.std.proofs.Common.{◌≡◌, ◌∙◌, ℕ, zero, suc, ◌<◌, List, [], ◌∷◌, length, map, true, refl, sym, ap, subst, zero-add, Option, None, Some}
 use Rattle.std.specs.Prelude.{flat_map, slice_get}
 use Rattle.std.specs.List.{AllByRecursion}
-use Rattle.mesa_model.specs.mesa_batch.Totals.{abs_total, sum_bound}
-use Rattle.mesa_plans.specs.mesa_commit.Images.{Has}
-use Rattle.mesa_publishing.specs.mesa_compact.Bounded.{AreBounded, AreOwnBounded, IsBounded}
+use Rattle.mesa_write_turns.specs.mesa_batch.Totals.{abs_total, sum_bound}
+use Rattle.mesa_engine.specs.mesa_commit.Images.{Has}
+use Rattle.mesa_copy.specs.mesa_compact.Bounded.{AreBounded, AreOwnBounded, IsBounded}
 use Rattle.mesa_disk.specs.Image.{Image}
 use Rattle.mesa_disk.specs.Story.{Story}
-use Rattle.mesa_plans.specs.mesa_schema.Changes.{Lineage, columns_of, epoch_of, lifted}
-use Rattle.mesa_plans.specs.mesa_schema.Columns.{Columns}
-use Rattle.mesa_plans.specs.mesa_schema.Folded.{rows_of}
-use Rattle.mesa_plans.specs.mesa_schema.Views.{view_columns}
-use Rattle.mesa_plans.specs.mesa_schema.declared.rows.Row.{Row}
-use Rattle.mesa_plans.specs.mesa_schema.declared.views.View.{View}
-use Rattle.mesa_tasks.specs.mesa_delta.declared.input.Input.{Input}
+use Rattle.mesa_write_turns.specs.mesa_schema.Changes.{Lineage, columns_of, epoch_of, lifted}
+use Rattle.mesa_write_turns.specs.mesa_schema.Columns.{Columns}
+use Rattle.mesa_write_turns.specs.mesa_schema.Folded.{rows_of}
+use Rattle.mesa_write_turns.specs.mesa_schema.Views.{view_columns}
+use Rattle.mesa_write_turns.specs.mesa_schema.declared.rows.Row.{Row}
+use Rattle.mesa_write_turns.specs.mesa_schema.declared.views.View.{View}
+use Rattle.mesa_delta.specs.declared.input.Input.{Input}
 use Rattle.mesa_engine.specs.mesa_image_spec.Catalog.{Catalog, Delta, Stock, stock_at}
 use Rattle.mesa_engine.specs.mesa_image_spec.Contents.{Rows, present}
 use Rattle.mesa_engine.specs.mesa_image_spec.Fitting.{delta_shelved, deltas_of, shelved}
@@ -24,7 +24,7 @@ use Rattle.mesa_engine.specs.mesa_image_spec.Moves.{is_base, last_of}
 use Rattle.mesa_engine.specs.EngineState.{EngineState}
 use Rattle.mesa_engine.specs.Vault.{Origin, IsVault}
 use Rattle.mesa_engine.proofs.Standing.{held_there}
-use Rattle.mesa_publishing.specs.mesa_compact.mesa_merge.Inputs.{AreTold, knowns_of, lifted_parts}
+use Rattle.mesa_plans.specs.mesa_merge.Inputs.{AreTold, knowns_of, lifted_parts}
 use Rattle.mesa_model.specs.declared.entries.Entry.{Entry}
 use Rattle.mesa_plans.specs.Folding.{folded_deltas}
 use Rattle.mesa_plans.specs.Gathered.{IsGathered, unread_view}
@@ -40,7 +40,7 @@ use Rattle.mesa_tasks.specs.Opening.{HaveOpened}
 use Rattle.mesa_tasks.specs.declared.merging.Task.{Task}
 use Rattle.mesa_tasks.specs.declared.merging.TaskView.{TaskView}
 use Rattle.mesa_tasks.specs.declared.opening.Wanted.{Wanted}
-use Rattle.mesa_engine.specs.mesa_invariant_spec.Invariant.{Outset}
+use Rattle.mesa_write_turns.specs.mesa_invariant_spec.Invariant.{Outset}
 use Rattle.mesa_work_turns.proofs.Grants.{shaped_at}
 
 -- a view that has no files of its own has none that could be wrong

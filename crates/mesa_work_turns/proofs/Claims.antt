@@ -4,13 +4,13 @@ use Rattle.std.specs.Prelude.{Result}
 use Rattle.std.specs.Option.{ok_or}
 use Rattle.std.proofs.Math.ListN.{get_or-map}
 use Rattle.std.proofs.lemmas.Simd.{map-map}
-use Rattle.mesa_plans.specs.mesa_list.Checks.{◌>>=◌, ◌>>◌, refused_as}
-use Rattle.mesa_plans.specs.mesa_schema.Columns.{place_of}
+use Rattle.mesa_write_turns.specs.mesa_list.Checks.{◌>>=◌, ◌>>◌, refused_as}
+use Rattle.mesa_write_turns.specs.mesa_schema.Columns.{place_of}
 use Rattle.mesa_span.specs.declared.works.Work.{Work}
 use Rattle.mesa_span.specs.Ranges.{base_before}
 use Rattle.mesa_span.specs.Work.{missing_end, next_work}
 use Rattle.mesa_span.specs.declared.works.Work.TheVariants as range
-use Rattle.mesa_engine.specs.mesa_history_spec.Machine.{Claim, Machine, Merges, claim_of, ranges_at, refuse_busy}
+use Rattle.mesa_write_turns.specs.mesa_history_spec.Machine.{Claim, Machine, Merges, claim_of, ranges_at, refuse_busy}
 use Rattle.mesa_engine.specs.mesa_image_spec.Catalog.{Catalog, Stock, no_stock, ranges_of, start_in, stock_at}
 use Rattle.mesa_engine.specs.mesa_image_spec.Fitting.{is_number, may_be_work}
 use Rattle.mesa_engine.specs.mesa_image_spec.Shape.{IsShaped}
@@ -26,7 +26,7 @@ use Rattle.mesa_model.specs.declared.replies.Reply.{Reply}
 use Rattle.mesa_model.specs.declared.replies.Reply.TheVariants as reply
 use Rattle.mesa_engine.specs.EngineState.{EngineState, books_of, projection_of}
 use Rattle.mesa_rules.specs.Seen.{number_of}
-use Rattle.mesa_engine.specs.mesa_history_spec.Rows.{no_rows}
+use Rattle.mesa_write_turns.specs.mesa_history_spec.Rows.{no_rows}
 
 module _ (l : EngineState) (at : ℕ) (name : List ℕ) where
   abbrev bare : Warehouse

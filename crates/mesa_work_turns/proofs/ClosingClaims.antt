@@ -2,7 +2,7 @@
 use Rattle.std.proofs.Common.{◌≡◌, ◌∙◌, ℕ, ◌<◌, ◌≤◌, List, length, Bool, true, false, refl, sym, ap, subst, arith, Option, None, Some, Ok}
 use Rattle.std.proofs.lemmas.List.{length-map}
 use Rattle.std.proofs.Math.ListN.{get_or-map}
-use Rattle.mesa_publishing.specs.mesa_list.Checks.{◌>>◌, refuse_unless}
+use Rattle.mesa_write_turns.specs.mesa_list.Checks.{◌>>◌, refuse_unless}
 use Rattle.mesa_span.specs.Ranges.{base_before}
 use Rattle.mesa_span.specs.declared.works.Work.{Work}
 use Rattle.mesa_span.specs.declared.works.Work.TheVariants as range_of
@@ -16,16 +16,16 @@ use Rattle.mesa_model.specs.declared.commands.WorkWords.{WorkWords}
 use Rattle.mesa_model.specs.declared.entries.Entry.{Entry}
 use Rattle.mesa_model.specs.declared.replies.Refusal.{Refusal}
 use Rattle.mesa_model.specs.declared.replies.Refusal.TheVariants as no
-use Rattle.mesa_publishing.specs.mesa_history_spec.Claims.{HasClaim, HasClaimAt, HasErrand, is_live}
-use Rattle.mesa_publishing.specs.mesa_history_spec.Machine.{Claim, Errand, Machine, Merges, claim_checked, ranges_at}
-use Rattle.mesa_publishing.specs.mesa_history_spec.Run.{Place, Renewed}
-use Rattle.mesa_publishing.specs.mesa_history_spec.Turns.{IsDue}
-use Rattle.mesa_publishing.proofs.mesa_history_spec.Claiming.{held_is_live}
+use Rattle.mesa_write_turns.specs.mesa_history_spec.Claims.{HasClaim, HasClaimAt, HasErrand, is_live}
+use Rattle.mesa_write_turns.specs.mesa_history_spec.Machine.{Claim, Errand, Machine, Merges, claim_checked, ranges_at}
+use Rattle.mesa_write_turns.specs.mesa_history_spec.Run.{Place, Renewed}
+use Rattle.mesa_write_turns.specs.mesa_history_spec.Turns.{IsDue}
+use Rattle.mesa_engine.proofs.mesa_history_spec.Claiming.{held_is_live}
 use Rattle.mesa_engine.specs.mesa_image_spec.Catalog.{no_stock, ranges_of, stock_at}
-use Rattle.mesa_engine.specs.mesa_history_spec.Bare.{bare_table}
-use Rattle.mesa_engine.specs.mesa_history_spec.Rows.{no_rows}
-use Rattle.mesa_engine.specs.mesa_invariant_spec.Invariant.{Outset, run_of}
-use Rattle.mesa_engine.proofs.mesa_invariant_spec.Working.{checked_open}
+use Rattle.mesa_write_turns.specs.mesa_history_spec.Bare.{bare_table}
+use Rattle.mesa_write_turns.specs.mesa_history_spec.Rows.{no_rows}
+use Rattle.mesa_write_turns.specs.mesa_invariant_spec.Invariant.{Outset, run_of}
+use Rattle.mesa_write_turns.proofs.mesa_invariant_spec.Working.{checked_open}
 use Rattle.mesa_engine.specs.EngineState.{EngineState, books_of, projection_of}
 use Rattle.mesa_engine.specs.Vault.{Origin, IsVault}
 use Rattle.mesa_engine.proofs.BeforeTurns.{vault_claims}

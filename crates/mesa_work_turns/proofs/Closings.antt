@@ -2,33 +2,33 @@
 use Rattle.std.proofs.Common.{◌≡◌, ℕ, ◌+◌, ◌-◌, ◌<◌, ◌^◌, ◌≤◌, List, [], ◌∷◌, ◌++◌, length, Bool, true, false, ◌||◌, not, refl, sym, ◌∙◌, ap, subst, arith, Option, None, Some, IsTrue}
 use Rattle.std.specs.Prelude.{◌==◌, is_some, min, nat_le, vec_capacity}
 use Rattle.std.proofs.lemmas.Bool.Decides.{nat_tests}
-use Rattle.mesa_disk.specs.mesa_io.Causes.{last}
+use Rattle.mesa_io.specs.Causes.{last}
 use Rattle.mesa_delta.specs.declared.error.FileError.TheVariants as file_error
 use Rattle.mesa_delta.specs.declared.input.Input.{Input}
 use Rattle.mesa_disk.specs.Story.{Story, Unmoved}
-use Rattle.mesa_publishing.specs.mesa_history_spec.Counting.{answers_bench}
-use Rattle.mesa_publishing.specs.mesa_history_spec.Legal.{is_work}
-use Rattle.mesa_publishing.specs.mesa_history_spec.Machine.{Claim}
-use Rattle.mesa_publishing.specs.mesa_history_spec.Refused.{is_refusal}
-use Rattle.mesa_publishing.specs.mesa_history_spec.Replay.{closes}
-use Rattle.mesa_publishing.specs.mesa_history_spec.Run.{Finished}
-use Rattle.mesa_publishing.specs.mesa_history_spec.Turns.{IsDue}
+use Rattle.mesa_write_turns.specs.mesa_history_spec.Counting.{answers_bench}
+use Rattle.mesa_write_turns.specs.mesa_history_spec.Legal.{is_work}
+use Rattle.mesa_write_turns.specs.mesa_history_spec.Machine.{Claim}
+use Rattle.mesa_write_turns.specs.mesa_history_spec.Refused.{is_refusal}
+use Rattle.mesa_write_turns.specs.mesa_history_spec.Replay.{closes}
+use Rattle.mesa_write_turns.specs.mesa_history_spec.Run.{Finished}
+use Rattle.mesa_write_turns.specs.mesa_history_spec.Turns.{IsDue}
 use Rattle.mesa_lease.specs.Book.{ended}
 use Rattle.mesa_model.specs.declared.commands.Command.{Command}
 use Rattle.mesa_model.specs.declared.entries.Entry.{Entry}
 use Rattle.mesa_model.specs.declared.entries.Kind.TheVariants as kind
 use Rattle.mesa_model.specs.declared.entries.Outcome.TheVariants as outcome
-use Rattle.mesa_engine.specs.mesa_history_spec.Output.{block}
-use Rattle.mesa_engine.specs.mesa_history_spec.Rows.{Rows}
-use Rattle.mesa_engine.specs.mesa_invariant_spec.Causes.{Cause, Unwritten, is_read_fault, outcome_of, reply_of, told_at}
-use Rattle.mesa_engine.specs.mesa_invariant_spec.Printing.{IsPut}
-use Rattle.mesa_engine.specs.mesa_invariant_spec.Turns.{Shown, IsSeen, Takes, entry}
-use Rattle.mesa_engine.specs.mesa_invariant_spec.Undamaged.{is_damaged}
-use Rattle.mesa_engine.specs.mesa_invariant_spec.Invariant.{Outset, Counts, IsAtClock, HoldsInvariant, run_at, run_of}
-use Rattle.mesa_engine.specs.mesa_invariant_spec.Works.{closing_stage}
-use Rattle.mesa_engine.proofs.mesa_invariant_spec.Clock.{begun_moment}
-use Rattle.mesa_engine.proofs.mesa_invariant_spec.Going.{unmerged_takes}
-use Rattle.mesa_engine.proofs.mesa_invariant_spec.Working.{close_later, shut_turn, unmerged_turn}
+use Rattle.mesa_write_turns.specs.mesa_history_spec.Output.{block}
+use Rattle.mesa_write_turns.specs.mesa_history_spec.Rows.{Rows}
+use Rattle.mesa_write_turns.specs.mesa_invariant_spec.Causes.{Cause, Unwritten, is_read_fault, outcome_of, reply_of, told_at}
+use Rattle.mesa_write_turns.specs.mesa_invariant_spec.Printing.{IsPut}
+use Rattle.mesa_write_turns.specs.mesa_invariant_spec.Turns.{Shown, IsSeen, Takes, entry}
+use Rattle.mesa_write_turns.specs.mesa_invariant_spec.Undamaged.{is_damaged}
+use Rattle.mesa_write_turns.specs.mesa_invariant_spec.Invariant.{Outset, Counts, IsAtClock, HoldsInvariant, run_at, run_of}
+use Rattle.mesa_write_turns.specs.mesa_invariant_spec.Works.{closing_stage}
+use Rattle.mesa_write_turns.proofs.mesa_invariant_spec.Clock.{begun_moment}
+use Rattle.mesa_write_turns.proofs.mesa_invariant_spec.Going.{unmerged_takes}
+use Rattle.mesa_write_turns.proofs.mesa_invariant_spec.Working.{close_later, shut_turn, unmerged_turn}
 use Rattle.mesa_engine.specs.EngineState.{EngineState, books_of}
 use Rattle.mesa_engine.specs.Vault.{Origin, Starts, IsVault, outset_of}
 use Rattle.mesa_engine.proofs.Staying.{closed_vault, leased_vault, still_vault}

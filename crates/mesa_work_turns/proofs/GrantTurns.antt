@@ -2,25 +2,25 @@
 use Rattle.std.proofs.Common.{◌≡◌, ◌∙◌, ℕ, ◌+◌, ◌≤◌, List, [], ◌∷◌, ◌++◌, length, Bool, IsTrue, true, false, ◌||◌, not, sym, ap, refl, subst, Option, None, Ok}
 use Rattle.std.specs.Prelude.{vec_capacity}
 use Rattle.mesa_disk.specs.Story.{Story, Unmoved}
-use Rattle.mesa_engine.specs.mesa_history_spec.Legal.{is_work}
-use Rattle.mesa_engine.specs.mesa_history_spec.Machine.{Claim}
-use Rattle.mesa_engine.specs.mesa_history_spec.Refused.{is_refusal}
-use Rattle.mesa_engine.specs.mesa_history_spec.Replay.{claim_asked, is_skip}
-use Rattle.mesa_engine.specs.mesa_history_spec.Run.{First, Granted, Finished}
-use Rattle.mesa_engine.specs.mesa_history_spec.Turns.{IsDue}
+use Rattle.mesa_write_turns.specs.mesa_history_spec.Legal.{is_work}
+use Rattle.mesa_write_turns.specs.mesa_history_spec.Machine.{Claim}
+use Rattle.mesa_write_turns.specs.mesa_history_spec.Refused.{is_refusal}
+use Rattle.mesa_write_turns.specs.mesa_history_spec.Replay.{claim_asked, is_skip}
+use Rattle.mesa_write_turns.specs.mesa_history_spec.Run.{First, Granted, Finished}
+use Rattle.mesa_write_turns.specs.mesa_history_spec.Turns.{IsDue}
 use Rattle.mesa_lease.specs.Book.{granted}
 use Rattle.mesa_model.specs.Entry.{IsShort}
 use Rattle.mesa_model.specs.declared.commands.Command.{Command}
 use Rattle.mesa_model.specs.declared.entries.Kind.TheVariants as kind
 use Rattle.mesa_model.specs.declared.entries.Outcome.TheVariants as outcome
-use Rattle.mesa_engine.specs.mesa_history_spec.Rows.{Rows, no_rows}
+use Rattle.mesa_write_turns.specs.mesa_history_spec.Rows.{Rows, no_rows}
 use Rattle.mesa_tasks.specs.Opening.{Counted}
 use Rattle.mesa_tasks.specs.declared.opening.Unopened.{Unopened}
-use Rattle.mesa_engine.specs.mesa_invariant_spec.Causes.{Cause, Unwritten, is_read_fault, outcome_of, reply_of, told_at}
-use Rattle.mesa_engine.specs.mesa_invariant_spec.Turns.{AnswersDisk, Shown, SomeRose, Takes, entry, faults_of}
-use Rattle.mesa_engine.specs.mesa_invariant_spec.Invariant.{Counts, run_at}
-use Rattle.mesa_engine.specs.mesa_invariant_spec.Works.{HasNoClaim}
-use Rattle.mesa_engine.proofs.mesa_invariant_spec.Faulting.{disk_caused, disk_counted}
+use Rattle.mesa_write_turns.specs.mesa_invariant_spec.Causes.{Cause, Unwritten, is_read_fault, outcome_of, reply_of, told_at}
+use Rattle.mesa_write_turns.specs.mesa_invariant_spec.Turns.{AnswersDisk, Shown, SomeRose, Takes, entry, faults_of}
+use Rattle.mesa_write_turns.specs.mesa_invariant_spec.Invariant.{Counts, run_at}
+use Rattle.mesa_write_turns.specs.mesa_invariant_spec.Works.{HasNoClaim}
+use Rattle.mesa_write_turns.proofs.mesa_invariant_spec.Faulting.{disk_caused, disk_counted}
 use Rattle.mesa_engine.specs.EngineState.{books_of}
 use Rattle.mesa_engine.specs.Turned.{leased_state}
 use Rattle.mesa_engine.specs.Vault.{IsVault, Starts, outset_of}

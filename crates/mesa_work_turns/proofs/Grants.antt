@@ -4,17 +4,17 @@ use Rattle.std.specs.Prelude.{vec_capacity}
 use Rattle.std.specs.Prelude.{◌⊎◌}
 use Rattle.std.proofs.lemmas.Bool.Decides.{leb_tells}
 use Rattle.std.proofs.lemmas.List.{length-map}
-use Rattle.mesa_disk.specs.mesa_io.Causes.{Rose, last}
+use Rattle.mesa_io.specs.Causes.{Rose, last}
 use Rattle.mesa_disk.specs.Story.{Story, Unmoved}
-use Rattle.mesa_engine.specs.mesa_history_spec.Legal.{is_work}
-use Rattle.mesa_engine.specs.mesa_history_spec.Machine.{Claim}
-use Rattle.mesa_engine.specs.mesa_history_spec.Refused.{is_refusal}
-use Rattle.mesa_engine.specs.mesa_history_spec.Replay.{claim_asked, grants, is_skip}
-use Rattle.mesa_engine.specs.mesa_history_spec.Run.{First, Granted, Finished}
-use Rattle.mesa_engine.specs.mesa_history_spec.Turns.{IsDue}
+use Rattle.mesa_write_turns.specs.mesa_history_spec.Legal.{is_work}
+use Rattle.mesa_write_turns.specs.mesa_history_spec.Machine.{Claim}
+use Rattle.mesa_write_turns.specs.mesa_history_spec.Refused.{is_refusal}
+use Rattle.mesa_write_turns.specs.mesa_history_spec.Replay.{claim_asked, grants, is_skip}
+use Rattle.mesa_write_turns.specs.mesa_history_spec.Run.{First, Granted, Finished}
+use Rattle.mesa_write_turns.specs.mesa_history_spec.Turns.{IsDue}
 use Rattle.mesa_engine.specs.mesa_image_spec.Catalog.{Catalog, no_stock, stock_at}
 use Rattle.mesa_engine.specs.mesa_image_spec.Shape.{IsCatalog, IsShaped}
-use Rattle.mesa_rules.proofs.mesa_catalog.Stocks.{all_at}
+use Rattle.mesa_read_turns.proofs.mesa_catalog.Stocks.{all_at}
 use Rattle.mesa_lease.specs.Book.{granted}
 use Rattle.mesa_model.specs.Warehouse.{Warehouse}
 use Rattle.mesa_model.specs.declared.commands.Command.{Command}
@@ -22,21 +22,21 @@ use Rattle.mesa_model.specs.declared.replies.Reply.{Reply}
 use Rattle.mesa_model.specs.declared.entries.Entry.{Entry}
 use Rattle.mesa_model.specs.declared.entries.Kind.TheVariants as kind
 use Rattle.mesa_model.specs.declared.entries.Outcome.TheVariants as outcome
-use Rattle.mesa_engine.specs.mesa_history_spec.Output.{block}
-use Rattle.mesa_engine.specs.mesa_history_spec.Bare.{bare_table}
-use Rattle.mesa_engine.specs.mesa_history_spec.Rows.{Rows, no_rows}
+use Rattle.mesa_write_turns.specs.mesa_history_spec.Output.{block}
+use Rattle.mesa_write_turns.specs.mesa_history_spec.Bare.{bare_table}
+use Rattle.mesa_write_turns.specs.mesa_history_spec.Rows.{Rows, no_rows}
 use Rattle.mesa_tasks.specs.Opening.{Counted}
 use Rattle.mesa_tasks.specs.declared.opening.Unopened.{Unopened}
 use Rattle.mesa_tasks.specs.declared.opening.Unopened.TheVariants as un
-use Rattle.mesa_engine.specs.mesa_invariant_spec.Causes.{Cause, Damaged, NoMemory, Replies, Unread, Unwritten, is_read_fault, outcome_of, reply_of, told_at}
-use Rattle.mesa_engine.specs.mesa_invariant_spec.Printing.{IsPut}
-use Rattle.mesa_engine.specs.mesa_invariant_spec.Turns.{Shown, IsSeen, Takes, entry}
-use Rattle.mesa_engine.specs.mesa_invariant_spec.Books.{Books}
-use Rattle.mesa_engine.specs.mesa_invariant_spec.Undamaged.{is_damaged}
-use Rattle.mesa_engine.specs.mesa_invariant_spec.Invariant.{Outset, Counts, run_at, run_of}
-use Rattle.mesa_engine.specs.mesa_invariant_spec.Works.{HasNoClaim}
-use Rattle.mesa_engine.proofs.mesa_invariant_spec.Going.{takes_as}
-use Rattle.mesa_engine.proofs.mesa_invariant_spec.Working.{claim_is, granted_turn, ungranted_ends, ungranted_turn}
+use Rattle.mesa_write_turns.specs.mesa_invariant_spec.Causes.{Cause, Damaged, NoMemory, Replies, Unread, Unwritten, is_read_fault, outcome_of, reply_of, told_at}
+use Rattle.mesa_write_turns.specs.mesa_invariant_spec.Printing.{IsPut}
+use Rattle.mesa_write_turns.specs.mesa_invariant_spec.Turns.{Shown, IsSeen, Takes, entry}
+use Rattle.mesa_write_turns.specs.mesa_invariant_spec.Books.{Books}
+use Rattle.mesa_write_turns.specs.mesa_invariant_spec.Undamaged.{is_damaged}
+use Rattle.mesa_write_turns.specs.mesa_invariant_spec.Invariant.{Outset, Counts, run_at, run_of}
+use Rattle.mesa_write_turns.specs.mesa_invariant_spec.Works.{HasNoClaim}
+use Rattle.mesa_write_turns.proofs.mesa_invariant_spec.Going.{takes_as}
+use Rattle.mesa_write_turns.proofs.mesa_invariant_spec.Working.{claim_is, granted_turn, ungranted_ends, ungranted_turn}
 use Rattle.mesa_engine.specs.EngineState.{EngineState, books_of, projection_of}
 use Rattle.mesa_engine.specs.Turned.{leased_state}
 use Rattle.mesa_engine.specs.Vault.{Origin, Starts, IsVault, outset_of}

@@ -1,13 +1,13 @@
 -- What a task has of its range where the store is sound.
 use Rattle.std.proofs.Common.{◌≡◌, ◌∙◌, ℕ, ◌<◌, List, length, map, Bool, true, refl, sym, ap, subst, ◌≤◌, Option, None, Some}
 use Rattle.std.specs.List.{AllByRecursion}
-use Rattle.mesa_plans.specs.mesa_commit.Images.{Has}
+use Rattle.mesa_engine.specs.mesa_commit.Images.{Has}
 use Rattle.mesa_disk.specs.Image.{Image}
 use Rattle.mesa_disk.specs.Story.{Story}
-use Rattle.mesa_plans.specs.mesa_schema.Changes.{Lineage, columns_of}
-use Rattle.mesa_plans.specs.mesa_schema.Columns.{aggs_of}
-use Rattle.mesa_plans.specs.mesa_schema.Folded.{rows_of}
-use Rattle.mesa_engine.specs.mesa_history_spec.Sources.{Source, Written, range_rows}
+use Rattle.mesa_write_turns.specs.mesa_schema.Changes.{Lineage, columns_of}
+use Rattle.mesa_write_turns.specs.mesa_schema.Columns.{aggs_of}
+use Rattle.mesa_write_turns.specs.mesa_schema.Folded.{rows_of}
+use Rattle.mesa_write_turns.specs.mesa_history_spec.Sources.{Source, Written, range_rows}
 use Rattle.mesa_engine.specs.mesa_image_spec.Catalog.{Catalog, Stock, stock_at}
 use Rattle.mesa_engine.specs.mesa_image_spec.Contents.{present}
 use Rattle.mesa_engine.specs.mesa_image_spec.Fitting.{may_be_work, shelved}
@@ -23,11 +23,11 @@ use Rattle.mesa_plans.specs.Folding.{folded_deltas}
 use Rattle.mesa_plans.specs.Gathered.{IsGathered, unread_view}
 use Rattle.mesa_plans.proofs.Among.{all_folded}
 use Rattle.mesa_plans.proofs.Cumulative.{work_folds}
-use Rattle.mesa_publishing.specs.Finished.{GroupOnly, HasRange, sources_in}
+use Rattle.mesa_write_turns.specs.mesa_publishing.Finished.{GroupOnly, HasRange, sources_in}
 use Rattle.mesa_tasks.specs.Inputs.{present_parts}
 use Rattle.mesa_tasks.specs.Tasks.{IsTask}
 use Rattle.mesa_tasks.specs.declared.merging.Task.{Task}
-use Rattle.mesa_engine.specs.mesa_invariant_spec.Invariant.{Outset}
+use Rattle.mesa_write_turns.specs.mesa_invariant_spec.Invariant.{Outset}
 use Rattle.mesa_work_turns.proofs.Sound.{IsSoundDelta, none_met, none_own, present_lifted, same_folded, sound_deltas, told_inputs}
 use Rattle.mesa_work_turns.proofs.Bounded.{range_told}
 use Rattle.mesa_work_turns.proofs.Grants.{shaped_at}

@@ -6,18 +6,18 @@ use Rattle.std.proofs.Math.ListN.{get_or-map}
 use Rattle.std.proofs.lemmas.Bool.{le-ltb, lt-ltb}
 use Rattle.std.proofs.lemmas.Bool.Decides.{nat_tests}
 use Rattle.std.proofs.lemmas.Simd.{map-map}
-use Rattle.mesa_plans.specs.mesa_list.Checks.{◌>>=◌, ◌>>◌, refuse_if, refused_as}
-use Rattle.mesa_plans.specs.mesa_schema.declared.recasts.RecastError.{RecastError}
-use Rattle.mesa_plans.specs.mesa_schema.Changes.{epoch_of}
-use Rattle.mesa_plans.specs.mesa_schema.Columns.{place_of}
-use Rattle.mesa_plans.specs.mesa_schema.Recasts.{recast_checked}
+use Rattle.mesa_write_turns.specs.mesa_list.Checks.{◌>>=◌, ◌>>◌, refuse_if, refused_as}
+use Rattle.mesa_write_turns.specs.mesa_schema.declared.recasts.RecastError.{RecastError}
+use Rattle.mesa_write_turns.specs.mesa_schema.Changes.{epoch_of}
+use Rattle.mesa_write_turns.specs.mesa_schema.Columns.{place_of}
+use Rattle.mesa_write_turns.specs.mesa_schema.Recasts.{recast_checked}
 use Rattle.mesa_binding.specs.Told.{IsDue}
 use Rattle.mesa_binding.specs.declared.failure.Failure.{Failure}
 use Rattle.mesa_binding.specs.declared.failure.Failure.TheVariants as asked
-use Rattle.mesa_engine.specs.mesa_history_spec.Machine.{Claim, Machine, Recasts, max_deltas, recast_claim_of, refuse_busy}
+use Rattle.mesa_write_turns.specs.mesa_history_spec.Machine.{Claim, Machine, Recasts, max_deltas, recast_claim_of, refuse_busy}
 use Rattle.mesa_lease.specs.Book.{holder}
 use Rattle.mesa_engine.specs.EngineState.{EngineState, books_of, projection_of}
-use Rattle.mesa_engine.specs.mesa_invariant_spec.Works.{HasNoClaim}
+use Rattle.mesa_write_turns.specs.mesa_invariant_spec.Works.{HasNoClaim}
 use Rattle.mesa_engine.specs.mesa_image_spec.Catalog.{no_stock, ranges_of, start_in, stock_at}
 use Rattle.mesa_model.specs.Refusals.{no_such_table, recast_refusal, refuse_closed}
 use Rattle.mesa_model.specs.Relations.{table_number}
@@ -30,7 +30,7 @@ use Rattle.mesa_model.specs.declared.replies.Reply.{Reply}
 use Rattle.mesa_model.specs.declared.replies.Reply.TheVariants as reply
 use Rattle.mesa_rules.specs.Recastings.{recast_due}
 use Rattle.mesa_rules.specs.Seen.{number_of}
-use Rattle.mesa_engine.specs.mesa_history_spec.Rows.{no_rows}
+use Rattle.mesa_write_turns.specs.mesa_history_spec.Rows.{no_rows}
 use Rattle.mesa_span.specs.Ranges.{base_before, start_of}
 use Rattle.mesa_work_turns.specs.Claims.{cause_refused}
 

@@ -2,21 +2,21 @@
 use Rattle.std.proofs.Common.{◌≡◌, ◌∙◌, ⊎_elim, inl, inr, ℕ, ◌+◌, ◌-◌, ◌<◌, List, [], ◌∷◌, ◌++◌, length, map, true, Bool, refl, sym, ap, subst, arith, zero-add, Option, None, Some}
 use Rattle.std.specs.Prelude.{IfSome, option_map, option_to_list, slice_get}
 use Rattle.std.specs.List.{AllByRecursion}
-use Rattle.mesa_model.specs.mesa_batch.Totals.{abs_total, sum_bound}
-use Rattle.mesa_plans.specs.mesa_commit.Images.{Has}
+use Rattle.mesa_write_turns.specs.mesa_batch.Totals.{abs_total, sum_bound}
+use Rattle.mesa_engine.specs.mesa_commit.Images.{Has}
 use Rattle.mesa_disk.specs.Image.{Image}
 use Rattle.mesa_disk.specs.Story.{Story}
-use Rattle.mesa_disk.specs.mesa_file.declared.damage.Damage.{Damage}
+use Rattle.mesa_file.specs.declared.damage.Damage.{Damage}
 use Rattle.mesa_plans.specs.mesa_value.declared.Agg.TheVariants.{Sum}
-use Rattle.mesa_plans.specs.mesa_schema.Changes.{Lineage, columns_at, columns_of, epoch_of, lifted}
-use Rattle.mesa_plans.specs.mesa_schema.Columns.{aggs_of}
-use Rattle.mesa_plans.specs.mesa_schema.Folded.{folded, rows_of}
-use Rattle.mesa_plans.specs.mesa_schema.declared.rows.Row.{Row}
-use Rattle.mesa_plans.proofs.mesa_schema.RisingRows.{folded_rise}
-use Rattle.mesa_plans.specs.mesa_schema.Rows.{keys_rise}
-use Rattle.mesa_plans.specs.mesa_record.declared.record.Files.{Files}
-use Rattle.mesa_tasks.specs.mesa_delta.declared.input.Input.{Input}
-use Rattle.mesa_engine.specs.mesa_history_spec.Sources.{Written, range_rows, source_at, sources_from}
+use Rattle.mesa_write_turns.specs.mesa_schema.Changes.{Lineage, columns_at, columns_of, epoch_of, lifted}
+use Rattle.mesa_write_turns.specs.mesa_schema.Columns.{aggs_of}
+use Rattle.mesa_write_turns.specs.mesa_schema.Folded.{folded, rows_of}
+use Rattle.mesa_write_turns.specs.mesa_schema.declared.rows.Row.{Row}
+use Rattle.mesa_engine.proofs.mesa_schema.RisingRows.{folded_rise}
+use Rattle.mesa_write_turns.specs.mesa_schema.Rows.{keys_rise}
+use Rattle.mesa_record.specs.declared.record.Files.{Files}
+use Rattle.mesa_delta.specs.declared.input.Input.{Input}
+use Rattle.mesa_write_turns.specs.mesa_history_spec.Sources.{Written, range_rows, source_at, sources_from}
 use Rattle.mesa_model.specs.declared.entries.Entry.{Entry}
 use Rattle.mesa_plans.specs.Ranges.{IsDamagedRange, IsEmptyRange, IsOfRange, IsOneOf, IsOpenedRange, Ranged, base_ranged, range_wanted, ranged, singles_ranged}
 use Rattle.mesa_plans.specs.Files.{Want}
@@ -28,7 +28,7 @@ use Rattle.mesa_engine.specs.mesa_image_spec.Sound.{IsStocked, bytes_of, wants}
 use Rattle.mesa_engine.specs.EngineState.{EngineState}
 use Rattle.mesa_engine.specs.Vault.{Origin, IsVault, written_by}
 use Rattle.mesa_engine.specs.mesa_image_spec.Sourced.{AreMadeOf, IsMadeOf, IsSourced}
-use Rattle.mesa_engine.specs.mesa_invariant_spec.Invariant.{Outset}
+use Rattle.mesa_write_turns.specs.mesa_invariant_spec.Invariant.{Outset}
 use Rattle.mesa_engine.proofs.Standing.{held_there}
 use Rattle.mesa_engine.proofs.mesa_image_spec.AllSourced.{epochs_written, own as own_sources}
 use Rattle.mesa_engine.proofs.mesa_image_spec.Lists.{all_back, all_front, all_unflat, stock_found}
@@ -38,10 +38,10 @@ use Rattle.mesa_plans.proofs.Given.{AreGiven, IsGiven, all_told}
 use Rattle.mesa_plans.proofs.Sums.{abs_append, all_below}
 use Rattle.mesa_plans.proofs.Telling.{stock_given}
 use Rattle.mesa_span.specs.Ranges.{start_behind}
-use Rattle.mesa_publishing.specs.Recasts.{HasItsRange, HasItsRanges}
-use Rattle.mesa_publishing.specs.mesa_compact.Bounded.{AreBounded}
-use Rattle.mesa_publishing.specs.mesa_compact.mesa_merge.Inputs.{AreTold, knowns_of, lifted_parts}
-use Rattle.mesa_publishing.specs.mesa_copy.Copying.{AreRangesBounded, IsRecastBounded}
+use Rattle.mesa_write_turns.specs.mesa_publishing.Recasts.{HasItsRange, HasItsRanges}
+use Rattle.mesa_copy.specs.mesa_compact.Bounded.{AreBounded}
+use Rattle.mesa_plans.specs.mesa_merge.Inputs.{AreTold, knowns_of, lifted_parts}
+use Rattle.mesa_copy.specs.Copying.{AreRangesBounded, IsRecastBounded}
 use Rattle.mesa_tasks.specs.Inputs.{AreInputsTo, present_parts}
 use Rattle.mesa_tasks.specs.Recasts.{AreRangesOf, own, recast_table}
 use Rattle.mesa_tasks.specs.declared.recasting.Recast.{Recast}

@@ -1,13 +1,13 @@
 -- How the renewal of a work or a recast keeps a vault.
 use Rattle.std.proofs.Common.{◌≡◌, ◌∙◌, ℕ, ◌<◌, ◌^◌, ◌≤◌, ◌+◌, List, [], ◌∷◌, ◌++◌, length, Bool, true, ◌||◌, not, sym, ap, subst, arith, Option, None, Some, Ok, Err, refl}
 use Rattle.std.specs.Prelude.{vec_capacity}
-use Rattle.mesa_plans.specs.mesa_list.Checks.{◌>>◌, refuse_unless}
+use Rattle.mesa_write_turns.specs.mesa_list.Checks.{◌>>◌, refuse_unless}
 use Rattle.mesa_disk.specs.Story.{Story}
-use Rattle.mesa_engine.specs.mesa_history_spec.Legal.{is_work}
-use Rattle.mesa_engine.specs.mesa_history_spec.Machine.{Claim, claim_checked}
-use Rattle.mesa_engine.specs.mesa_history_spec.Replay.{renews}
-use Rattle.mesa_engine.specs.mesa_history_spec.Run.{Granted, Renewed, Finished}
-use Rattle.mesa_engine.specs.mesa_history_spec.Turns.{IsDue}
+use Rattle.mesa_write_turns.specs.mesa_history_spec.Legal.{is_work}
+use Rattle.mesa_write_turns.specs.mesa_history_spec.Machine.{Claim, claim_checked}
+use Rattle.mesa_write_turns.specs.mesa_history_spec.Replay.{renews}
+use Rattle.mesa_write_turns.specs.mesa_history_spec.Run.{Granted, Renewed, Finished}
+use Rattle.mesa_write_turns.specs.mesa_history_spec.Turns.{IsDue}
 use Rattle.mesa_lease.specs.Book.{is_held, other_holder, renewed}
 use Rattle.mesa_lease.specs.declared.lease.Lost.{Lost}
 use Rattle.mesa_lease.specs.Book.{IsLost}
@@ -19,15 +19,15 @@ use Rattle.mesa_model.specs.declared.entries.Outcome.TheVariants as outcome
 use Rattle.mesa_model.specs.declared.replies.Refusal.{Refusal}
 use Rattle.mesa_model.specs.declared.replies.Refusal.TheVariants as no
 use Rattle.mesa_model.specs.declared.replies.Reply.TheVariants as reply
-use Rattle.mesa_engine.specs.mesa_history_spec.Output.{block}
-use Rattle.mesa_engine.specs.mesa_history_spec.Rows.{Rows, no_rows}
-use Rattle.mesa_engine.specs.mesa_invariant_spec.Causes.{told_at}
-use Rattle.mesa_engine.specs.mesa_invariant_spec.Printing.{IsPut}
-use Rattle.mesa_engine.specs.mesa_invariant_spec.Turns.{Shown, IsSeen, Takes, entry}
-use Rattle.mesa_engine.specs.mesa_invariant_spec.Invariant.{Outset, run_at, run_of}
-use Rattle.mesa_engine.proofs.mesa_invariant_spec.Turning.{stays, counts_same}
-use Rattle.mesa_engine.proofs.mesa_invariant_spec.Going.{takes_as}
-use Rattle.mesa_engine.proofs.mesa_invariant_spec.Working.{checked_is, renewed_turn, unrenewed_ends, unrenewed_turn}
+use Rattle.mesa_write_turns.specs.mesa_history_spec.Output.{block}
+use Rattle.mesa_write_turns.specs.mesa_history_spec.Rows.{Rows, no_rows}
+use Rattle.mesa_write_turns.specs.mesa_invariant_spec.Causes.{told_at}
+use Rattle.mesa_write_turns.specs.mesa_invariant_spec.Printing.{IsPut}
+use Rattle.mesa_write_turns.specs.mesa_invariant_spec.Turns.{Shown, IsSeen, Takes, entry}
+use Rattle.mesa_write_turns.specs.mesa_invariant_spec.Invariant.{Outset, run_at, run_of}
+use Rattle.mesa_write_turns.proofs.mesa_invariant_spec.Turning.{stays, counts_same}
+use Rattle.mesa_write_turns.proofs.mesa_invariant_spec.Going.{takes_as}
+use Rattle.mesa_write_turns.proofs.mesa_invariant_spec.Working.{checked_is, renewed_turn, unrenewed_ends, unrenewed_turn}
 use Rattle.mesa_engine.specs.EngineState.{EngineState, books_of}
 use Rattle.mesa_engine.specs.Turned.{leased_state}
 use Rattle.mesa_engine.specs.Vault.{Origin, Starts, IsVault, outset_of}

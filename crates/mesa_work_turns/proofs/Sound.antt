@@ -2,18 +2,18 @@
 use Rattle.std.proofs.Common.{◌≡◌, ℕ, ◌<◌, List, [], ◌∷◌, ◌++◌, length, map, refl, sym, subst, true, Option, None, Some}
 use Rattle.std.specs.Prelude.{flat_map}
 use Rattle.std.specs.List.{AllByRecursion}
-use Rattle.mesa_disk.specs.mesa_file.declared.damage.Damage.{Damage}
-use Rattle.mesa_disk.specs.mesa_file.declared.file_ref.FileRef.{FileRef}
-use Rattle.mesa_plans.specs.mesa_schema.declared.rows.Row.{Row}
-use Rattle.mesa_plans.specs.mesa_schema.declared.views.View.{View}
-use Rattle.mesa_plans.specs.mesa_schema.Changes.{Lineage, columns_at}
-use Rattle.mesa_plans.specs.mesa_schema.Columns.{Columns}
-use Rattle.mesa_plans.specs.mesa_schema.Folded.{folded, folded_at, keys_of, rows_of}
+use Rattle.mesa_file.specs.declared.damage.Damage.{Damage}
+use Rattle.mesa_file.specs.declared.file_ref.FileRef.{FileRef}
+use Rattle.mesa_write_turns.specs.mesa_schema.declared.rows.Row.{Row}
+use Rattle.mesa_write_turns.specs.mesa_schema.declared.views.View.{View}
+use Rattle.mesa_write_turns.specs.mesa_schema.Changes.{Lineage, columns_at}
+use Rattle.mesa_write_turns.specs.mesa_schema.Columns.{Columns}
+use Rattle.mesa_write_turns.specs.mesa_schema.Folded.{folded, folded_at, keys_of, rows_of}
 use Rattle.mesa_plans.specs.mesa_value.declared.Agg.{Agg}
 use Rattle.mesa_disk.specs.Image.{Image, file_of}
-use Rattle.mesa_plans.specs.mesa_commit.Images.{Has}
-use Rattle.mesa_tasks.specs.mesa_delta.declared.input.Input.{Input}
-use Rattle.mesa_plans.specs.mesa_record.declared.record.Files.{Files}
+use Rattle.mesa_engine.specs.mesa_commit.Images.{Has}
+use Rattle.mesa_delta.specs.declared.input.Input.{Input}
+use Rattle.mesa_record.specs.declared.record.Files.{Files}
 use Rattle.mesa_engine.specs.mesa_image_spec.Catalog.{Catalog, Delta, Stock, stock_at}
 use Rattle.mesa_engine.specs.mesa_image_spec.Contents.{Rows}
 use Rattle.mesa_engine.specs.mesa_image_spec.Fitting.{Shelved, delta_shelved, deltas_of, files_shelved, shelved, stock_shelved}
@@ -22,8 +22,8 @@ use Rattle.mesa_engine.proofs.mesa_image_spec.Lists.{all_unflat, all_unmap, stoc
 use Rattle.mesa_engine.proofs.Lists.{all_also}
 use Rattle.mesa_plans.specs.Files.{Want, files_wanted, table_wanted, want_of}
 use Rattle.mesa_plans.specs.Gathered.{unread_view}
-use Rattle.mesa_publishing.specs.Finished.{GroupOnly}
-use Rattle.mesa_publishing.specs.mesa_compact.mesa_merge.Inputs.{AreTold, known_of, knowns_of, lifted_in, lifted_parts}
+use Rattle.mesa_write_turns.specs.mesa_publishing.Finished.{GroupOnly}
+use Rattle.mesa_plans.specs.mesa_merge.Inputs.{AreTold, known_of, knowns_of, lifted_in, lifted_parts}
 use Rattle.mesa_tasks.specs.Inputs.{present_parts}
 use Rattle.mesa_tasks.specs.Inputs.{AreTold as AreToldInputs}
 use Rattle.mesa_tasks.specs.Opening.{HaveOpened, wanted_columns}

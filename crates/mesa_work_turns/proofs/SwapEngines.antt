@@ -1,8 +1,8 @@
 -- How the close of a work whose range is swapped in keeps an engine.
 use Rattle.std.proofs.Common.{◌≡◌, ◌∙◌, ℕ, ◌+◌, ◌<◌, ◌≤◌, ◌^◌, List, [], ◌∷◌, ◌++◌, length, true, false, ◌||◌, not, refl, sym, ap, subst, arith, Option, Some, Ok}
 use Rattle.std.specs.Prelude.{vec_capacity}
-use Rattle.mesa_disk.specs.mesa_key.Spelling.{AreBytes}
-use Rattle.mesa_model.specs.mesa_schema.Changes.{Lineage}
+use Rattle.mesa_write_turns.specs.mesa_key.Spelling.{AreBytes}
+use Rattle.mesa_write_turns.specs.mesa_schema.Changes.{Lineage}
 use Rattle.mesa_disk.specs.Files.{AreAbsent, files_of}
 use Rattle.mesa_disk.specs.Image.{Image}
 use Rattle.mesa_disk.specs.Story.{Story}
@@ -14,23 +14,23 @@ use Rattle.mesa_model.specs.declared.commands.WorkWords.{WorkWords}
 use Rattle.mesa_model.specs.declared.entries.Entry.{Entry}
 use Rattle.mesa_model.specs.declared.entries.Kind.TheVariants as kind
 use Rattle.mesa_model.specs.declared.entries.Outcome.TheVariants as outcome
-use Rattle.mesa_publishing.specs.mesa_history_spec.Machine.{claim_checked, swapped_reply}
-use Rattle.mesa_publishing.specs.mesa_history_spec.Refused.{is_refusal}
-use Rattle.mesa_publishing.specs.mesa_history_spec.Replay.{no_rows as no_lines}
-use Rattle.mesa_publishing.specs.mesa_history_spec.Run.{Renewed}
-use Rattle.mesa_publishing.specs.mesa_history_spec.Turns.{IsDue}
+use Rattle.mesa_write_turns.specs.mesa_history_spec.Machine.{claim_checked, swapped_reply}
+use Rattle.mesa_write_turns.specs.mesa_history_spec.Refused.{is_refusal}
+use Rattle.mesa_write_turns.specs.mesa_history_spec.Replay.{no_rows as no_lines}
+use Rattle.mesa_write_turns.specs.mesa_history_spec.Run.{Renewed}
+use Rattle.mesa_write_turns.specs.mesa_history_spec.Turns.{IsDue}
 use Rattle.mesa_record.specs.Reading.{record_at}
 use Rattle.mesa_record.specs.Rules.{IsTyped}
 use Rattle.mesa_engine.specs.mesa_image_spec.Catalog.{applied}
 use Rattle.mesa_engine.specs.mesa_image_spec.Ids.{dropped_ids}
 use Rattle.mesa_engine.specs.mesa_catalog.Lookups.{generation_of, turns_generation}
-use Rattle.mesa_engine.specs.mesa_script.Rows.{body_of}
-use Rattle.mesa_engine.specs.mesa_history_spec.Rows.{Rows, no_rows}
+use Rattle.mesa_write_turns.specs.mesa_script.Rows.{body_of}
+use Rattle.mesa_write_turns.specs.mesa_history_spec.Rows.{Rows, no_rows}
 use Rattle.mesa_tasks.specs.declared.merging.Task.{Task}
-use Rattle.mesa_engine.specs.mesa_invariant_spec.Causes.{Unwritten, reply_of, told_at}
-use Rattle.mesa_engine.specs.mesa_invariant_spec.Turns.{entry}
-use Rattle.mesa_engine.specs.mesa_invariant_spec.Invariant.{Counts, run_at}
-use Rattle.mesa_engine.proofs.mesa_invariant_spec.Working.{checked_open}
+use Rattle.mesa_write_turns.specs.mesa_invariant_spec.Causes.{Unwritten, reply_of, told_at}
+use Rattle.mesa_write_turns.specs.mesa_invariant_spec.Turns.{entry}
+use Rattle.mesa_write_turns.specs.mesa_invariant_spec.Invariant.{Counts, run_at}
+use Rattle.mesa_write_turns.proofs.mesa_invariant_spec.Working.{checked_open}
 use Rattle.mesa_engine.specs.EngineState.{books_of, first_id, next_id, past_id}
 use Rattle.mesa_engine.specs.Recorded.{failed_state, left_by, recorded_state, removed_by}
 use Rattle.mesa_engine.specs.Vault.{IsReady, IsVault, Starts, outset_of, written_by}
@@ -39,10 +39,10 @@ use Rattle.mesa_engine.specs.Printing.{PrintsBlock}
 use Rattle.mesa_engine.specs.Memory.{Memory}
 use Rattle.mesa_engine.specs.Engine.{IsEngine}
 use Rattle.mesa_engine.proofs.Turning.{told_engine}
-use Rattle.mesa_publishing.specs.Published.{AllTell}
-use Rattle.mesa_publishing.specs.Finished.{HasRange}
-use Rattle.mesa_publishing.specs.Swapped.{IsSwapped}
-use Rattle.mesa_publishing.specs.declared.swapping.Swapped.{Swapped}
+use Rattle.mesa_write_turns.specs.mesa_publishing.Published.{AllTell}
+use Rattle.mesa_write_turns.specs.mesa_publishing.Finished.{HasRange}
+use Rattle.mesa_write_turns.specs.mesa_publishing.Swapped.{IsSwapped}
+use Rattle.mesa_write_turns.specs.mesa_publishing.declared.swapping.Swapped.{Swapped}
 use Rattle.mesa_tasks.specs.Tasks.{claim_in}
 use Rattle.mesa_write_turns.proofs.Written.{IsWhole, IsWorked, absent_yet}
 use Rattle.mesa_work_turns.proofs.Swaps.{swap_ends, swap_fails}

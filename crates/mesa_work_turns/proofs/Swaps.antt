@@ -1,13 +1,13 @@
 -- How the close of a work whose range is swapped in keeps a vault.
 use Rattle.std.proofs.Common.{◌≡◌, inl, inr, ◌∙◌, ℕ, ◌+◌, ◌<◌, ◌^◌, List, [], ◌∷◌, ◌++◌, map, length, Bool, true, false, ◌||◌, refl, sym, ap, subst, arith, Option, None, Some, Ok, IsTrue}
 use Rattle.std.specs.List.{AllByRecursion}
-use Rattle.mesa_disk.specs.mesa_key.Spelling.{AreBytes}
-use Rattle.mesa_model.specs.mesa_schema.Changes.{Lineage}
+use Rattle.mesa_write_turns.specs.mesa_key.Spelling.{AreBytes}
+use Rattle.mesa_write_turns.specs.mesa_schema.Changes.{Lineage}
 use Rattle.mesa_disk.specs.Files.{AreGone, files_of}
 use Rattle.mesa_disk.specs.Image.{Image}
 use Rattle.mesa_disk.specs.Story.{Spans, Steps, Story}
-use Rattle.mesa_publishing.specs.mesa_commit.Images.{Stands}
-use Rattle.mesa_publishing.specs.mesa_commit.Turn.{MovesOnly, made_ids, told_files}
+use Rattle.mesa_engine.specs.mesa_commit.Images.{Stands}
+use Rattle.mesa_engine.specs.mesa_commit.Turn.{MovesOnly, made_ids, told_files}
 use Rattle.mesa_span.specs.declared.works.Work.{Work}
 use Rattle.mesa_span.specs.declared.works.Work.TheVariants as range_of
 use Rattle.mesa_lease.specs.Book.{ended}
@@ -16,10 +16,10 @@ use Rattle.mesa_model.specs.declared.commands.WorkWords.{WorkWords}
 use Rattle.mesa_model.specs.declared.entries.Entry.{Entry}
 use Rattle.mesa_model.specs.declared.entries.Kind.TheVariants as kind
 use Rattle.mesa_model.specs.declared.entries.Outcome.TheVariants as outcome
-use Rattle.mesa_publishing.specs.mesa_history_spec.Machine.{Claim, claim_checked, swapped_reply}
-use Rattle.mesa_publishing.specs.mesa_history_spec.Run.{Renewed}
-use Rattle.mesa_publishing.specs.mesa_history_spec.Sources.{Written}
-use Rattle.mesa_publishing.specs.mesa_history_spec.Turns.{IsDue}
+use Rattle.mesa_write_turns.specs.mesa_history_spec.Machine.{Claim, claim_checked, swapped_reply}
+use Rattle.mesa_write_turns.specs.mesa_history_spec.Run.{Renewed}
+use Rattle.mesa_write_turns.specs.mesa_history_spec.Sources.{Written}
+use Rattle.mesa_write_turns.specs.mesa_history_spec.Turns.{IsDue}
 use Rattle.mesa_record.specs.Reading.{record_at}
 use Rattle.mesa_record.specs.Rules.{IsTyped, keeps_rules}
 use Rattle.mesa_record.specs.declared.record.Record.{Record}
@@ -42,18 +42,18 @@ use Rattle.mesa_engine.specs.mesa_image_spec.Moves.{Moves, first_of, is_base, ke
 use Rattle.mesa_engine.specs.mesa_image_spec.Sourced.{HasSources, IsMadeOf}
 use Rattle.mesa_engine.specs.mesa_catalog.Lookups.{generation_of, turns_generation}
 use Rattle.mesa_store.specs.Store.{Writes as IsWritten}
-use Rattle.mesa_engine.specs.mesa_history_spec.Output.{block}
-use Rattle.mesa_engine.specs.mesa_history_spec.Rows.{Rows, no_rows}
-use Rattle.mesa_publishing.proofs.mesa_commit.Filing.{freed_unnamed}
-use Rattle.mesa_publishing.specs.mesa_commit.Filed.{Renames}
-use Rattle.mesa_publishing.specs.mesa_commit.Holding.{Among, freed, ids_of}
+use Rattle.mesa_write_turns.specs.mesa_history_spec.Output.{block}
+use Rattle.mesa_write_turns.specs.mesa_history_spec.Rows.{Rows, no_rows}
+use Rattle.mesa_engine.proofs.mesa_commit.Filing.{freed_unnamed}
+use Rattle.mesa_engine.specs.mesa_commit.Filed.{Renames}
+use Rattle.mesa_engine.specs.mesa_commit.Holding.{Among, freed, ids_of}
 use Rattle.mesa_tasks.specs.declared.merging.Task.{Task}
-use Rattle.mesa_engine.specs.mesa_invariant_spec.Causes.{Unwritten, reply_of, told_at}
-use Rattle.mesa_engine.specs.mesa_invariant_spec.Printing.{IsPut}
-use Rattle.mesa_engine.specs.mesa_invariant_spec.Turns.{entry}
-use Rattle.mesa_engine.specs.mesa_invariant_spec.Invariant.{Counts, Passes, StandsForEither, Writes, run_of}
-use Rattle.mesa_engine.specs.mesa_invariant_spec.Works.{Swaps}
-use Rattle.mesa_engine.proofs.mesa_invariant_spec.Working.{checked_open}
+use Rattle.mesa_write_turns.specs.mesa_invariant_spec.Causes.{Unwritten, reply_of, told_at}
+use Rattle.mesa_write_turns.specs.mesa_invariant_spec.Printing.{IsPut}
+use Rattle.mesa_write_turns.specs.mesa_invariant_spec.Turns.{entry}
+use Rattle.mesa_write_turns.specs.mesa_invariant_spec.Invariant.{Counts, Passes, StandsForEither, Writes, run_of}
+use Rattle.mesa_write_turns.specs.mesa_invariant_spec.Works.{Swaps}
+use Rattle.mesa_write_turns.proofs.mesa_invariant_spec.Working.{checked_open}
 use Rattle.mesa_engine.specs.EngineState.{EngineState, books_of, first_id, holders, ids_held, next_id}
 use Rattle.mesa_engine.specs.Recorded.{IsRecorded, failed_state, left_by, recorded_state, removed_by, waiting}
 use Rattle.mesa_engine.specs.Vault.{IsVault, Starts, outset_of, written_by}
@@ -64,10 +64,10 @@ use Rattle.mesa_engine.proofs.Renaming.{record_brings, record_renames}
 use Rattle.mesa_engine.proofs.Sources.{sources_stay}
 use Rattle.mesa_engine.proofs.Swapping.{swap_is, swap_leaves, swapped_as}
 use Rattle.mesa_engine.proofs.Writing.{swapped_vault, unswapped_vault}
-use Rattle.mesa_publishing.specs.Published.{AllTell, rows_with}
-use Rattle.mesa_publishing.specs.Finished.{HasRange}
-use Rattle.mesa_publishing.specs.Swapped.{IsSwapped, delta_of, swap_of}
-use Rattle.mesa_publishing.specs.declared.swapping.Swapped.{Swapped}
+use Rattle.mesa_write_turns.specs.mesa_publishing.Published.{AllTell, rows_with}
+use Rattle.mesa_write_turns.specs.mesa_publishing.Finished.{HasRange}
+use Rattle.mesa_write_turns.specs.mesa_publishing.Swapped.{IsSwapped, delta_of, swap_of}
+use Rattle.mesa_write_turns.specs.mesa_publishing.declared.swapping.Swapped.{Swapped}
 use Rattle.mesa_tasks.specs.Tasks.{claim_in}
 use Rattle.mesa_write_turns.proofs.Written.{IsWhole, IsWorked}
 

@@ -8,18 +8,18 @@ use Rattle.mesa_engine.specs.mesa_image_spec.Ids.{named}
 use Rattle.mesa_engine.specs.EngineState.{EngineState, holders, ids_held, next_id}
 use Rattle.mesa_engine.specs.Recorded.{holds_in}
 use Rattle.mesa_engine.specs.Vault.{Origin, IsVault}
-use Rattle.mesa_engine.specs.mesa_invariant_spec.Turns.{IsTurn, Shown, entry}
-use Rattle.mesa_engine.specs.mesa_invariant_spec.Invariant.{Outset}
+use Rattle.mesa_write_turns.specs.mesa_invariant_spec.Turns.{IsTurn, Shown, entry}
+use Rattle.mesa_write_turns.specs.mesa_invariant_spec.Invariant.{Outset}
 use Rattle.mesa_engine.proofs.Filing.{holds_are}
-use Rattle.mesa_publishing.specs.mesa_history_spec.Replay.{is_skip}
+use Rattle.mesa_write_turns.specs.mesa_history_spec.Replay.{is_skip}
 use Rattle.mesa_model.specs.declared.entries.Entry.{Entry}
 use Rattle.mesa_model.specs.declared.entries.Kind.TheVariants as kind
 use Rattle.mesa_model.specs.declared.entries.Outcome.{Outcome}
 use Rattle.mesa_model.specs.declared.entries.Outcome.TheVariants as outcome
-use Rattle.mesa_publishing.specs.mesa_commit.declared.trash.Dropped.{Dropped}
-use Rattle.mesa_publishing.specs.mesa_commit.Holding.{Among, IsHad, ids_of, kept}
-use Rattle.mesa_publishing.proofs.mesa_commit.Filing.{kept_had}
-use Rattle.mesa_publishing.proofs.mesa_commit.Waiting.{kept_among, unpicked}
+use Rattle.mesa_engine.specs.mesa_commit.declared.trash.Dropped.{Dropped}
+use Rattle.mesa_engine.specs.mesa_commit.Holding.{Among, IsHad, ids_of, kept}
+use Rattle.mesa_engine.proofs.mesa_commit.Filing.{kept_had}
+use Rattle.mesa_engine.proofs.mesa_commit.Waiting.{kept_among, unpicked}
 use Rattle.mesa_work_turns.specs.Swept.{HasStood, IsSwept}
 
 -- ---- turns that stand

@@ -1,8 +1,8 @@
 -- Works and recasts that are granted next.
 use Rattle.std.specs.Prelude.{ℕ, ◌+◌, Result}
-use Rattle.mesa_plans.specs.mesa_list.Checks.{◌>>◌, refuse_unless}
-use Rattle.mesa_plans.specs.mesa_schema.Changes.{epoch_of}
-use Rattle.mesa_engine.specs.mesa_history_spec.Machine.{Claim, Errand, Merges, Recasts}
+use Rattle.mesa_write_turns.specs.mesa_list.Checks.{◌>>◌, refuse_unless}
+use Rattle.mesa_write_turns.specs.mesa_schema.Changes.{epoch_of}
+use Rattle.mesa_write_turns.specs.mesa_history_spec.Machine.{Claim, Errand, Merges, Recasts}
 use Rattle.mesa_lease.specs.Book.{is_held, other_holder}
 use Rattle.mesa_engine.specs.mesa_image_spec.Catalog.{stock_at}
 use Rattle.mesa_engine.specs.EngineState.{EngineState}
@@ -14,8 +14,8 @@ use Rattle.mesa_model.specs.Refusals.{refuse_closed}
 use Rattle.mesa_model.specs.declared.replies.Refusal.{Refusal}
 use Rattle.mesa_model.specs.declared.replies.Refusal.TheVariants as no
 use Rattle.mesa_model.specs.declared.replies.Reply.TheVariants as reply
-use Rattle.mesa_engine.specs.mesa_invariant_spec.Books.{Books}
-use Rattle.mesa_engine.specs.mesa_invariant_spec.Causes.{Cause, NoMemory, Replies, Unread}
+use Rattle.mesa_write_turns.specs.mesa_invariant_spec.Books.{Books}
+use Rattle.mesa_write_turns.specs.mesa_invariant_spec.Causes.{Cause, NoMemory, Replies, Unread}
 use Rattle.mesa_rules.specs.declared.recasting.Regrouping.{Regrouping}
 use Rattle.mesa_work_turns.specs.declared.claiming.Claimed.{Claimed}
 

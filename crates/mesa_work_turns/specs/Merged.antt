@@ -1,12 +1,12 @@
 -- Works whose merge is finished.
 use Rattle.std.specs.Prelude.{◌≡◌, ℕ, None, Err}
-use Rattle.mesa_publishing.specs.mesa_history_spec.Machine.{Claim, claim_checked}
+use Rattle.mesa_write_turns.specs.mesa_history_spec.Machine.{Claim, claim_checked}
 use Rattle.mesa_lease.specs.Book.{ended}
 use Rattle.mesa_engine.specs.EngineState.{EngineState}
 use Rattle.mesa_engine.specs.Turned.{leased_state}
 use Rattle.mesa_model.specs.declared.replies.Reply.TheVariants as reply
-use Rattle.mesa_engine.specs.mesa_invariant_spec.Books.{Books}
-use Rattle.mesa_engine.specs.mesa_invariant_spec.Causes.{Cause, Replies, NoMemory}
+use Rattle.mesa_write_turns.specs.mesa_invariant_spec.Books.{Books}
+use Rattle.mesa_write_turns.specs.mesa_invariant_spec.Causes.{Cause, Replies, NoMemory}
 use Rattle.mesa_work_turns.specs.declared.completing.Unswapped.{Unswapped}
 use Rattle.mesa_work_turns.specs.declared.completing.Unswapped.TheVariants as why
 

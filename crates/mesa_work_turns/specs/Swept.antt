@@ -1,17 +1,17 @@
 -- When a close of a work or a recast is done, and what it leaves of files.
 use Rattle.std.specs.Prelude.{◌≡◌, ◌⊎◌, ◌++◌, ◌∷◌, [], ℕ, List, map, Option, None, Some, Ok}
 use Rattle.mesa_disk.specs.Image.{Image, file_of}
-use Rattle.mesa_publishing.specs.mesa_history_spec.Machine.{Claim, claim_checked}
+use Rattle.mesa_write_turns.specs.mesa_history_spec.Machine.{Claim, claim_checked}
 use Rattle.mesa_engine.specs.mesa_image_spec.Catalog.{Catalog}
 use Rattle.mesa_engine.specs.mesa_image_spec.Ids.{named}
 use Rattle.mesa_engine.specs.EngineState.{EngineState, books_of, holders, ids_held}
 use Rattle.mesa_engine.specs.Vault.{IsFiled}
-use Rattle.mesa_engine.specs.mesa_invariant_spec.Turns.{Shown, entry}
+use Rattle.mesa_write_turns.specs.mesa_invariant_spec.Turns.{Shown, entry}
 use Rattle.mesa_model.specs.declared.entries.Entry.{Entry}
 use Rattle.mesa_model.specs.declared.entries.Kind.TheVariants as kind
 use Rattle.mesa_model.specs.declared.entries.Outcome.TheVariants as outcome
-use Rattle.mesa_engine.specs.mesa_history_spec.Rows.{no_rows}
-use Rattle.mesa_publishing.specs.mesa_commit.Holding.{Among, IsHad}
+use Rattle.mesa_write_turns.specs.mesa_history_spec.Rows.{no_rows}
+use Rattle.mesa_engine.specs.mesa_commit.Holding.{Among, IsHad}
 
 -- The turn that closes a session's command stands: the entry that it added says so.
 abbrev pub HasStood : Shown → Shown → ℕ → ℕ → Type 0

@@ -1,15 +1,15 @@
 // What a work is granted.
 ghost use Rattle.std.specs.Prelude.{◌≡◌, ◌<◌, ◌≤◌, length, None, Some, Ok, IfErr, IfOk, OnOk, false};
 ghost use Rattle.mesa_engine.specs.Failing.{is_of_device};
-ghost use Rattle.mesa_engine.specs.mesa_history_spec.Machine.{claim_of};
+ghost use Rattle.mesa_write_turns.specs.mesa_history_spec.Machine.{claim_of};
 ghost use Rattle.mesa_engine.specs.mesa_image_spec.Catalog.{ranges_of, stock_at};
 ghost use Rattle.mesa_lease.specs.Book.{holder};
 ghost use Rattle.mesa_engine.specs.EngineState.{books_of};
 ghost use Rattle.mesa_engine.specs.Failure.{cause_in};
-ghost use Rattle.mesa_engine.specs.mesa_history_spec.Rows.{no_rows};
+ghost use Rattle.mesa_write_turns.specs.mesa_history_spec.Rows.{no_rows};
 ghost use Rattle.mesa_span.specs.Ranges.{base_before};
 ghost use Rattle.mesa_span.specs.Work.{next_work as work_due};
-ghost use Rattle.mesa_engine.specs.mesa_invariant_spec.Works.{HasNoClaim};
+ghost use Rattle.mesa_write_turns.specs.mesa_invariant_spec.Works.{HasNoClaim};
 ghost use Rattle.mesa_work_turns.specs.Claims.{claim_as};
 
 use mesa_engine::{Failure, Metadata};

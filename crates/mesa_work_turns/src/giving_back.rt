@@ -1,6 +1,6 @@
 // Giving back what a work or a recast was handed.
 ghost use Rattle.std.specs.Prelude.{◌≡◌};
-ghost use Rattle.mesa_engine.specs.mesa_invariant_spec.Turns.{NoneFell};
+ghost use Rattle.mesa_write_turns.specs.mesa_invariant_spec.Turns.{NoneFell};
 
 use mesa_disk::{Disk, Made};
 use mesa_engine::{Engine, Naming};

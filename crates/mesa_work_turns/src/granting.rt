@@ -1,10 +1,10 @@
 // A work's grant.
 ghost use Rattle.std.specs.Prelude.{◌≡◌, ◌≢◌, ◌+◌, ◌-◌, ◌<◌, ◌≤◌, ◌^◌, ℕ, List, true, length, None, Some, Ok, IfSome, OnSome};
-ghost use Rattle.mesa_publishing.specs.mesa_compact.Bounded.{IsBounded};
+ghost use Rattle.mesa_copy.specs.mesa_compact.Bounded.{IsBounded};
 ghost use Rattle.mesa_plans.specs.Gathered.{unread_views};
-ghost use Rattle.mesa_engine.specs.mesa_history_spec.Machine.{claim_of};
-ghost use Rattle.mesa_engine.specs.mesa_history_spec.Run.{First, Granted};
-ghost use Rattle.mesa_engine.specs.mesa_history_spec.Turns.{IsDue};
+ghost use Rattle.mesa_write_turns.specs.mesa_history_spec.Machine.{claim_of};
+ghost use Rattle.mesa_write_turns.specs.mesa_history_spec.Run.{First, Granted};
+ghost use Rattle.mesa_write_turns.specs.mesa_history_spec.Turns.{IsDue};
 ghost use Rattle.mesa_engine.specs.mesa_image_spec.Catalog.{ranges_of, stock_at};
 ghost use Rattle.mesa_engine.specs.mesa_image_spec.Moves.{last_of};
 ghost use Rattle.mesa_lease.specs.Book.{granted, holder};
@@ -14,15 +14,15 @@ ghost use Rattle.mesa_engine.specs.Memory.{with_leases};
 ghost use Rattle.mesa_model.specs.declared.commands.Command.TheVariants as command;
 ghost use Rattle.mesa_model.specs.declared.commands.WorkWords.{WorkWords};
 ghost use Rattle.mesa_model.specs.declared.entries.Kind.TheVariants as kind;
-ghost use Rattle.mesa_engine.specs.mesa_history_spec.Rows.{Rows, no_rows};
+ghost use Rattle.mesa_write_turns.specs.mesa_history_spec.Rows.{Rows, no_rows};
 ghost use Rattle.mesa_span.specs.Ranges.{base_before};
 ghost use Rattle.mesa_span.specs.Work.{next_work};
-ghost use Rattle.mesa_publishing.specs.Finished.{HasRange};
+ghost use Rattle.mesa_write_turns.specs.mesa_publishing.Finished.{HasRange};
 ghost use Rattle.mesa_tasks.specs.Spares.{HasSpares};
 ghost use Rattle.mesa_tasks.specs.Tasks.{IsTask, claim_in};
-ghost use Rattle.mesa_engine.specs.mesa_invariant_spec.Turns.{AnswersDisk, SomeRose, Takes};
-ghost use Rattle.mesa_engine.specs.mesa_invariant_spec.Invariant.{run_at};
-ghost use Rattle.mesa_engine.specs.mesa_invariant_spec.Works.{stage_if};
+ghost use Rattle.mesa_write_turns.specs.mesa_invariant_spec.Turns.{AnswersDisk, SomeRose, Takes};
+ghost use Rattle.mesa_write_turns.specs.mesa_invariant_spec.Invariant.{run_at};
+ghost use Rattle.mesa_write_turns.specs.mesa_invariant_spec.Works.{stage_if};
 ghost use Rattle.mesa_work_turns.specs.Claims.{cause_met, claim_as};
 ghost use Rattle.mesa_engine.specs.Written.{written_at};
 

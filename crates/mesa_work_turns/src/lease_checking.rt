@@ -1,7 +1,7 @@
 // Whether a lease holds still.
 ghost use Rattle.std.specs.Prelude.{◌≡◌, ◌<◌, Ok, Err, IfErr, OnOk};
 ghost use Rattle.mesa_engine.specs.EngineState.{books_of};
-ghost use Rattle.mesa_engine.specs.mesa_history_spec.Rows.{no_rows};
+ghost use Rattle.mesa_write_turns.specs.mesa_history_spec.Rows.{no_rows};
 ghost use Rattle.mesa_work_turns.specs.Claims.{lease_checked};
 
 use mesa_engine::Metadata;

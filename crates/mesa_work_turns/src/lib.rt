@@ -14,14 +14,14 @@ mod recast_granting;
 mod renewing;
 mod unmerged;
 
+pub use mesa_read_turns::{close_query, explain, look, pin, pin_query, release};
 pub use giving_back::{give_back, give_back_recast};
 pub use granting::{failure_of, grant};
 pub use recast_granting::grant_recast;
 pub use renewing::{renew, renew_recast};
 pub use lease_checking::check;
 pub use completing::complete;
-pub use mesa_publishing::{Swapped, recast, tables_become};
-pub use mesa_read_turns::{close_query, pin_query};
+pub use mesa_write_turns::{Swapped, recast, tables_become};
 pub use mesa_write_turns::{alter, expire, publish, table, view};
 pub use readying::make_room;
 pub use unmerged::{fall, give_up, may_be_told};

@@ -1,14 +1,14 @@
 // What a recast is granted.
 ghost use Rattle.std.specs.Prelude.{◌≡◌, ◌-◌, ◌<◌, ◌≤◌, length, None, Ok, IfErr, IfOk, OnOk, false};
 ghost use Rattle.mesa_engine.specs.Failing.{is_of_device};
-ghost use Rattle.mesa_engine.specs.mesa_history_spec.Machine.{recast_claim_of};
+ghost use Rattle.mesa_write_turns.specs.mesa_history_spec.Machine.{recast_claim_of};
 ghost use Rattle.mesa_engine.specs.mesa_image_spec.Catalog.{start_in, stock_at};
 ghost use Rattle.mesa_lease.specs.Book.{holder};
 ghost use Rattle.mesa_engine.specs.EngineState.{books_of};
 ghost use Rattle.mesa_engine.specs.Failure.{cause_in};
-ghost use Rattle.mesa_plans.specs.mesa_schema.Recasts.{recast_checked};
-ghost use Rattle.mesa_engine.specs.mesa_history_spec.Rows.{no_rows};
-ghost use Rattle.mesa_engine.specs.mesa_invariant_spec.Works.{HasNoClaim};
+ghost use Rattle.mesa_write_turns.specs.mesa_schema.Recasts.{recast_checked};
+ghost use Rattle.mesa_write_turns.specs.mesa_history_spec.Rows.{no_rows};
+ghost use Rattle.mesa_write_turns.specs.mesa_invariant_spec.Works.{HasNoClaim};
 ghost use Rattle.mesa_work_turns.specs.Claims.{cause_refused, recast_claim_as};
 
 use mesa_engine::{Catalog, Failure, Metadata};

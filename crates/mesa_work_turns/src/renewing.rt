@@ -1,19 +1,19 @@
 // The renewal of a work and of a recast.
 ghost use Rattle.std.specs.Prelude.{◌≡◌, ◌+◌, ◌<◌, ◌≤◌, ◌^◌, true, length, IfErr, IfSome, OnSome, OnErr, OnOk, Ok, Err};
-ghost use Rattle.mesa_engine.specs.mesa_history_spec.Legal.{is_work};
-ghost use Rattle.mesa_engine.specs.mesa_history_spec.Machine.{Errand};
-ghost use Rattle.mesa_engine.specs.mesa_history_spec.Run.{Granted, Renewed};
-ghost use Rattle.mesa_engine.specs.mesa_history_spec.Turns.{IsDue};
+ghost use Rattle.mesa_write_turns.specs.mesa_history_spec.Legal.{is_work};
+ghost use Rattle.mesa_write_turns.specs.mesa_history_spec.Machine.{Errand};
+ghost use Rattle.mesa_write_turns.specs.mesa_history_spec.Run.{Granted, Renewed};
+ghost use Rattle.mesa_write_turns.specs.mesa_history_spec.Turns.{IsDue};
 ghost use Rattle.mesa_lease.specs.Book.{renewed};
 ghost use Rattle.mesa_engine.specs.EngineState.{books_of};
 ghost use Rattle.mesa_engine.specs.Memory.{with_leases};
 ghost use Rattle.mesa_model.specs.declared.commands.Command.{Command};
 ghost use Rattle.mesa_model.specs.declared.commands.Command.TheVariants as command;
 ghost use Rattle.mesa_model.specs.declared.entries.Kind.TheVariants as kind;
-ghost use Rattle.mesa_engine.specs.mesa_history_spec.Rows.{no_rows};
-ghost use Rattle.mesa_engine.specs.mesa_invariant_spec.Turns.{AnswersDisk, SomeRose, Takes};
-ghost use Rattle.mesa_engine.specs.mesa_invariant_spec.Invariant.{run_at};
-ghost use Rattle.mesa_engine.specs.mesa_invariant_spec.Works.{stage_if};
+ghost use Rattle.mesa_write_turns.specs.mesa_history_spec.Rows.{no_rows};
+ghost use Rattle.mesa_write_turns.specs.mesa_invariant_spec.Turns.{AnswersDisk, SomeRose, Takes};
+ghost use Rattle.mesa_write_turns.specs.mesa_invariant_spec.Invariant.{run_at};
+ghost use Rattle.mesa_write_turns.specs.mesa_invariant_spec.Works.{stage_if};
 ghost use Rattle.mesa_tasks.specs.Recasts.{claim_of_recast};
 ghost use Rattle.mesa_tasks.specs.Tasks.{claim_in};
 ghost use Rattle.mesa_work_turns.specs.Claims.{claim_with, lease_checked};

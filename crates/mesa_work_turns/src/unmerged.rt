@@ -1,21 +1,21 @@
 // A work's last turn where its merge failed.
 ghost use Rattle.std.specs.Prelude.{◌≡◌, ◌<◌, ◌==◌, ◌++◌, ◌∷◌, [], true, false, length, Some};
-ghost use Rattle.mesa_disk.specs.mesa_io.Causes.{last};
-ghost use Rattle.mesa_publishing.specs.mesa_history_spec.Run.{Finished, Granted};
-ghost use Rattle.mesa_publishing.specs.mesa_history_spec.Turns.{IsDue};
+ghost use Rattle.mesa_io.specs.Causes.{last};
+ghost use Rattle.mesa_write_turns.specs.mesa_history_spec.Run.{Finished, Granted};
+ghost use Rattle.mesa_write_turns.specs.mesa_history_spec.Turns.{IsDue};
 ghost use Rattle.mesa_engine.specs.Failure.{cause_in};
 ghost use Rattle.mesa_engine.specs.Memory.{with_state};
 ghost use Rattle.mesa_model.specs.declared.commands.Command.TheVariants as command;
 ghost use Rattle.mesa_model.specs.declared.entries.Kind.TheVariants as kind;
-ghost use Rattle.mesa_engine.specs.mesa_history_spec.Output.{block};
-ghost use Rattle.mesa_engine.specs.mesa_history_spec.Rows.{Rows, no_rows};
+ghost use Rattle.mesa_write_turns.specs.mesa_history_spec.Output.{block};
+ghost use Rattle.mesa_write_turns.specs.mesa_history_spec.Rows.{Rows, no_rows};
 ghost use Rattle.mesa_tasks.specs.GivingBack.{SomeFailed, task_inputs};
 ghost use Rattle.mesa_tasks.specs.declared.merging.CompactError.TheVariants as compact;
-ghost use Rattle.mesa_engine.specs.mesa_invariant_spec.Causes.{is_read_fault, outcome_of, reply_of, told_at};
-ghost use Rattle.mesa_engine.specs.mesa_invariant_spec.Printing.{IsPut};
-ghost use Rattle.mesa_engine.specs.mesa_invariant_spec.Turns.{AnswersDisk, AnswersDraft, SomeRose, Takes, entry};
-ghost use Rattle.mesa_engine.specs.mesa_invariant_spec.Undamaged.{is_damaged};
-ghost use Rattle.mesa_engine.specs.mesa_invariant_spec.Invariant.{run_at};
+ghost use Rattle.mesa_write_turns.specs.mesa_invariant_spec.Causes.{is_read_fault, outcome_of, reply_of, told_at};
+ghost use Rattle.mesa_write_turns.specs.mesa_invariant_spec.Printing.{IsPut};
+ghost use Rattle.mesa_write_turns.specs.mesa_invariant_spec.Turns.{AnswersDisk, AnswersDraft, SomeRose, Takes, entry};
+ghost use Rattle.mesa_write_turns.specs.mesa_invariant_spec.Undamaged.{is_damaged};
+ghost use Rattle.mesa_write_turns.specs.mesa_invariant_spec.Invariant.{run_at};
 ghost use Rattle.mesa_tasks.specs.Tasks.{claim_in};
 ghost use Rattle.mesa_work_turns.specs.Unmerged.{MergeDiffered, TellsDamage, cause_of, closing_cause, closing_state, unmerged_state};
 

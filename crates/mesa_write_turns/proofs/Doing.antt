@@ -30,9 +30,9 @@ use Rattle.mesa_record.specs.declared.record.Part.{Part}
 use Rattle.mesa_record.specs.declared.record.Record.{Record}
 use Rattle.mesa_record.specs.declared.record.Record.TheVariants as record_of
 use Rattle.mesa_record.specs.Rules.{IsTyped, IsTypedChange}
-use Rattle.mesa_engine.specs.mesa_catalog.mesa_image_spec.Catalog.{Catalog, applied, stock_at}
-use Rattle.mesa_engine.specs.mesa_catalog.mesa_image_spec.Fitting.{expire_fits, fits, is_new_name, is_there}
-use Rattle.mesa_engine.specs.mesa_catalog.mesa_image_spec.Sound.{AreStocked}
+use Rattle.mesa_engine.specs.mesa_image_spec.Catalog.{Catalog, applied, stock_at}
+use Rattle.mesa_engine.specs.mesa_image_spec.Fitting.{expire_fits, fits, is_new_name, is_there}
+use Rattle.mesa_engine.specs.mesa_image_spec.Sound.{AreStocked}
 use Rattle.mesa_engine.proofs.mesa_image_spec.Agreeing.{agree_stocked}
 use Rattle.mesa_engine.proofs.mesa_image_spec.AllSourced.{alter_sourced, expire_sourced, expire_table_sourced, table_sourced, view_sourced}
 use Rattle.mesa_engine.proofs.mesa_image_spec.Lists.{both_true, is_less}

@@ -1,7 +1,7 @@
 -- How a turn that writes keeps an engine.
 use Rattle.std.proofs.Common.{refl, ◌≡◌, ℕ, ◌+◌, ◌<◌, ◌≤◌, ◌^◌, List, [], ◌∷◌, ◌++◌, length, true, false, ◌||◌, not, sym, subst, arith, Option, None, Some, Ok}
 use Rattle.std.specs.Prelude.{vec_capacity}
-use Rattle.mesa_disk.specs.mesa_key.Spelling.{AreBytes}
+use Rattle.mesa_publishing.specs.mesa_key.Spelling.{AreBytes}
 use Rattle.mesa_disk.specs.Files.{AreAbsent, files_of}
 use Rattle.mesa_disk.specs.Image.{Image}
 use Rattle.mesa_disk.specs.Story.{Story}
@@ -14,7 +14,7 @@ use Rattle.mesa_engine.specs.mesa_history_spec.Run.{Run}
 use Rattle.mesa_engine.specs.mesa_history_spec.Turns.{IsDue}
 use Rattle.mesa_record.specs.Reading.{record_at}
 use Rattle.mesa_record.specs.Rules.{IsTyped}
-use Rattle.mesa_engine.specs.mesa_catalog.mesa_image_spec.Catalog.{applied}
+use Rattle.mesa_engine.specs.mesa_image_spec.Catalog.{applied}
 use Rattle.mesa_engine.specs.mesa_catalog.Lookups.{generation_of, turns_generation}
 use Rattle.mesa_engine.specs.mesa_history_spec.Bare.{bare_state}
 use Rattle.mesa_engine.specs.mesa_history_spec.Rows.{Rows, no_rows}

@@ -3,7 +3,7 @@ use Rattle.std.proofs.Common.{◌≡◌, ℕ, List, [], ◌∷◌, refl, sym, �
 use Rattle.mesa_disk.specs.Files.{AreAbsent, HasOtherIds}
 use Rattle.mesa_disk.specs.Image.{Image, file_of}
 use Rattle.mesa_disk.specs.Story.{Steps}
-use Rattle.mesa_publishing.specs.mesa_commit.Turn.{MovesOnly}
+use Rattle.mesa_engine.specs.mesa_commit.Turn.{MovesOnly}
 use Rattle.mesa_write_turns.specs.Writing.{KeepsFiles}
 
 -- a file that is there is none of those that weren't

@@ -4,7 +4,7 @@ use Rattle.std.specs.Prelude.{IsOk, Result, is_some, vec_capacity}
 use Rattle.std.proofs.lemmas.List.{length-append}
 use Rattle.std.proofs.lemmas.Simd.{map-map}
 use Rattle.mesa_publishing.specs.mesa_list.Checks.{◌>>=◌, ◌>>◌, refuse_if, refused_as}
-use Rattle.mesa_disk.specs.mesa_io.Causes.{Rose, last}
+use Rattle.mesa_io.specs.Causes.{Rose, last}
 use Rattle.mesa_batch.specs.Batch.{Named, Placed, batch_from, batch_of, placed_of}
 use Rattle.mesa_batch.specs.Glance.{tables_of}
 use Rattle.mesa_batch.specs.declared.words.BatchError.{BatchError}
@@ -25,7 +25,7 @@ use Rattle.mesa_model.specs.Warehouse.{Warehouse, max_versions}
 use Rattle.mesa_engine.specs.mesa_history_spec.Legal.{builds_files}
 use Rattle.mesa_engine.specs.mesa_history_spec.Run.{Run, First, Looked}
 use Rattle.mesa_engine.specs.mesa_history_spec.Turns.{IsDue}
-use Rattle.mesa_engine.specs.mesa_catalog.mesa_image_spec.Catalog.{Catalog}
+use Rattle.mesa_engine.specs.mesa_image_spec.Catalog.{Catalog}
 use Rattle.mesa_engine.specs.mesa_image_spec.Sourced.{tables_read}
 use Rattle.mesa_engine.specs.mesa_catalog.Lookups.{sight_of}
 use Rattle.mesa_engine.specs.mesa_history_spec.Output.{block}

@@ -5,7 +5,7 @@ use Rattle.std.specs.List.{AllByRecursion}
 use Rattle.std.specs.declared.alloc.Global.{Global}
 use Rattle.std.proofs.lemmas.Simd.{map-map}
 use Rattle.mesa_publishing.specs.mesa_list.Checks.{◌>>◌}
-use Rattle.mesa_publishing.specs.mesa_commit.Turn.{told_files}
+use Rattle.mesa_engine.specs.mesa_commit.Turn.{told_files}
 use Rattle.mesa_disk.specs.declared.moving.Adoption.{Adoption}
 use Rattle.mesa_binding.specs.declared.failure.Failure.{Failure as Unruled}
 use Rattle.mesa_binding.specs.declared.failure.Failure.TheVariants as unruled
@@ -24,8 +24,8 @@ use Rattle.mesa_engine.specs.mesa_history_spec.Replay.{is_skip, no_rows as no_li
 use Rattle.mesa_engine.specs.mesa_history_spec.Run.{State, First, Finished}
 use Rattle.mesa_engine.specs.mesa_history_spec.Turns.{IsDue}
 use Rattle.mesa_record.specs.declared.record.Record.{Record}
-use Rattle.mesa_engine.specs.mesa_catalog.mesa_image_spec.Fitting.{brought, shelved_id}
-use Rattle.mesa_engine.specs.mesa_catalog.mesa_image_spec.Sound.{IsTold, wants}
+use Rattle.mesa_engine.specs.mesa_image_spec.Fitting.{brought, shelved_id}
+use Rattle.mesa_engine.specs.mesa_image_spec.Sound.{IsTold, wants}
 use Rattle.mesa_engine.specs.mesa_script.Rows.{body_of}
 use Rattle.mesa_rules.specs.declared.ruled.Ruled.{Ruled}
 use Rattle.mesa_rules.specs.Ruled.{IsRuled, IsRefused as IsUnruled}

@@ -1,12 +1,12 @@
 -- How a turn that writes keeps a vault.
 use Rattle.std.proofs.Common.{◌≡◌, ℕ, ◌+◌, ◌<◌, ◌≤◌, ◌^◌, List, [], ◌∷◌, ◌++◌, length, Bool, true, false, ◌||◌, sym, ◌∙◌, ap, subst, arith, Option, None, Some, Ok, IsTrue}
-use Rattle.mesa_disk.specs.mesa_key.Spelling.{AreBytes}
+use Rattle.mesa_publishing.specs.mesa_key.Spelling.{AreBytes}
 use Rattle.mesa_disk.specs.Files.{AreAbsent, AreGone, files_of}
 use Rattle.mesa_disk.specs.Image.{Image, file_of}
 use Rattle.mesa_disk.specs.Story.{Story, Spans, Steps}
 use Rattle.mesa_disk.specs.declared.area.Area.{Area}
-use Rattle.mesa_publishing.specs.mesa_commit.Images.{Stands}
-use Rattle.mesa_publishing.specs.mesa_commit.Turn.{MovesOnly}
+use Rattle.mesa_engine.specs.mesa_commit.Images.{Stands}
+use Rattle.mesa_engine.specs.mesa_commit.Turn.{MovesOnly}
 use Rattle.mesa_model.specs.declared.commands.Script.{Script}
 use Rattle.mesa_model.specs.declared.entries.Entry.{Entry}
 use Rattle.mesa_model.specs.declared.entries.Kind.TheVariants as kind
@@ -17,11 +17,11 @@ use Rattle.mesa_engine.specs.mesa_history_spec.Turns.{IsDue}
 use Rattle.mesa_record.specs.declared.record.Record.{Record}
 use Rattle.mesa_record.specs.Reading.{record_at}
 use Rattle.mesa_record.specs.Rules.{IsTyped}
-use Rattle.mesa_engine.specs.mesa_catalog.mesa_image_spec.Catalog.{Catalog, applied}
-use Rattle.mesa_engine.specs.mesa_catalog.mesa_image_spec.Contents.{kept_of}
-use Rattle.mesa_engine.specs.mesa_catalog.mesa_image_spec.Fitting.{shelved}
-use Rattle.mesa_engine.specs.mesa_catalog.mesa_image_spec.Held.{IsHeld, StandsForEither as EitherOf}
-use Rattle.mesa_engine.specs.mesa_catalog.mesa_image_spec.Sound.{StandsFor}
+use Rattle.mesa_engine.specs.mesa_image_spec.Catalog.{Catalog, applied}
+use Rattle.mesa_engine.specs.mesa_image_spec.Contents.{kept_of}
+use Rattle.mesa_engine.specs.mesa_image_spec.Fitting.{shelved}
+use Rattle.mesa_engine.specs.mesa_image_spec.Held.{IsHeld, StandsForEither as EitherOf}
+use Rattle.mesa_engine.specs.mesa_image_spec.Sound.{StandsFor}
 use Rattle.mesa_engine.proofs.mesa_image_spec.Agreeing.{agree_wants}
 use Rattle.mesa_engine.proofs.mesa_image_spec.CountedRecords.{fits_counted}
 use Rattle.mesa_engine.proofs.mesa_image_spec.Ids.{own_ids}
@@ -32,7 +32,7 @@ use Rattle.mesa_engine.specs.mesa_catalog.Lookups.{generation_of, turns_generati
 use Rattle.mesa_store.specs.Store.{Writes as IsWritten}
 use Rattle.mesa_engine.specs.mesa_history_spec.Output.{block}
 use Rattle.mesa_engine.specs.mesa_history_spec.Rows.{Rows}
-use Rattle.mesa_publishing.specs.mesa_commit.Filed.{AreGiven, Renames}
+use Rattle.mesa_engine.specs.mesa_commit.Filed.{AreGiven, Renames}
 use Rattle.mesa_engine.specs.mesa_invariant_spec.Causes.{Unwritten, reply_of, told_at}
 use Rattle.mesa_engine.specs.mesa_invariant_spec.Printing.{IsPut}
 use Rattle.mesa_engine.specs.mesa_invariant_spec.Turns.{entry}

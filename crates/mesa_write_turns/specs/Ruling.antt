@@ -8,7 +8,7 @@ use Rattle.mesa_engine.specs.mesa_history_spec.Turns.{IsDue}
 use Rattle.mesa_binding.specs.declared.failure.Failure.{Failure as Unruled}
 use Rattle.mesa_binding.specs.declared.failure.Failure.TheVariants as unruled
 use Rattle.mesa_record.specs.Rules.{keeps_rules}
-use Rattle.mesa_engine.specs.mesa_catalog.mesa_image_spec.Fitting.{fits}
+use Rattle.mesa_engine.specs.mesa_image_spec.Fitting.{fits}
 use Rattle.mesa_engine.specs.mesa_history_spec.Rows.{no_rows}
 use Rattle.mesa_engine.specs.EngineState.{EngineState, books_of}
 use Rattle.mesa_engine.specs.Failure.{cause_in}

@@ -6,7 +6,7 @@ use Rattle.mesa_schema.specs.Changes.{columns_of, epoch_of}
 use Rattle.mesa_disk.specs.Files.{HasDistinctIds, files_of}
 use Rattle.mesa_disk.specs.Image.{Image, file_of}
 use Rattle.mesa_disk.specs.declared.moving.Adoption.{Adoption}
-use Rattle.mesa_publishing.specs.mesa_commit.Turn.{made_ids, told_files}
+use Rattle.mesa_engine.specs.mesa_commit.Turn.{made_ids, told_files}
 use Rattle.mesa_model.specs.declared.commands.Command.{Command}
 use Rattle.mesa_model.specs.declared.commands.Command.TheVariants as command
 use Rattle.mesa_model.specs.declared.commands.Script.{Script}
@@ -22,9 +22,9 @@ use Rattle.mesa_record.specs.declared.record.Part.{Part}
 use Rattle.mesa_record.specs.declared.record.Record.{Record}
 use Rattle.mesa_record.specs.declared.record.Record.TheVariants as record_of
 use Rattle.mesa_record.specs.Rules.{keeps_rules}
-use Rattle.mesa_engine.specs.mesa_catalog.mesa_image_spec.Catalog.{stock_at}
-use Rattle.mesa_engine.specs.mesa_catalog.mesa_image_spec.Fitting.{brought, fits}
-use Rattle.mesa_engine.specs.mesa_catalog.mesa_image_spec.Sound.{wants}
+use Rattle.mesa_engine.specs.mesa_image_spec.Catalog.{stock_at}
+use Rattle.mesa_engine.specs.mesa_image_spec.Fitting.{brought, fits}
+use Rattle.mesa_engine.specs.mesa_image_spec.Sound.{wants}
 use Rattle.mesa_engine.specs.mesa_image_spec.Brought.{AreTold, BringsAll}
 use Rattle.mesa_engine.specs.mesa_image_spec.Ids.{brought_ids}
 use Rattle.mesa_engine.specs.mesa_image_spec.Sourced.{tables_read}

@@ -9,5 +9,6 @@ mod publishing;
 mod ruling;
 mod writing;
 
+pub use mesa_publishing::{Swapped, recast, swap, tables_become};
 pub use commands::{alter, expire, table, view};
 pub use publishing::publish;

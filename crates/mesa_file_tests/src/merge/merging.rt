@@ -1,7 +1,7 @@
 // Files merged into one.
 ghost use Rattle.std.specs.Prelude.{◌≡◌, [], IfOk, None};
 ghost use Rattle.std.specs.List.{AllByRecursion};
-ghost use Rattle.mesa_file.specs.declared.file_ref.FileRef.{FileRef as AnyFile};
+ghost use Rattle.mesa_tasks.specs.mesa_file.declared.file_ref.FileRef.{FileRef as AnyFile};
 ghost use Rattle.mesa_tasks.specs.Spares.{IsSpareOf};
 ghost use Rattle.mesa_tasks.specs.Tasks.{IsTask};
 ghost use Rattle.mesa_file_tests.specs.Opened.{AreOpened, HaveNoFiles, IsOpenedPart};

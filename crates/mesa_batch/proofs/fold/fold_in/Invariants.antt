@@ -1,7 +1,7 @@
 use Rattle.std.proofs.Common.{◌≡◌, ◌+◌, ◌≤◌, ℕ, length, vec_len, vec_capacity}
 use Rattle.std.specs.Prelude.{Some, slice_get}
 use Rattle.std.specs.Vec.Iter.{into_iter_items, into_iter_len}
-use Rattle.mesa_value.specs.declared.Agg.TheVariants.{Sum}
+use Rattle.mesa_schema.specs.mesa_value.declared.Agg.TheVariants.{Sum}
 use Rattle.mesa_schema.specs.Laws.{AreFull}
 use Rattle.mesa_batch.specs.Totals.{abs_total}
 use Rattle.mesa_schema.specs.Put.{put_rows}

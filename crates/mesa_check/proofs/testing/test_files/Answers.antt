@@ -1,7 +1,7 @@
 use Rattle.std.proofs.Common.{◌∙◌, ◌<◌, ap, sym, subst, refl, map, List, ℕ}
 use Rattle.std.specs.Prelude.{IfSome, is_some, Option}
 use Rattle.std.specs.List.{AllByRecursion, list_all}
-use Rattle.mesa_image_spec.specs.mesa_history_spec.mesa_batch.Totals.{sum_bound}
+use Rattle.mesa_batch.specs.Totals.{sum_bound}
 use Rattle.mesa_image_spec.specs.Fitting.{view_shelved}
 use Rattle.mesa_record.specs.declared.record.ViewRef.{ViewRef}
 use Rattle.mesa_check_file.specs.declared.totals.Sums.{Sums}

@@ -1,7 +1,7 @@
 use Rattle.std.proofs.Common.{◌∙◌, ◌<◌, [], ap, refl, sym, subst, List, ℕ}
 use Rattle.std.specs.Prelude.{IfSome, Option}
 use Rattle.std.specs.List.{AllByRecursion}
-use Rattle.mesa_image_spec.specs.mesa_history_spec.mesa_batch.Totals.{abs_totals, sum_bound}
+use Rattle.mesa_batch.specs.Totals.{abs_totals, sum_bound}
 use Rattle.mesa_schema.specs.Changes.{columns_at, columns_of}
 use Rattle.mesa_check_file.specs.Sums.{counted}
 use Rattle.mesa_check.specs.Faults.{agrees_if_any}

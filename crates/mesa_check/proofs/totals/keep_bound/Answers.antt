@@ -1,6 +1,6 @@
 use Rattle.std.proofs.Common.{◌∙◌, ap, nat_lt}
 use Rattle.std.specs.List.{list_all}
-use Rattle.mesa_image_spec.specs.mesa_history_spec.mesa_batch.Totals.{sum_bound}
+use Rattle.mesa_batch.specs.Totals.{sum_bound}
 use Rattle.mesa_check.proofs.Sums.{bounded_counted}
 use Rattle.mesa_check.proofs.totals.keep_bound.Goals as goal
 

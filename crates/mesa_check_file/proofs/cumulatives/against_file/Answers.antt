@@ -3,11 +3,11 @@ use Rattle.mesa_schema.specs.declared.rows.Row.{Row}
 use Rattle.mesa_schema.specs.Changes.{Lineage, columns_of}
 use Rattle.mesa_schema.specs.Columns.{aggs_of}
 use Rattle.mesa_schema.specs.Folded.{folded, rows_of}
-use Rattle.mesa_batch.specs.Bound.{KeepsBound}
+use Rattle.mesa_tasks.specs.mesa_batch.Bound.{KeepsBound}
 use Rattle.mesa_merge.specs.Inputs.{knowns_of, lifted_parts}
 use Rattle.mesa_merge.specs.Merged.{HasMerged, inputs_of}
 use Rattle.mesa_check_file.specs.Difference.{first_difference}
-use Rattle.mesa_answer.proofs.Results.{if_ok}
+use Rattle.mesa_view.proofs.mesa_answer.Results.{if_ok}
 use Rattle.mesa_check_file.proofs.GivenBack.{counted_more, counted_then, same_fresh, unmoved_more}
 use Rattle.mesa_check_file.proofs.Openings.{not_damaged, one_told, rows_same}
 use Rattle.mesa_check_file.proofs.cumulatives.against_file.Goals as goal

@@ -4,10 +4,10 @@ use Rattle.std.specs.Prelude.{None}
 use Rattle.mesa_schema.specs.declared.rows.Row.{Row}
 use Rattle.mesa_schema.specs.Columns.{aggs_of}
 use Rattle.mesa_schema.specs.Folded.{folded, rows_of}
-use Rattle.mesa_batch.specs.Bound.{KeepsBound}
+use Rattle.mesa_tasks.specs.mesa_batch.Bound.{KeepsBound}
 use Rattle.mesa_merge.specs.Inputs.{knowns_of, lifted_parts}
 use Rattle.mesa_check_file.specs.Difference.{first_difference}
-use Rattle.mesa_answer.proofs.Results.{if_ok}
+use Rattle.mesa_view.proofs.mesa_answer.Results.{if_ok}
 use Rattle.mesa_check_file.specs.Compared.{present_if_any, present_parts}
 use Rattle.mesa_check_file.proofs.GivenBack.{counted_more, counted_then, unmoved_more}
 use Rattle.mesa_check_file.proofs.Openings.{all_told, none_damaged, opened_alike, opened_fresh, opened_inputs, parts_same}

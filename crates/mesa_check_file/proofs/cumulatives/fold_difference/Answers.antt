@@ -2,11 +2,11 @@ use Rattle.std.proofs.Common.{◌≡◌, [], sym, ap, subst, ◌∙◌}
 use Rattle.mesa_schema.specs.Changes.{columns_of}
 use Rattle.mesa_schema.specs.Columns.{Columns, aggs_of}
 use Rattle.mesa_schema.specs.Folded.{folded, rows_of}
-use Rattle.mesa_batch.specs.Bound.{KeepsBound}
+use Rattle.mesa_tasks.specs.mesa_batch.Bound.{KeepsBound}
 use Rattle.mesa_merge.specs.Inputs.{AreTold, knowns_of, lifted_parts}
 use Rattle.mesa_merge.specs.Merged.{HasMerged, inputs_of, nothing_given}
 use Rattle.mesa_check_file.specs.Difference.{first_difference}
-use Rattle.mesa_answer.proofs.Results.{if_ok}
+use Rattle.mesa_view.proofs.mesa_answer.Results.{if_ok}
 use Rattle.mesa_check_file.specs.Compared.{present_rows}
 use Rattle.mesa_check_file.proofs.GivenBack.{same_fresh}
 use Rattle.mesa_check_file.proofs.cumulatives.fold_difference.Goals as goal

@@ -1,7 +1,7 @@
 use Rattle.std.proofs.Common.{◌≡◌, refl}
 use Rattle.std.specs.Prelude.{Result, Ok, Err, OnOk}
 use Rattle.std.proofs.lemmas.Result.{err_from_is_err_and}
-use Rattle.mesa_answer.proofs.Results.{if_err}
+use Rattle.mesa_view.proofs.mesa_answer.Results.{if_err}
 use Rattle.mesa_delta.specs.declared.error.FileError.TheVariants.{Read}
 use Rattle.mesa_check_file.proofs.Counting.{first_cause, several_failed}
 use Rattle.mesa_check_file.proofs.finishing.finish_both.Goals as goal

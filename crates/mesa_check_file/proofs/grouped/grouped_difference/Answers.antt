@@ -8,7 +8,7 @@ use Rattle.mesa_schema.specs.Views.{view_key_places, view_rows, view_value_place
 use Rattle.mesa_scan.specs.Cursors.{lift_by}
 use Rattle.mesa_delta.specs.declared.error.FileError.TheVariants.{Memory, Read}
 use Rattle.mesa_check_file.specs.Difference.{first_difference}
-use Rattle.mesa_answer.proofs.Results.{if_err, if_ok}
+use Rattle.mesa_view.proofs.mesa_answer.Results.{if_err, if_ok}
 use Rattle.mesa_view.proofs.Blocks.{if_some}
 use Rattle.mesa_check_file.proofs.Counting.{none_failed, one_failed, second_cause}
 use Rattle.mesa_check_file.proofs.grouped.grouped_difference.Goals as goal

@@ -10,8 +10,8 @@ use Rattle.mesa_schema.specs.Changes.{columns_of}
 use Rattle.mesa_delta.specs.Reading.{IsIndexed}
 use Rattle.mesa_scan.specs.Cursors.{HasGiven, IsSameInput, at_hand, lift_by}
 use Rattle.mesa_check_file.specs.Difference.{first_difference}
-use Rattle.mesa_answer.proofs.Passing.{one_more_row}
-use Rattle.mesa_answer.proofs.Results.{if_err, if_ok}
+use Rattle.mesa_view.proofs.mesa_answer.Passing.{one_more_row}
+use Rattle.mesa_view.proofs.mesa_answer.Results.{if_err, if_ok}
 use Rattle.mesa_check_file.proofs.Streams.{same_input}
 use Rattle.mesa_check_file.specs.Compared.{Shows}
 use Rattle.mesa_check_file.proofs.Differing.{differs, front_rises, lifts_same, whole_of}

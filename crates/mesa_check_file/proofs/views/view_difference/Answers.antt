@@ -3,10 +3,10 @@ use Rattle.std.specs.Prelude.{IfSome, slice_get}
 use Rattle.mesa_schema.specs.declared.rows.Row.{Row}
 use Rattle.mesa_schema.specs.Changes.{Lineage, columns_of}
 use Rattle.mesa_schema.specs.Views.{view_rows}
-use Rattle.mesa_answer.specs.Answering.{KeepsSums}
+use Rattle.mesa_view.specs.mesa_answer.Answering.{KeepsSums}
 use Rattle.mesa_scan.specs.Cursors.{lift_by}
 use Rattle.mesa_check_file.specs.Difference.{first_difference}
-use Rattle.mesa_answer.proofs.Results.{if_ok}
+use Rattle.mesa_view.proofs.mesa_answer.Results.{if_ok}
 use Rattle.mesa_view.proofs.Blocks.{if_some}
 use Rattle.mesa_check_file.specs.Compared.{present_rows}
 use Rattle.mesa_check_file.proofs.Openings.{not_damaged, one_told, rows_same}

@@ -6,8 +6,8 @@ use Rattle.mesa_schema.specs.Columns.{Columns}
 use Rattle.mesa_schema.specs.Recasts.{Recast, recast_columns}
 use Rattle.mesa_batch.specs.Totals.{abs_totals, sum_bound}
 use Rattle.mesa_delta.specs.declared.input.Input.{Input}
-use Rattle.mesa_merge.specs.Faults.{faults_of}
-use Rattle.mesa_merge.specs.Inputs.{Known, known_of, knowns_of}
+use Rattle.mesa_compact.specs.mesa_merge.Faults.{faults_of}
+use Rattle.mesa_compact.specs.mesa_merge.Inputs.{Known, known_of, knowns_of}
 use Rattle.mesa_tasks.specs.Batches.{made_ids}
 use Rattle.mesa_tasks.specs.Inputs.{AreInputsTo, IsMergeOf}
 use Rattle.mesa_tasks.specs.Recasts.{HasRangeFile, IsRangeRewritten, own, recast_content, recast_ids}

@@ -1,7 +1,7 @@
 use Rattle.std.proofs.Common.{◌≡◌, ◌≢◌, ◌+◌, ◌<◌, ◌≤◌, suc, [], ◌∷◌, ◌++◌, List, length, take, get_or, set, refl, sym, ◌∙◌, ap, subst, arith, add-one, append_assoc, append-nil, length-append}
 use Rattle.std.proofs.lemmas.List.{get_or-set_other, take_all}
 use Rattle.mesa_schema.proofs.Lists.{all_set}
-use Rattle.mesa_merge.specs.Inputs.{knowns_of}
+use Rattle.mesa_compact.specs.mesa_merge.Inputs.{knowns_of}
 use Rattle.mesa_tasks.specs.Inputs.{AreInputsTo}
 use Rattle.mesa_tasks.specs.Recasts.{AreRewritten, IsRangeRewritten, own, recast_ids}
 use Rattle.mesa_tasks.specs.Serials.{AreNext}

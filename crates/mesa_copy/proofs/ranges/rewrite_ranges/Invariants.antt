@@ -1,6 +1,6 @@
 use Rattle.std.proofs.Common.{◌≡◌, ◌≤◌, ◌++◌, ℕ, List, flat_map, get_or, length, take}
 use Rattle.mesa_schema.specs.Recasts.{Recast}
-use Rattle.mesa_merge.specs.Faults.{faults_of}
+use Rattle.mesa_compact.specs.mesa_merge.Faults.{faults_of}
 use Rattle.mesa_tasks.specs.Recasts.{AreRangesOf, AreRewritten, own, recast_ids}
 use Rattle.mesa_tasks.specs.Serials.{AreNext}
 use Rattle.mesa_tasks.specs.declared.recasting.RecastRange.{RecastRange}

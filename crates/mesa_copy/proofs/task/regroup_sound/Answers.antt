@@ -5,8 +5,8 @@ use Rattle.std.specs.Vec.{with_items}
 use Rattle.mesa_schema.specs.Changes.{Lineage, columns_of}
 use Rattle.mesa_schema.specs.Columns.{Columns}
 use Rattle.mesa_schema.specs.Recasts.{recast_keys, recast_values}
-use Rattle.mesa_merge.specs.Faults.{faults_of}
-use Rattle.mesa_merge.proofs.Handing.{refill}
+use Rattle.mesa_compact.specs.mesa_merge.Faults.{faults_of}
+use Rattle.mesa_compact.proofs.mesa_merge.Handing.{refill}
 use Rattle.mesa_tasks.specs.Recasts.{AreRangesOf, AreRewritten, own, recast_in, recast_table}
 use Rattle.mesa_tasks.specs.declared.recasting.RecastRange.{RecastRange}
 use Rattle.mesa_tasks.specs.declared.recasting.RecastedRange.{RecastedRange}

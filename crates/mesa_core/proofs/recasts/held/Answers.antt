@@ -1,6 +1,6 @@
-use Rattle.mesa_engine.specs.mesa_history_spec.Rows.{no_rows}
+use Rattle.mesa_recast_turns.specs.mesa_history_spec.Rows.{no_rows}
 use Rattle.std.proofs.Common.{inl, inr}
-use Rattle.mesa_engine.proofs.mesa_invariant_spec.Alike.{begun_alike}
+use Rattle.mesa_recast_turns.proofs.mesa_invariant_spec.Alike.{begun_alike}
 use Rattle.mesa_core.proofs.RecastHeld.{held_since}
 use Rattle.mesa_core.proofs.recasts.held.Goals as goal
 

@@ -1,12 +1,12 @@
 use Rattle.std.proofs.Common.{◌≡◌, not, sym, ap, subst, false}
 use Rattle.mesa_engine.specs.Engine.{Standing, starts_of}
-use Rattle.mesa_core.specs.mesa_history_spec.Claims.{HasClaimAt}
-use Rattle.mesa_core.specs.mesa_history_spec.Machine.{Machine}
-use Rattle.mesa_core.specs.mesa_history_spec.Run.{place_of}
+use Rattle.mesa_recast_turns.specs.mesa_history_spec.Claims.{HasClaimAt}
+use Rattle.mesa_recast_turns.specs.mesa_history_spec.Machine.{Machine}
+use Rattle.mesa_recast_turns.specs.mesa_history_spec.Run.{place_of}
 use Rattle.mesa_engine.proofs.BeforeTurns.{vault_claims}
 use Rattle.mesa_engine.specs.Vault.{Starts, outset_of}
-use Rattle.mesa_engine.specs.mesa_history_spec.Rows.{no_rows}
-use Rattle.mesa_engine.specs.mesa_invariant_spec.Invariant.{run_at}
+use Rattle.mesa_recast_turns.specs.mesa_history_spec.Rows.{no_rows}
+use Rattle.mesa_recast_turns.specs.mesa_invariant_spec.Invariant.{run_at}
 use Rattle.mesa_core.proofs.standing.claims.Goals as goal
 
 pub returns-clause-leases : goal.returns-clause-leases

@@ -2,8 +2,8 @@ use Rattle.std.proofs.Common.{not, subst}
 use Rattle.mesa_engine.specs.Engine.{Standing, starts_of}
 use Rattle.mesa_engine.specs.Vault.{Starts}
 use Rattle.mesa_engine.proofs.BeforeTurns.{vault_at_seen}
-use Rattle.mesa_engine.specs.mesa_history_spec.Rows.{no_rows}
-use Rattle.mesa_engine.specs.mesa_invariant_spec.Turns.{IsSeen}
+use Rattle.mesa_recast_turns.specs.mesa_history_spec.Rows.{no_rows}
+use Rattle.mesa_recast_turns.specs.mesa_invariant_spec.Turns.{IsSeen}
 use Rattle.mesa_core.proofs.standing.standing.Goals as goal
 
 pub returns : goal.returns

@@ -1,4 +1,4 @@
-use Rattle.mesa_key.specs.Spelling.{key_of}
+use Rattle.mesa_schema.specs.mesa_key.Spelling.{key_of}
 use Rattle.mesa_schema.specs.Columns.{kinds_of}
 use Rattle.mesa_filter.specs.Filter.{meets}
 use Rattle.mesa_schema.proofs.FilteredFolds.{filtered_folds}

@@ -1,7 +1,7 @@
 use Rattle.std.proofs.Common.{◌≡◌, ℕ, List, Option, ap, sym, subst, ◌∙◌}
 use Rattle.mesa_generate.specs.Excerpt.{CutsBy, IsExcerptBy, Output, before_last_three}
 use Rattle.mesa_generate.specs.Lines.{behind_lines}
-use Rattle.mesa_history_spec.specs.Run.{Told, begins}
+use Rattle.mesa_invariant_spec.specs.mesa_history_spec.Run.{Told, begins}
 use Rattle.mesa_model.specs.declared.entries.Entry.{Entry}
 use Rattle.mesa_model.specs.declared.commands.Script.{Script}
 use Rattle.mesa_generate.proofs.Blocks.{IsMadeOf, made_anyhow, made_whole}

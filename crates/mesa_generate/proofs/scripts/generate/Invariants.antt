@@ -1,5 +1,5 @@
 use Rattle.std.proofs.Common.{◌≡◌, ◌<◌, ◌-◌, ◌++◌}
-use Rattle.mesa_script.specs.Generated.{versions_from}
+use Rattle.mesa_invariant_spec.specs.mesa_script.Generated.{versions_from}
 use Rattle.mesa_generate.proofs.scripts.generate.Given as goal
 
 -- what was written and the versions to come are all of them

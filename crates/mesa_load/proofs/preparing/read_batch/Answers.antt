@@ -2,7 +2,7 @@ use Rattle.std.proofs.Common.{◌≡◌, ◌<◌, ℕ, List, [], Ok, Err, drop, 
 use Rattle.std.specs.Prelude.{◌≢◌, IfErr, OnOk, Result}
 use Rattle.std.proofs.Math.ListN.{drop_of_length-le}
 use Rattle.std.proofs.lemmas.Result.{err_from_is_err_and}
-use Rattle.mesa_list.specs.Checks.{◌>>◌}
+use Rattle.mesa_batch.specs.mesa_list.Checks.{◌>>◌}
 use Rattle.mesa_batch.specs.declared.words.BatchError.{BatchError}
 use Rattle.mesa_batch.specs.declared.words.BatchError.TheVariants.{Memory}
 use Rattle.mesa_batch.specs.Batch.{Placed, batch_of}

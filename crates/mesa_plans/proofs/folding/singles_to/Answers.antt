@@ -1,7 +1,7 @@
 use Rattle.std.proofs.Common.{◌≤◌, ◌∙◌, map, sym, ap, subst, false}
 use Rattle.std.specs.List.{AllByRecursion}
-use Rattle.mesa_image_spec.specs.Catalog.{Delta}
-use Rattle.mesa_image_spec.specs.Brought.{merged_of}
+use Rattle.mesa_rules.specs.mesa_image_spec.Catalog.{Delta}
+use Rattle.mesa_rules.specs.mesa_image_spec.Brought.{merged_of}
 use Rattle.mesa_table.specs.Meaning.{stock_of}
 use Rattle.mesa_table.specs.Named.{through}
 use Rattle.mesa_plans.specs.Lent.{single_delta, with_rows}

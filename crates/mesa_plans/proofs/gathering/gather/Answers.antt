@@ -1,7 +1,7 @@
 use Rattle.std.proofs.Common.{◌∙◌, ◌-◌, ap, sym, subst, length, map}
 use Rattle.std.specs.List.{AllByRecursion}
 use Rattle.mesa_schema.specs.Changes.{Lineage, columns_of, epoch_of}
-use Rattle.mesa_image_spec.specs.Moves.{is_base, last_of}
+use Rattle.mesa_rules.specs.mesa_image_spec.Moves.{is_base, last_of}
 use Rattle.mesa_table.specs.Meaning.{stock_of}
 use Rattle.mesa_tasks.specs.Opening.{HasEpoch}
 use Rattle.mesa_tasks.specs.Tasks.{AreTaskViews}

@@ -1,6 +1,6 @@
 use Rattle.std.proofs.Common.{refl, map, ap, ◌∙◌, subst}
 use Rattle.mesa_schema.specs.Changes.{epoch_of}
-use Rattle.mesa_image_spec.specs.Planned.{planned}
+use Rattle.mesa_rules.specs.mesa_image_spec.Planned.{planned}
 use Rattle.mesa_plans.specs.Lent.{lent_in, with_rows}
 use Rattle.mesa_table.specs.Meaning.{stock_of}
 use Rattle.mesa_plans.specs.Files.{want_in}

@@ -1,9 +1,9 @@
 use Rattle.std.proofs.Common.{◌+◌, ◌≤◌, ◌*◌, ◌++◌, ◌∙◌, sym, ap, subst, arith, map}
 use Rattle.std.specs.Prelude.{option_map}
 use Rattle.std.specs.List.{AllByRecursion}
-use Rattle.mesa_image_spec.specs.Catalog.{Delta}
-use Rattle.mesa_image_spec.specs.Fitting.{base_deltas}
-use Rattle.mesa_image_spec.specs.Planned.{behind_base, longest_to, planned}
+use Rattle.mesa_rules.specs.mesa_image_spec.Catalog.{Delta}
+use Rattle.mesa_rules.specs.mesa_image_spec.Fitting.{base_deltas}
+use Rattle.mesa_rules.specs.mesa_image_spec.Planned.{behind_base, longest_to, planned}
 use Rattle.mesa_table.specs.Meaning.{AreLoaded, ending_of, stock_of}
 use Rattle.mesa_table.specs.Named.{through}
 use Rattle.mesa_plans.specs.Lent.{lent_if_any, loaded_from, single_delta, ten_deltas, with_rows}

@@ -2,7 +2,7 @@ use Rattle.std.proofs.Common.{◌∙◌, ap, sym, subst}
 use Rattle.std.specs.Prelude.{IfSome, Option}
 use Rattle.mesa_file.specs.declared.damage.Damage.{Damage}
 use Rattle.mesa_table.specs.Meaning.{delta_or_empty, stock_of}
-use Rattle.mesa_table.specs.mesa_image_spec.Catalog.{Delta}
+use Rattle.mesa_rules.specs.mesa_image_spec.Catalog.{Delta}
 use Rattle.mesa_plans.specs.Ranges.{IsDamagedAs, IsDamagedRange, IsOneOf, Ranged, ranged}
 use Rattle.mesa_plans.proofs.Ranging.{more_none, more_of, ok_so, one_base, some_so}
 use Rattle.mesa_plans.proofs.ranges.gather_base.Goals as goal

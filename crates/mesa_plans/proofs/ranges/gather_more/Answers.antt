@@ -2,7 +2,7 @@ use Rattle.std.proofs.Common.{◌≡◌, subst, None}
 use Rattle.std.specs.Prelude.{IfOk, IfSome, Option}
 use Rattle.mesa_file.specs.declared.damage.Damage.{Damage}
 use Rattle.mesa_schema.proofs.Lists.{all_append}
-use Rattle.mesa_table.specs.mesa_image_spec.Catalog.{start_in}
+use Rattle.mesa_rules.specs.mesa_image_spec.Catalog.{start_in}
 use Rattle.mesa_table.specs.Meaning.{stock_of}
 use Rattle.mesa_tasks.proofs.Counts.{counted_more, unmoved_more}
 use Rattle.mesa_plans.specs.Ranges.{HasMore, HoldsAll, HoldsAt, HoldsEach, IsDamagedRange, Ranged, base_ranged, singles_ranged}

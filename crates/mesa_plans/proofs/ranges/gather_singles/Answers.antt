@@ -1,6 +1,6 @@
 use Rattle.std.proofs.Common.{◌<◌, ◌≤◌, ◌∙◌, ap, sym, subst, length, get_or, arith, false}
 use Rattle.mesa_schema.specs.Changes.{epoch_of}
-use Rattle.mesa_table.specs.mesa_image_spec.Catalog.{Delta}
+use Rattle.mesa_rules.specs.mesa_image_spec.Catalog.{Delta}
 use Rattle.mesa_table.specs.Meaning.{stock_of}
 use Rattle.mesa_tasks.proofs.Counts.{counted_more, counted_none, unmoved_more, unmoved_none}
 use Rattle.mesa_plans.specs.Ranges.{HoldsAt, IsDamagedAs, Ranged}

@@ -2,7 +2,7 @@ use Rattle.std.proofs.Common.{◌++◌, ◌∷◌, [], ◌∙◌, ap, sym, subst
 use Rattle.std.specs.Prelude.{Option}
 use Rattle.mesa_schema.specs.Changes.{columns_at}
 use Rattle.mesa_record.specs.declared.record.Files.{Files}
-use Rattle.mesa_table.specs.mesa_image_spec.Catalog.{Delta}
+use Rattle.mesa_rules.specs.mesa_image_spec.Catalog.{Delta}
 use Rattle.mesa_plans.specs.Ranges.{HasInput, HoldsAt, range_wanted}
 use Rattle.mesa_plans.specs.Ranging.{of_table}
 use Rattle.mesa_tasks.specs.Opening.{IsDamageOf}

@@ -3,10 +3,10 @@ use Rattle.mesa_schema.specs.Columns.{Columns, aggs_of}
 use Rattle.mesa_schema.specs.Changes.{columns_of, epoch_of}
 use Rattle.mesa_schema.specs.Schema.{is_schema}
 use Rattle.mesa_batch.specs.Totals.{sum_places}
-use Rattle.mesa_catalog.specs.mesa_image_spec.Catalog.{Catalog, stock_at}
-use Rattle.mesa_catalog.specs.mesa_image_spec.Shape.{IsCatalog, IsShaped}
-use Rattle.mesa_catalog.proofs.mesa_image_spec.Lifted.{columns_now}
-use Rattle.mesa_catalog.proofs.mesa_image_spec.Lists.{stock_found}
+use Rattle.mesa_engine.specs.mesa_image_spec.Catalog.{Catalog, stock_at}
+use Rattle.mesa_engine.specs.mesa_image_spec.Shape.{IsCatalog, IsShaped}
+use Rattle.mesa_engine.proofs.mesa_image_spec.Lifted.{columns_now}
+use Rattle.mesa_engine.proofs.mesa_image_spec.Lists.{stock_found}
 use Rattle.mesa_publishing.proofs.Totals.{few_totals, over_within}
 use Rattle.mesa_publishing.proofs.bounds.check_totals.Goals as goal
 

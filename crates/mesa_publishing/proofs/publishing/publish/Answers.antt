@@ -3,7 +3,7 @@ use Rattle.std.proofs.lemmas.Result.{err_from_is_err_and}
 use Rattle.mesa_disk.specs.Files.{files_of}
 use Rattle.mesa_model.specs.Warehouse.{max_versions}
 use Rattle.mesa_record.specs.declared.record.Record.TheVariants as record_of
-use Rattle.mesa_catalog.specs.mesa_image_spec.Catalog.{Catalog}
+use Rattle.mesa_engine.specs.mesa_image_spec.Catalog.{Catalog}
 use Rattle.mesa_engine.specs.EngineState.{next_id}
 use Rattle.mesa_tasks.specs.declared.prepared.PreparedPart.{PreparedPart}
 use Rattle.mesa_publishing.specs.Adopted.{ArePartsOf, files_of_parts, parts_under, told_under}

@@ -1,7 +1,7 @@
 use Rattle.std.proofs.Common.{◌≡◌, [], ◌∷◌, ◌++◌, Bool, true, false, not, refl, sym, ◌∙◌, ap, subst, arith}
 use Rattle.std.specs.Prelude.{IfOk}
 use Rattle.mesa_batch.specs.Glance.{Sight, tables_of}
-use Rattle.mesa_rules.specs.mesa_catalog.Lookups.{sight_of}
+use Rattle.mesa_engine.specs.mesa_catalog.Lookups.{sight_of}
 use Rattle.mesa_engine.specs.mesa_invariant_spec.Sight.{tables_seen}
 use Rattle.mesa_engine.proofs.Seeing.{ok_also, tables_are_seen}
 use Rattle.mesa_engine.specs.mesa_history_spec.Counting.{answers_disk}

@@ -2,7 +2,7 @@ use Rattle.std.proofs.Common.{◌≡◌, true, sym, subst}
 use Rattle.mesa_read_turns.proofs.Opens.{has_no_asked, has_no_files, met_damage, rules_undamaged}
 use Rattle.mesa_plans.proofs.There.{name_there, view_within}
 use Rattle.mesa_read_turns.proofs.opening.files_asked.Goals as goal
-use Rattle.mesa_engine.specs.mesa_catalog.mesa_image_spec.Catalog.{stock_at}
+use Rattle.mesa_engine.specs.mesa_image_spec.Catalog.{stock_at}
 use Rattle.mesa_engine.specs.EngineState.{books_of}
 use Rattle.mesa_rules.specs.Found.{answer_found}
 use Rattle.mesa_engine.specs.mesa_history_spec.Rows.{no_rows}

@@ -2,10 +2,10 @@ use Rattle.std.proofs.Common.{◌≡◌, ◌∙◌, ◌<◌, ◌≤◌, ℕ, Lis
 use Rattle.std.specs.Prelude.{IfSome, Option}
 use Rattle.std.specs.List.{AllByRecursion}
 use Rattle.mesa_read_turns.specs.Opening.{read_in}
-use Rattle.mesa_engine.proofs.mesa_catalog.Stocks.{all_at}
-use Rattle.mesa_engine.specs.mesa_catalog.mesa_image_spec.Catalog.{Catalog, Delta, Stock, no_stock, stock_at}
-use Rattle.mesa_engine.specs.mesa_catalog.mesa_image_spec.Fitting.{deltas_of}
-use Rattle.mesa_engine.specs.mesa_catalog.mesa_image_spec.Shape.{IsCatalog, IsShaped}
+use Rattle.mesa_plans.proofs.mesa_catalog.Stocks.{all_at}
+use Rattle.mesa_engine.specs.mesa_image_spec.Catalog.{Catalog, Delta, Stock, no_stock, stock_at}
+use Rattle.mesa_engine.specs.mesa_image_spec.Fitting.{deltas_of}
+use Rattle.mesa_engine.specs.mesa_image_spec.Shape.{IsCatalog, IsShaped}
 use Rattle.mesa_disk.specs.Image.{Image}
 use Rattle.mesa_engine.proofs.Seeing.{ok_also}
 use Rattle.mesa_filter.specs.Filter.{are_within}
@@ -22,8 +22,8 @@ use Rattle.mesa_plans.specs.Files.{want_in}
 use Rattle.mesa_rules.proofs.ReadBy.{read_table}
 use Rattle.mesa_rules.specs.Found.{columns_at}
 use Rattle.mesa_rules.specs.declared.found.Found.{Found}
-use Rattle.mesa_model.specs.mesa_schema.Changes.{epoch_of}
-use Rattle.mesa_model.specs.mesa_schema.Columns.{Columns}
+use Rattle.mesa_schema.specs.Changes.{epoch_of}
+use Rattle.mesa_schema.specs.Columns.{Columns}
 use Rattle.mesa_tasks.specs.Pins.{IsPinned}
 use Rattle.mesa_tasks.specs.declared.querying.Pinned.{Pinned}
 use Rattle.mesa_read_turns.proofs.opening.open_found.Goals as goal

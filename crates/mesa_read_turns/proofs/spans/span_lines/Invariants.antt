@@ -1,5 +1,5 @@
 use Rattle.std.proofs.Common.{◌≡◌, take}
-use Rattle.mesa_engine.specs.mesa_script.Rows.{span_lines as lines_in}
+use Rattle.mesa_script.specs.Rows.{span_lines as lines_in}
 use Rattle.mesa_read_turns.proofs.spans.span_lines.Given as goal
 
 -- the lines of the ranges so far

@@ -1,12 +1,12 @@
 use Rattle.std.proofs.Common.{sym, ◌∙◌, ap, subst}
-use Rattle.mesa_engine.specs.mesa_history_spec.Machine.{still_checked}
+use Rattle.mesa_work_turns.specs.mesa_history_spec.Machine.{still_checked}
 use Rattle.mesa_engine.specs.mesa_image_spec.Catalog.{Catalog, stock_at}
 use Rattle.mesa_engine.specs.EngineState.{books_of}
 use Rattle.mesa_model.specs.Warehouse.{Table}
 use Rattle.mesa_model.specs.declared.replies.Refusal.TheVariants as no
-use Rattle.mesa_plans.specs.mesa_schema.Changes.{Lineage, epoch_of}
-use Rattle.mesa_plans.specs.mesa_schema.Recasts.{recast_checked}
-use Rattle.mesa_engine.specs.mesa_history_spec.Rows.{no_rows}
+use Rattle.mesa_work_turns.specs.mesa_schema.Changes.{Lineage, epoch_of}
+use Rattle.mesa_work_turns.specs.mesa_schema.Recasts.{recast_checked}
+use Rattle.mesa_work_turns.specs.mesa_history_spec.Rows.{no_rows}
 use Rattle.mesa_tasks.specs.Recasts.{claim_of_recast, recast_in}
 use Rattle.mesa_recast_turns.specs.Unfit.{HasNotRecast, unfit_of}
 use Rattle.mesa_recast_turns.specs.declared.checking.Unfit.TheVariants as why

@@ -1,15 +1,15 @@
 use Rattle.std.proofs.Common.{◌≡◌, ◌∙◌, ◌<◌, length, not, false, refl, sym, ap, subst}
-use Rattle.mesa_engine.specs.mesa_history_spec.Machine.{still_checked}
-use Rattle.mesa_engine.specs.mesa_history_spec.Run.{Renewed}
-use Rattle.mesa_engine.specs.mesa_history_spec.Turns.{IsDue}
+use Rattle.mesa_work_turns.specs.mesa_history_spec.Machine.{still_checked}
+use Rattle.mesa_work_turns.specs.mesa_history_spec.Run.{Renewed}
+use Rattle.mesa_work_turns.specs.mesa_history_spec.Turns.{IsDue}
 use Rattle.mesa_model.specs.Warehouse.{Table}
 use Rattle.mesa_model.specs.declared.commands.Command.TheVariants as command
 use Rattle.mesa_engine.specs.EngineState.{books_of}
 use Rattle.mesa_engine.specs.Vault.{Starts, outset_of}
-use Rattle.mesa_engine.specs.mesa_invariant_spec.Causes.{outcome_of}
-use Rattle.mesa_engine.specs.mesa_invariant_spec.Invariant.{run_at}
+use Rattle.mesa_work_turns.specs.mesa_invariant_spec.Causes.{outcome_of}
+use Rattle.mesa_work_turns.specs.mesa_invariant_spec.Invariant.{run_at}
 use Rattle.mesa_engine.specs.Engine.{Standing, starts_of}
-use Rattle.mesa_engine.specs.mesa_history_spec.Rows.{no_rows}
+use Rattle.mesa_work_turns.specs.mesa_history_spec.Rows.{no_rows}
 use Rattle.mesa_tasks.specs.Recasts.{claim_of_recast, recast_in}
 use Rattle.mesa_work_turns.proofs.Sweeping.{stood_as}
 use Rattle.mesa_recast_turns.specs.Unfit.{HasNotRecast, cause_met}

@@ -2,17 +2,17 @@ use Rattle.std.proofs.Common.{◌≡◌, inl, true, false, sym, ◌∙◌, ap, s
 use Rattle.std.specs.Prelude.{◌⊎◌, IfErr, OnOk}
 use Rattle.std.proofs.Math.Logic.{⊎_map}
 use Rattle.mesa_delta.specs.declared.error.FileError.TheVariants as file_error
-use Rattle.mesa_engine.specs.mesa_history_spec.Run.{Finished}
+use Rattle.mesa_work_turns.specs.mesa_history_spec.Run.{Finished}
 use Rattle.mesa_model.specs.declared.commands.Command.TheVariants as command
 use Rattle.mesa_model.specs.declared.entries.Kind.TheVariants as kind
-use Rattle.mesa_engine.specs.mesa_history_spec.Rows.{no_rows}
+use Rattle.mesa_work_turns.specs.mesa_history_spec.Rows.{no_rows}
 use Rattle.mesa_tasks.specs.Recasts.{claim_of_recast}
 use Rattle.mesa_tasks.specs.declared.merging.CompactError.TheVariants as compact
-use Rattle.mesa_engine.specs.mesa_invariant_spec.Turns.{AnswersDisk, AnswersDraft, IsTurn, Shown, SomeRose, Takes}
-use Rattle.mesa_engine.specs.mesa_invariant_spec.Works.{closing_stage}
-use Rattle.mesa_engine.proofs.mesa_invariant_spec.Alike.{due_alike}
-use Rattle.mesa_engine.proofs.mesa_invariant_spec.Faulting.{disk_also, rose_still}
-use Rattle.mesa_engine.proofs.mesa_invariant_spec.Working.{close_due}
+use Rattle.mesa_work_turns.specs.mesa_invariant_spec.Turns.{AnswersDisk, AnswersDraft, IsTurn, Shown, SomeRose, Takes}
+use Rattle.mesa_work_turns.specs.mesa_invariant_spec.Works.{closing_stage}
+use Rattle.mesa_work_turns.proofs.mesa_invariant_spec.Alike.{due_alike}
+use Rattle.mesa_work_turns.proofs.mesa_invariant_spec.Faulting.{disk_also, rose_still}
+use Rattle.mesa_work_turns.proofs.mesa_invariant_spec.Working.{close_due}
 use Rattle.mesa_work_turns.specs.Swept.{HasStood, IsSwept}
 use Rattle.mesa_work_turns.proofs.Sweeping.{skipped_stood}
 use Rattle.mesa_recast_turns.proofs.Paid.{close_unanswered}

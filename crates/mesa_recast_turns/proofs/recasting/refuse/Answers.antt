@@ -1,8 +1,8 @@
 use Rattle.std.proofs.Common.{◌≡◌, ◌∷◌, ◌++◌, [], length, true, not, refl, sym, ◌∙◌, ap, subst}
-use Rattle.mesa_engine.specs.mesa_history_spec.Counting.{answers_bench, answers_disk}
-use Rattle.mesa_engine.specs.mesa_history_spec.Replay.{closes}
-use Rattle.mesa_engine.specs.mesa_history_spec.Run.{Renewed, Finished}
-use Rattle.mesa_engine.specs.mesa_history_spec.Turns.{IsDue}
+use Rattle.mesa_work_turns.specs.mesa_history_spec.Counting.{answers_bench, answers_disk}
+use Rattle.mesa_work_turns.specs.mesa_history_spec.Replay.{closes}
+use Rattle.mesa_work_turns.specs.mesa_history_spec.Run.{Renewed, Finished}
+use Rattle.mesa_work_turns.specs.mesa_history_spec.Turns.{IsDue}
 use Rattle.mesa_model.specs.declared.commands.Command.TheVariants as command
 use Rattle.mesa_model.specs.declared.entries.Kind.TheVariants as kind
 use Rattle.mesa_engine.specs.EngineState.{books_of}
@@ -10,12 +10,12 @@ use Rattle.mesa_engine.specs.Vault.{Starts}
 use Rattle.mesa_engine.proofs.BeforeTurns.{vault_at_seen}
 use Rattle.mesa_engine.specs.Failure.{cause_in}
 use Rattle.mesa_engine.specs.Memory.{Memory}
-use Rattle.mesa_engine.specs.mesa_history_spec.Rows.{no_rows}
-use Rattle.mesa_engine.specs.mesa_invariant_spec.Causes.{outcome_of}
-use Rattle.mesa_engine.specs.mesa_invariant_spec.Turns.{AnswersDisk, AnswersDraft, Shown, Takes, entry}
-use Rattle.mesa_engine.specs.mesa_invariant_spec.Invariant.{run_at}
-use Rattle.mesa_engine.proofs.mesa_invariant_spec.Alike.{due_alike}
-use Rattle.mesa_engine.proofs.mesa_invariant_spec.Faulting.{disk_never}
+use Rattle.mesa_work_turns.specs.mesa_history_spec.Rows.{no_rows}
+use Rattle.mesa_work_turns.specs.mesa_invariant_spec.Causes.{outcome_of}
+use Rattle.mesa_work_turns.specs.mesa_invariant_spec.Turns.{AnswersDisk, AnswersDraft, Shown, Takes, entry}
+use Rattle.mesa_work_turns.specs.mesa_invariant_spec.Invariant.{run_at}
+use Rattle.mesa_work_turns.proofs.mesa_invariant_spec.Alike.{due_alike}
+use Rattle.mesa_work_turns.proofs.mesa_invariant_spec.Faulting.{disk_never}
 use Rattle.mesa_engine.specs.Engine.{Standing, IsEngine, starts_of}
 use Rattle.mesa_engine.proofs.Drafting.{answers_none}
 use Rattle.mesa_tasks.specs.Recasts.{claim_of_recast, recast_in}

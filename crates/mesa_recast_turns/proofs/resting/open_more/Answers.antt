@@ -1,17 +1,17 @@
 use Rattle.std.proofs.Common.{◌≡◌, inl, ◌<◌, ◌≤◌, length, not, true, false, sym, ◌∙◌, ap, subst, None}
 use Rattle.std.specs.Prelude.{IfOk, IfSome}
 use Rattle.std.specs.List.{AllByRecursion}
-use Rattle.mesa_plans.specs.mesa_schema.Changes.{epoch_of}
+use Rattle.mesa_work_turns.specs.mesa_schema.Changes.{epoch_of}
 use Rattle.mesa_engine.specs.mesa_image_spec.Catalog.{Catalog, Delta, Stock, stock_at}
 use Rattle.mesa_engine.specs.mesa_image_spec.Fitting.{deltas_of}
 use Rattle.mesa_plans.specs.Ranges.{HoldsAll, IsDamagedRange, IsOfRange, IsOpenedRange}
-use Rattle.mesa_plans.specs.mesa_table.Meaning.{stock_of}
-use Rattle.mesa_engine.specs.mesa_history_spec.Rows.{no_rows}
+use Rattle.mesa_work_turns.specs.mesa_table.Meaning.{stock_of}
+use Rattle.mesa_work_turns.specs.mesa_history_spec.Rows.{no_rows}
 use Rattle.mesa_engine.specs.Engine.{Standing, starts_of}
 use Rattle.mesa_engine.specs.Vault.{Starts, outset_of}
 use Rattle.mesa_engine.specs.Written.{written_at}
-use Rattle.mesa_engine.specs.mesa_invariant_spec.Turns.{NoneFell, SomeRose, faults_of}
-use Rattle.mesa_engine.specs.mesa_invariant_spec.Invariant.{faults_in}
+use Rattle.mesa_work_turns.specs.mesa_invariant_spec.Turns.{NoneFell, SomeRose, faults_of}
+use Rattle.mesa_work_turns.specs.mesa_invariant_spec.Invariant.{faults_in}
 use Rattle.mesa_engine.proofs.Turning.{unmoved_engine}
 use Rattle.mesa_engine.proofs.Seeing.{ok_also}
 use Rattle.mesa_engine.proofs.Lists.{all_so}

@@ -1,7 +1,7 @@
 use Rattle.std.proofs.Common.{◌≡◌, inl, inr, ◌<◌, length, true, false, refl, sym, ◌∙◌, ap, subst, arith, [], Err}
 use Rattle.mesa_engine.specs.mesa_image_spec.Catalog.{stock_at}
-use Rattle.mesa_plans.specs.mesa_schema.Changes.{columns_of}
-use Rattle.mesa_engine.specs.mesa_history_spec.Rows.{Rows}
+use Rattle.mesa_work_turns.specs.mesa_schema.Changes.{columns_of}
+use Rattle.mesa_work_turns.specs.mesa_history_spec.Rows.{Rows}
 use Rattle.mesa_tasks.specs.Recasts.{recast_in, recast_table}
 use Rattle.mesa_delta.specs.declared.error.FileError.TheVariants as file_error
 use Rattle.mesa_engine.specs.Engine.{Standing}

@@ -1,11 +1,11 @@
 use Rattle.std.proofs.Common.{◌≡◌, inr, ◌∷◌, ◌++◌, [], length, Option, Some, ℕ, IsTrue, true, false, not, refl, sym, ◌∙◌, ap, subst, arith}
 use Rattle.std.specs.Prelude.{◌==◌, ◌⊎◌}
 use Rattle.std.proofs.Math.Logic.{⊎_map}
-use Rattle.mesa_disk.specs.mesa_io.Causes.{last}
-use Rattle.mesa_engine.specs.mesa_history_spec.Counting.{answers_bench, answers_disk}
-use Rattle.mesa_engine.specs.mesa_history_spec.Replay.{closes}
-use Rattle.mesa_engine.specs.mesa_history_spec.Run.{Finished}
-use Rattle.mesa_engine.specs.mesa_history_spec.Turns.{IsDue}
+use Rattle.mesa_io.specs.Causes.{last}
+use Rattle.mesa_work_turns.specs.mesa_history_spec.Counting.{answers_bench, answers_disk}
+use Rattle.mesa_work_turns.specs.mesa_history_spec.Replay.{closes}
+use Rattle.mesa_work_turns.specs.mesa_history_spec.Run.{Finished}
+use Rattle.mesa_work_turns.specs.mesa_history_spec.Turns.{IsDue}
 use Rattle.mesa_model.specs.declared.commands.Command.TheVariants as command
 use Rattle.mesa_model.specs.declared.entries.Kind.TheVariants as kind
 use Rattle.mesa_engine.specs.EngineState.{EngineState}
@@ -14,16 +14,16 @@ use Rattle.mesa_engine.proofs.BeforeTurns.{vault_at_seen}
 use Rattle.mesa_engine.specs.Failure.{cause_in}
 use Rattle.mesa_engine.specs.Printing.{PrintsBlock}
 use Rattle.mesa_engine.specs.Memory.{Memory}
-use Rattle.mesa_engine.specs.mesa_history_spec.Output.{block}
-use Rattle.mesa_engine.specs.mesa_history_spec.Rows.{no_rows}
-use Rattle.mesa_engine.specs.mesa_invariant_spec.Causes.{Cause, is_read_fault, outcome_of, reply_of, told_at}
-use Rattle.mesa_engine.specs.mesa_invariant_spec.Printing.{IsPut}
-use Rattle.mesa_engine.specs.mesa_invariant_spec.Turns.{AnswersDisk, AnswersDraft, Shown, SomeRose, Takes, entry, faults_of}
-use Rattle.mesa_engine.specs.mesa_invariant_spec.Invariant.{run_at}
-use Rattle.mesa_engine.specs.mesa_invariant_spec.Works.{closing_stage}
-use Rattle.mesa_engine.proofs.mesa_invariant_spec.Alike.{due_alike}
-use Rattle.mesa_engine.proofs.mesa_invariant_spec.Clock.{begun_moment, not_closing}
-use Rattle.mesa_engine.proofs.mesa_invariant_spec.Faulting.{disk_where}
+use Rattle.mesa_work_turns.specs.mesa_history_spec.Output.{block}
+use Rattle.mesa_work_turns.specs.mesa_history_spec.Rows.{no_rows}
+use Rattle.mesa_work_turns.specs.mesa_invariant_spec.Causes.{Cause, is_read_fault, outcome_of, reply_of, told_at}
+use Rattle.mesa_work_turns.specs.mesa_invariant_spec.Printing.{IsPut}
+use Rattle.mesa_work_turns.specs.mesa_invariant_spec.Turns.{AnswersDisk, AnswersDraft, Shown, SomeRose, Takes, entry, faults_of}
+use Rattle.mesa_work_turns.specs.mesa_invariant_spec.Invariant.{run_at}
+use Rattle.mesa_work_turns.specs.mesa_invariant_spec.Works.{closing_stage}
+use Rattle.mesa_work_turns.proofs.mesa_invariant_spec.Alike.{due_alike}
+use Rattle.mesa_work_turns.proofs.mesa_invariant_spec.Clock.{begun_moment, not_closing}
+use Rattle.mesa_work_turns.proofs.mesa_invariant_spec.Faulting.{disk_where}
 use Rattle.mesa_engine.specs.Engine.{Standing, IsEngine, starts_of}
 use Rattle.mesa_engine.proofs.Drafting.{answers_where}
 use Rattle.mesa_tasks.specs.Recasts.{claim_of_recast, recast_inputs}
@@ -32,7 +32,7 @@ use Rattle.mesa_tasks.specs.declared.merging.CompactError.TheVariants as compact
 use Rattle.mesa_delta.specs.declared.error.FileError.TheVariants as file_error
 use Rattle.mesa_work_turns.specs.Unmerged.{cause_of, closing_cause, closing_state}
 use Rattle.mesa_work_turns.proofs.Closings.{given_up_engine, given_up_takes, only_draft}
-use Rattle.mesa_engine.proofs.mesa_invariant_spec.Working.{close_later}
+use Rattle.mesa_work_turns.proofs.mesa_invariant_spec.Working.{close_later}
 use Rattle.mesa_recast_turns.specs.Rested.{HasUnpaid}
 use Rattle.mesa_recast_turns.proofs.Paid.{close_unanswered, only_read, paid}
 use Rattle.mesa_recast_turns.proofs.unmade.abandon.Goals as goal

@@ -1,5 +1,5 @@
 use Rattle.std.proofs.Common.{◌∙◌, sym, ap}
-use Rattle.mesa_value.specs.declared.Agg.TheVariants as agg
+use Rattle.mesa_key.specs.mesa_value.declared.Agg.TheVariants as agg
 use Rattle.mesa_schema.specs.Numbers.{amount_of}
 use Rattle.mesa_schema.proofs.NumberWords.{parsed_wide, unreadable_wide}
 use Rattle.mesa_schema.proofs.numbers.wide.Goals as goal

@@ -1,6 +1,6 @@
 use Rattle.std.proofs.Common.{rules, ◌≡◌, ℕ, ◌+◌, ◌≤◌, List, [], ◌∷◌, length, get_or, sym, subst}
 use Rattle.mesa_model.specs.Entry.{history_of}
-use Rattle.mesa_engine.specs.mesa_history_spec.Rows.{no_rows}
+use Rattle.mesa_core.specs.mesa_history_spec.Rows.{no_rows}
 use Rattle.mesa_core.specs.Answers.{HasCounted, HaveCounted}
 use Rattle.mesa_core.specs.Passes.{HaveEnded}
 use Rattle.mesa_core.proofs.Counting.{counted_none}

@@ -1,4 +1,4 @@
-use Rattle.mesa_engine.specs.mesa_history_spec.Rows.{no_rows}
+use Rattle.mesa_core.specs.mesa_history_spec.Rows.{no_rows}
 use Rattle.mesa_core.proofs.Dividing.{have_ended}
 use Rattle.mesa_session.proofs.all.join_next.Goals as goal
 

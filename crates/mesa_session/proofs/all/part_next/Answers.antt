@@ -1,4 +1,4 @@
-use Rattle.mesa_engine.specs.mesa_history_spec.Rows.{no_rows}
+use Rattle.mesa_core.specs.mesa_history_spec.Rows.{no_rows}
 use Rattle.std.proofs.Common.{◌<◌, ◌+◌, ◌∙◌, subst, sym, ap, arith}
 use Rattle.mesa_turn.specs.Passes.{Known, IsExact, left_of, part_of}
 use Rattle.mesa_core.specs.Answers.{answered}

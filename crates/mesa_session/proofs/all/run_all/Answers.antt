@@ -1,6 +1,6 @@
 use Rattle.std.proofs.Common.{[], ◌∷◌, ap, refl}
 use Rattle.mesa_model.specs.Entry.{history_of}
-use Rattle.mesa_engine.specs.mesa_history_spec.Rows.{no_rows}
+use Rattle.mesa_core.specs.mesa_history_spec.Rows.{no_rows}
 use Rattle.mesa_turn.specs.History.{entries_of}
 use Rattle.mesa_core.proofs.Counting.{answered_fresh, counted_all, counted_whole}
 use Rattle.mesa_core.proofs.Dividing.{mine_whole, all_own}

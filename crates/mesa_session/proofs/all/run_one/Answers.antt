@@ -1,4 +1,4 @@
-use Rattle.mesa_engine.specs.mesa_history_spec.Rows.{no_rows}
+use Rattle.mesa_core.specs.mesa_history_spec.Rows.{no_rows}
 use Rattle.mesa_core.proofs.Counting.{counted_whole}
 use Rattle.mesa_session.proofs.all.run_one.Goals as goal
 

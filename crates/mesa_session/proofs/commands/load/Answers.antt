@@ -1,5 +1,5 @@
 use Rattle.std.proofs.Common.{arith}
-use Rattle.mesa_engine.specs.mesa_history_spec.Rows.{no_rows}
+use Rattle.mesa_core.specs.mesa_history_spec.Rows.{no_rows}
 use Rattle.mesa_core.proofs.Answering.{answers_at, answers_owed}
 use Rattle.mesa_core.proofs.Turning.{took_both, took_fewer}
 use Rattle.mesa_core.specs.Drafts.{owed_by_load}

@@ -1,4 +1,4 @@
-use Rattle.mesa_engine.specs.mesa_history_spec.Rows.{no_rows}
+use Rattle.mesa_core.specs.mesa_history_spec.Rows.{no_rows}
 use Rattle.mesa_core.specs.Sight.{sight_after}
 use Rattle.mesa_session.proofs.Prepared.{first_stays}
 use Rattle.mesa_session.proofs.preparing.prepared_first.Goals as goal

@@ -3,7 +3,7 @@ use Rattle.mesa_core.specs.mesa_history_spec.Run.{Finished, commands_of}
 use Rattle.mesa_core.specs.mesa_history_spec.Turns.{place_then}
 use Rattle.mesa_core.proofs.mesa_history_spec.Due.{command_there}
 use Rattle.mesa_model.specs.declared.commands.Command.{Command}
-use Rattle.mesa_engine.specs.mesa_history_spec.Rows.{no_rows}
+use Rattle.mesa_core.specs.mesa_history_spec.Rows.{no_rows}
 use Rattle.mesa_core.specs.Passes.{Mine}
 use Rattle.mesa_core.proofs.Answering.{answers_both}
 use Rattle.mesa_core.proofs.Dividing.{gains}

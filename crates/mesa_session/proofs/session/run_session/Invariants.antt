@@ -1,6 +1,6 @@
 use Rattle.std.proofs.Common.{◌+◌, ◌*◌}
 use Rattle.mesa_core.specs.mesa_history_spec.Run.{First}
-use Rattle.mesa_engine.specs.mesa_history_spec.Rows.{no_rows}
+use Rattle.mesa_core.specs.mesa_history_spec.Rows.{no_rows}
 use Rattle.mesa_core.specs.Answers.{Answers}
 use Rattle.mesa_core.specs.Passes.{Mine, Took, at_stage}
 use Rattle.mesa_session.specs.Drafts.{AreOf}

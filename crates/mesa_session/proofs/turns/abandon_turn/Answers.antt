@@ -3,10 +3,10 @@ use Rattle.std.specs.Prelude.{Err, Result}
 use Rattle.mesa_core.specs.Vault.{Stand}
 use Rattle.mesa_model.specs.Entry.{numbers_of}
 use Rattle.mesa_core.specs.Handing.{IsRecastGranted}
-use Rattle.mesa_engine.specs.mesa_invariant_spec.Turns.{is_recast}
+use Rattle.mesa_core.specs.mesa_invariant_spec.Turns.{is_recast}
 use Rattle.mesa_core.specs.mesa_history_spec.Run.{Finished, Granted}
 use Rattle.mesa_model.specs.declared.entries.Kind.TheVariants as kind
-use Rattle.mesa_engine.specs.mesa_history_spec.Rows.{no_rows}
+use Rattle.mesa_core.specs.mesa_history_spec.Rows.{no_rows}
 use Rattle.mesa_core.proofs.Answering.{step_drafts}
 use Rattle.mesa_core.proofs.Turning.{Step, step_took}
 use Rattle.mesa_tasks.specs.declared.merging.CompactError.{CompactError}

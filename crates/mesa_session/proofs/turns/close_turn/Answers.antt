@@ -4,7 +4,7 @@ use Rattle.mesa_model.specs.Entry.{numbers_of}
 use Rattle.mesa_core.specs.mesa_history_spec.Run.{Finished}
 use Rattle.mesa_model.specs.declared.commands.Command.TheVariants as command
 use Rattle.mesa_model.specs.declared.entries.Kind.TheVariants as kind
-use Rattle.mesa_engine.specs.mesa_history_spec.Rows.{no_rows}
+use Rattle.mesa_core.specs.mesa_history_spec.Rows.{no_rows}
 use Rattle.mesa_core.proofs.Answering.{step_none}
 use Rattle.mesa_core.proofs.Turning.{Step, step_took}
 use Rattle.mesa_session.proofs.Found.{open_found}

@@ -2,13 +2,13 @@ use Rattle.std.proofs.Common.{refl, ap, sym}
 use Rattle.mesa_core.specs.Vault.{Stand}
 use Rattle.mesa_model.specs.Entry.{numbers_of}
 use Rattle.mesa_core.specs.Handing.{IsGranted}
-use Rattle.mesa_engine.specs.mesa_invariant_spec.Turns.{is_merge}
+use Rattle.mesa_core.specs.mesa_invariant_spec.Turns.{is_merge}
 use Rattle.mesa_core.specs.mesa_history_spec.Run.{First, Granted}
 use Rattle.mesa_model.specs.declared.entries.Kind.TheVariants as kind
-use Rattle.mesa_engine.specs.mesa_history_spec.Rows.{no_rows}
+use Rattle.mesa_core.specs.mesa_history_spec.Rows.{no_rows}
 use Rattle.mesa_core.proofs.Answering.{none_granting, step_none}
 use Rattle.mesa_core.proofs.Turning.{Step, step_took, step_seen}
-use Rattle.mesa_engine.specs.mesa_invariant_spec.Works.{stage_if}
+use Rattle.mesa_core.specs.mesa_invariant_spec.Works.{stage_if}
 use Rattle.mesa_tasks.specs.Tasks.{claim_in}
 use Rattle.mesa_core.specs.Works.{known_task}
 use Rattle.mesa_session.proofs.Found.{granted_then}

@@ -5,8 +5,8 @@ use Rattle.mesa_model.specs.Entry.{numbers_of}
 use Rattle.mesa_core.specs.mesa_history_spec.Run.{First, Looked}
 use Rattle.mesa_model.specs.declared.entries.Entry.{Entry}
 use Rattle.mesa_model.specs.declared.entries.Kind.TheVariants as kind
-use Rattle.mesa_engine.specs.mesa_history_spec.Rows.{no_rows}
-use Rattle.mesa_engine.specs.mesa_invariant_spec.Turns.{is_load}
+use Rattle.mesa_core.specs.mesa_history_spec.Rows.{no_rows}
+use Rattle.mesa_core.specs.mesa_invariant_spec.Turns.{is_load}
 use Rattle.mesa_core.proofs.Answering.{none_looking, step_none}
 use Rattle.mesa_core.proofs.Turning.{Step, step_took, step_seen}
 use Rattle.mesa_core.specs.Sight.{sight_after}

@@ -5,7 +5,7 @@ use Rattle.mesa_core.specs.Handing.{Tells}
 use Rattle.mesa_core.specs.mesa_history_spec.Legal.{is_query}
 use Rattle.mesa_core.specs.mesa_history_spec.Run.{First, Finished}
 use Rattle.mesa_model.specs.declared.entries.Kind.TheVariants as kind
-use Rattle.mesa_engine.specs.mesa_history_spec.Rows.{no_rows}
+use Rattle.mesa_core.specs.mesa_history_spec.Rows.{no_rows}
 use Rattle.mesa_core.proofs.Answering.{none_asking, step_none}
 use Rattle.mesa_core.proofs.Turning.{Step, step_took, step_holds, step_seen}
 use Rattle.mesa_session.proofs.Found.{query_opened, query_over, query_seen, query_turn}

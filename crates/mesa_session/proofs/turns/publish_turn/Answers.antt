@@ -5,8 +5,8 @@ use Rattle.mesa_model.specs.Entry.{numbers_of}
 use Rattle.mesa_core.specs.mesa_history_spec.Run.{Looked, Finished}
 use Rattle.mesa_model.specs.declared.commands.Command.TheVariants as command
 use Rattle.mesa_model.specs.declared.entries.Kind.TheVariants as kind
-use Rattle.mesa_engine.specs.mesa_history_spec.Rows.{no_rows}
-use Rattle.mesa_engine.specs.mesa_invariant_spec.Turns.{is_load}
+use Rattle.mesa_core.specs.mesa_history_spec.Rows.{no_rows}
+use Rattle.mesa_core.specs.mesa_invariant_spec.Turns.{is_load}
 use Rattle.mesa_core.proofs.Answering.{answers_within, step_drafts}
 use Rattle.mesa_core.proofs.Turning.{Step, step_took}
 use Rattle.mesa_tasks.specs.declared.prepared.LoadError.TheVariants as load

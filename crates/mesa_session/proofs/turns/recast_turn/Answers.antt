@@ -3,10 +3,10 @@ use Rattle.std.specs.Prelude.{Err}
 use Rattle.mesa_core.specs.Vault.{Stand}
 use Rattle.mesa_model.specs.Entry.{numbers_of}
 use Rattle.mesa_core.specs.Handing.{IsRecastGranted}
-use Rattle.mesa_engine.specs.mesa_invariant_spec.Turns.{AnswersDraft, Shown, is_recast}
+use Rattle.mesa_core.specs.mesa_invariant_spec.Turns.{AnswersDraft, Shown, is_recast}
 use Rattle.mesa_core.specs.mesa_history_spec.Run.{Finished, Renewed}
 use Rattle.mesa_model.specs.declared.entries.Kind.TheVariants as kind
-use Rattle.mesa_engine.specs.mesa_history_spec.Rows.{no_rows}
+use Rattle.mesa_core.specs.mesa_history_spec.Rows.{no_rows}
 use Rattle.mesa_core.proofs.Answering.{answers_within, step_drafts}
 use Rattle.mesa_core.proofs.Turning.{Step, step_took}
 use Rattle.mesa_tasks.specs.declared.merging.CompactError.TheVariants as compact

@@ -3,8 +3,8 @@ use Rattle.mesa_core.specs.Vault.{Stand}
 use Rattle.mesa_model.specs.Entry.{numbers_of}
 use Rattle.mesa_core.specs.mesa_history_spec.Run.{First, Finished}
 use Rattle.mesa_model.specs.declared.entries.Kind.TheVariants as kind
-use Rattle.mesa_engine.specs.mesa_history_spec.Rows.{no_rows}
-use Rattle.mesa_engine.specs.mesa_invariant_spec.Turns.{is_simple}
+use Rattle.mesa_core.specs.mesa_history_spec.Rows.{no_rows}
+use Rattle.mesa_core.specs.mesa_invariant_spec.Turns.{is_simple}
 use Rattle.mesa_core.proofs.Answering.{none_simple, step_none}
 use Rattle.mesa_core.proofs.Turning.{Step, step_took}
 use Rattle.mesa_session.proofs.Stepping.{Enters, asks, goes_on, one, room_for, step}

@@ -1,9 +1,9 @@
 use Rattle.std.proofs.Common.{◌≡◌, Ok, Err, sym, ◌∙◌, subst}
 use Rattle.std.specs.Prelude.{◌≢◌, IfErr, IfOk}
-use Rattle.mesa_check.specs.mesa_catalog.mesa_image_spec.Catalog.{Catalog}
-use Rattle.mesa_shell.specs.mesa_recover.Opening.{HasReason, ReadsAs}
-use Rattle.mesa_shell.specs.mesa_recover.declared.error.OpenError.TheVariants as open_error
-use Rattle.mesa_shell.specs.mesa_check.Verdict.{IsFirstFault, fault_told}
+use Rattle.mesa_engine.specs.mesa_image_spec.Catalog.{Catalog}
+use Rattle.mesa_recover.specs.Opening.{HasReason, ReadsAs}
+use Rattle.mesa_recover.specs.declared.error.OpenError.TheVariants as open_error
+use Rattle.mesa_check.specs.Verdict.{IsFirstFault, fault_told}
 use Rattle.mesa_shell.specs.Ports.{ports}
 use Rattle.mesa_shell.proofs.Verdicts.{check_decided, check_failed}
 use Rattle.mesa_shell.proofs.checking.check_store.Goals as goal

@@ -1,10 +1,10 @@
 use Rattle.std.proofs.Common.{◌≡◌, Err, true, false, refl, ap, subst, sym}
 use Rattle.mesa_disk.specs.Story.{Unmoved}
 use Rattle.mesa_check.specs.mesa_check_file.Examined.{is_read_failure}
-use Rattle.mesa_shell.specs.mesa_recover.Opening.{HasReason}
-use Rattle.mesa_shell.specs.mesa_recover.declared.error.OpenError.TheVariants as open_error
-use Rattle.mesa_shell.specs.mesa_check.Verdict.{fault_told}
-use Rattle.mesa_shell.specs.mesa_check.declared.verdict.Verdict.{Verdict}
+use Rattle.mesa_recover.specs.Opening.{HasReason}
+use Rattle.mesa_recover.specs.declared.error.OpenError.TheVariants as open_error
+use Rattle.mesa_check.specs.Verdict.{fault_told}
+use Rattle.mesa_check.specs.declared.verdict.Verdict.{Verdict}
 use Rattle.mesa_shell.specs.Unopened.{HasSameCounts}
 use Rattle.mesa_shell.proofs.Verdicts.{counts_there, fault_there, nothing_moved, one_rose, verdict_there}
 use Rattle.mesa_shell.proofs.checking.verdict.Goals as goal

@@ -1,5 +1,5 @@
 use Rattle.std.proofs.Common.{ℕ, List, subst}
-use Rattle.mesa_shell.specs.mesa_filter.Hex.{hex_of}
+use Rattle.mesa_session.specs.mesa_filter.Hex.{hex_of}
 use Rattle.mesa_print.specs.Printed.{Printed}
 use Rattle.mesa_print.proofs.Printing.{printed_then}
 use Rattle.mesa_shell.proofs.digest_lines.put_pair.Goals as goal

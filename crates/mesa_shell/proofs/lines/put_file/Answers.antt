@@ -1,6 +1,6 @@
 use Rattle.std.proofs.Common.{◌∙◌, ℕ, List, ap, subst}
 use Rattle.std.specs.Int.{w64, to_be_bytes}
-use Rattle.mesa_shell.specs.mesa_filter.Hex.{hex_of}
+use Rattle.mesa_session.specs.mesa_filter.Hex.{hex_of}
 use Rattle.mesa_print.specs.Printed.{Printed}
 use Rattle.mesa_shell.proofs.lines.put_file.Goals as goal
 

@@ -1,6 +1,6 @@
 use Rattle.std.proofs.Common.{◌≡◌, ◌∙◌, subst, arith}
 use Rattle.hex.specs.Hex.{encode_lower}
-use Rattle.mesa_shell.specs.mesa_filter.Hex.{hex_of}
+use Rattle.mesa_session.specs.mesa_filter.Hex.{hex_of}
 use Rattle.mesa_print.proofs.HexText.{hex_text}
 use Rattle.mesa_print.specs.Printed.{Printed}
 use Rattle.mesa_shell.proofs.lines.put_hex.Goals as goal

@@ -1,5 +1,5 @@
 use Rattle.std.specs.Prelude.{◌+◌}
-use Rattle.mesa_store_digest.specs.mesa_history_spec.Rows.{no_rows}
+use Rattle.mesa_session.specs.mesa_history_spec.Rows.{no_rows}
 use Rattle.mesa_shell.specs.StoreStart.{start_of}
 use Rattle.mesa_shell.proofs.Alike.{start_alike}
 use Rattle.mesa_shell.specs.Begun.{IsSoundBegun}

@@ -1,15 +1,15 @@
 use Rattle.std.proofs.Common.{◌≡◌, [], length, true, false, not, refl, sym, ◌∙◌, ap, subst, arith, Bool}
-use Rattle.mesa_disk.specs.mesa_io.Causes.{Rose}
+use Rattle.mesa_io.specs.Causes.{Rose}
 use Rattle.mesa_model.specs.declared.commands.Script.{Script}
 use Rattle.mesa_model.specs.Warehouse.{Warehouse}
 use Rattle.mesa_session.specs.mesa_core.Passes.{turns_of}
-use Rattle.mesa_store_digest.specs.mesa_history_spec.Rows.{no_rows}
+use Rattle.mesa_session.specs.mesa_history_spec.Rows.{no_rows}
 use Rattle.mesa_session.specs.mesa_core.Vault.{Stand}
-use Rattle.mesa_check.specs.mesa_history_spec.Refused.{some_refused}
-use Rattle.mesa_check.specs.mesa_history_spec.Run.{begins}
-use Rattle.mesa_engine.specs.mesa_invariant_spec.Printing.{IsPrinted, IsPrintedButRows}
-use Rattle.mesa_engine.specs.mesa_invariant_spec.Invariant.{AllFound}
-use Rattle.mesa_check.specs.mesa_catalog.declared.begun.Begun.{Begun}
+use Rattle.mesa_session.specs.mesa_history_spec.Refused.{some_refused}
+use Rattle.mesa_session.specs.mesa_history_spec.Run.{begins}
+use Rattle.mesa_session.specs.mesa_invariant_spec.Printing.{IsPrinted, IsPrintedButRows}
+use Rattle.mesa_session.specs.mesa_invariant_spec.Invariant.{AllFound}
+use Rattle.mesa_engine.specs.mesa_catalog.declared.begun.Begun.{Begun}
 use Rattle.mesa_engine.specs.Vault.{IsRead}
 use Rattle.mesa_shell.specs.Run.{RanAnyhow, RanSoundly, outset_from}
 use Rattle.mesa_shell.proofs.Small.{session_small}

@@ -1,7 +1,7 @@
 use Rattle.std.proofs.Common.{ℕ, List, [], ◌++◌, sym, ap, ◌∙◌, subst, rules, append_assoc, append-nil}
 use Rattle.std.proofs.lemmas.List.{nil_from_length}
 use Rattle.std.specs.Slice.Iter.{chunks_rest}
-use Rattle.mesa_shell.specs.mesa_filter.Hex.{hex_of}
+use Rattle.mesa_session.specs.mesa_filter.Hex.{hex_of}
 use Rattle.mesa_print.specs.Printed.{Printed}
 use Rattle.mesa_print.proofs.Printing.{printed_then}
 use Rattle.mesa_shell.proofs.Printing.{hex_append, printed_nothing}

@@ -1,6 +1,6 @@
 use Rattle.std.proofs.Common.{◌≡◌, ℕ, List, ◌++◌}
 use Rattle.std.specs.Slice.Iter.{chunks_rest, chunks_size}
-use Rattle.mesa_shell.specs.mesa_filter.Hex.{hex_of}
+use Rattle.mesa_session.specs.mesa_filter.Hex.{hex_of}
 use Rattle.mesa_print.specs.Printed.{Printed}
 use Rattle.mesa_shell.proofs.verdict_line.put_key.Given as goal
 

@@ -7,7 +7,7 @@ use Rattle.mesa_schema.specs.Folded.{folded, rows_of}
 use Rattle.mesa_schema.specs.Lent.{lent}
 use Rattle.mesa_schema.specs.Rows.{AreRowsOf, IsRowOf, keys_rise}
 use Rattle.mesa_batch.specs.Bound.{KeepsBound}
-use Rattle.mesa_scan.specs.Cut.{cut, lies_in}
+use Rattle.mesa_compact.specs.mesa_scan.Cut.{cut, lies_in}
 use Rattle.mesa_merge.specs.Inputs.{AreTold, knowns_of, lifted_parts}
 use Rattle.mesa_merge.specs.Merged.{HasMergedBetween, failed_of, inputs_of}
 use Rattle.mesa_compact.proofs.Poured.{if_none_from}

@@ -5,8 +5,8 @@ use Rattle.mesa_schema.specs.declared.rows.Row.{Row}
 use Rattle.mesa_schema.specs.Columns.{Columns, aggs_of}
 use Rattle.mesa_schema.specs.Folded.{folded}
 use Rattle.mesa_schema.specs.Rows.{AreRowsOf}
-use Rattle.mesa_scan.specs.Cursors.{IsInput}
-use Rattle.mesa_scan.specs.Cut.{lies_in}
+use Rattle.mesa_compact.specs.mesa_scan.Cursors.{IsInput}
+use Rattle.mesa_compact.specs.mesa_scan.Cut.{lies_in}
 use Rattle.mesa_merge.specs.Faults.{faults_of}
 use Rattle.mesa_merge.specs.Inputs.{knowns_of}
 use Rattle.mesa_merge.specs.Merged.{HasMergedBetween, inputs_of}

@@ -6,7 +6,7 @@ use Rattle.mesa_schema.specs.Columns.{Columns}
 use Rattle.mesa_schema.specs.Changes.{columns_of}
 use Rattle.mesa_delta.specs.declared.error.FileError.TheVariants.{Memory, Read}
 use Rattle.mesa_answer.specs.declared.groups.Groups.{Groups}
-use Rattle.mesa_scan.specs.Cursors.{IsInput}
+use Rattle.mesa_compact.specs.mesa_scan.Cursors.{IsInput}
 use Rattle.mesa_merge.proofs.Handing.{refill}
 use Rattle.mesa_tasks.specs.declared.merging.CompactError.TheVariants.{File}
 use Rattle.mesa_compact.specs.Grouping.{TakesRows}

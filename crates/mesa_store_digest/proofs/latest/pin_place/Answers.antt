@@ -15,8 +15,8 @@ use Rattle.mesa_plans.proofs.There.{name_there, view_within}
 use Rattle.mesa_plans.specs.Read.{IsPinnedFor, SomeUnsound, relation_read}
 use Rattle.mesa_plans.specs.Files.{want_in}
 use Rattle.mesa_rules.specs.Found.{columns_at}
-use Rattle.mesa_image_spec.specs.mesa_schema.Changes.{epoch_of}
-use Rattle.mesa_catalog.specs.mesa_table.declared.relation.Relation.{Relation as Place}
+use Rattle.mesa_plans.specs.mesa_schema.Changes.{epoch_of}
+use Rattle.mesa_plans.specs.mesa_table.declared.relation.Relation.{Relation as Place}
 
 pub query_of_all-requires-clause-table : goal.query_of_all-requires-clause-table
 query_of_all-requires-clause-table g c = (name_there c.args.opened.now.catalog.catalogue c.requires.named.0 c.args.place c.requires.named.1).0

@@ -4,12 +4,12 @@ use Rattle.mesa_delta.specs.declared.error.FileError.TheVariants as file_error
 use Rattle.mesa_digest.specs.Digests.{digests_of}
 use Rattle.mesa_store_digest.proofs.Content.{rows_formed, told_rows}
 use Rattle.mesa_store_digest.proofs.looking.digests_of.Goals as goal
-use Rattle.mesa_merge.proofs.Causing.{cause_other, cause_quiet}
+use Rattle.mesa_query.proofs.mesa_merge.Causing.{cause_other, cause_quiet}
 use Rattle.mesa_query.proofs.Differing.{query_differs}
 use Rattle.mesa_query.specs.Whole.{all_wanted}
 use Rattle.mesa_rules.specs.Found.{columns_at}
-use Rattle.mesa_image_spec.specs.mesa_schema.Columns.{Columns}
-use Rattle.mesa_image_spec.specs.mesa_schema.Rows.{AreRowsOf}
+use Rattle.mesa_plans.specs.mesa_schema.Columns.{Columns}
+use Rattle.mesa_plans.specs.mesa_schema.Rows.{AreRowsOf}
 
 pub digests-requires : goal.digests-requires
 digests-requires g c =

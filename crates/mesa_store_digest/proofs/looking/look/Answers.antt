@@ -2,8 +2,8 @@ use Rattle.std.proofs.Common.{◌≡◌, ◌<◌, ap, ◌∙◌, sym, subst, ari
 use Rattle.std.specs.Prelude.{IfErr, IfOk, IfSome, is_some}
 use Rattle.std.proofs.lemmas.Result.{err_from_is_err_and}
 use Rattle.mesa_delta.specs.declared.error.FileError.TheVariants as file_error
-use Rattle.mesa_disk.specs.mesa_io.Causes.{Rose}
-use Rattle.mesa_disk.specs.mesa_file.declared.damage.Damage.{Damage}
+use Rattle.mesa_recover.specs.mesa_io.Causes.{Rose}
+use Rattle.mesa_tasks.specs.mesa_file.declared.damage.Damage.{Damage}
 use Rattle.mesa_image_spec.specs.Catalog.{stock_at}
 use Rattle.mesa_store_digest.proofs.Content.{err_is, given_quiet, given_rose, looked_is}
 use Rattle.mesa_store_digest.proofs.Newest.{columns_named, file_reason, none_named}
@@ -11,13 +11,13 @@ use Rattle.mesa_store_digest.proofs.looking.look.Goals as goal
 use Rattle.mesa_store_digest.specs.Latest.{CanBeLookedAt, HasLookReason, IsLatest, all_asked}
 use Rattle.mesa_store_digest.specs.Errors.{look_failure}
 use Rattle.mesa_store_digest.specs.Looked.{AreDigests}
-use Rattle.mesa_merge.specs.Faults.{HaveFaultCause, faults_of}
-use Rattle.mesa_image_spec.specs.mesa_model.Relations.{relation_columns}
+use Rattle.mesa_plans.specs.mesa_merge.Faults.{HaveFaultCause, faults_of}
+use Rattle.mesa_plans.specs.mesa_model.Relations.{relation_columns}
 use Rattle.mesa_plans.specs.Told.{TellContent}
 use Rattle.mesa_recover.specs.declared.opened.Opened.{Opened}
 use Rattle.mesa_rules.specs.Found.{columns_at}
-use Rattle.mesa_image_spec.specs.mesa_schema.Columns.{Columns}
-use Rattle.mesa_image_spec.specs.mesa_schema.declared.rows.Row.{Row}
+use Rattle.mesa_plans.specs.mesa_schema.Columns.{Columns}
+use Rattle.mesa_plans.specs.mesa_schema.declared.rows.Row.{Row}
 use Rattle.mesa_tasks.specs.Errors.{Differs}
 use Rattle.mesa_tasks.specs.GivingBack.{pinned_inputs}
 use Rattle.mesa_tasks.specs.Pins.{IsPinned}

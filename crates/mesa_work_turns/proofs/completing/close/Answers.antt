@@ -1,9 +1,9 @@
 use Rattle.std.proofs.Common.{◌≡◌, ◌∙◌, length, true, sym, subst, Result, Ok, Err}
 use Rattle.mesa_engine.specs.Engine.{Standing}
 use Rattle.mesa_engine.specs.EngineState.{books_of}
-use Rattle.mesa_publishing.specs.mesa_history_spec.Claims.{is_live}
+use Rattle.mesa_write_turns.specs.mesa_history_spec.Claims.{is_live}
 use Rattle.mesa_model.specs.declared.replies.Refusal.{Refusal}
-use Rattle.mesa_engine.specs.mesa_history_spec.Rows.{no_rows}
+use Rattle.mesa_write_turns.specs.mesa_history_spec.Rows.{no_rows}
 use Rattle.mesa_tasks.specs.Tasks.{claim_in}
 use Rattle.mesa_work_turns.specs.Claims.{lease_checked}
 use Rattle.mesa_work_turns.specs.Swept.{ClaimHolds}

@@ -1,11 +1,11 @@
 use Rattle.std.proofs.Common.{◌∙◌, refl, sym, subst}
-use Rattle.mesa_publishing.specs.mesa_history_spec.Run.{Renewed, Finished}
+use Rattle.mesa_write_turns.specs.mesa_history_spec.Run.{Renewed, Finished}
 use Rattle.mesa_model.specs.declared.commands.Command.TheVariants as command
 use Rattle.mesa_model.specs.declared.entries.Kind.TheVariants as kind
-use Rattle.mesa_engine.specs.mesa_history_spec.Rows.{no_rows}
-use Rattle.mesa_engine.specs.mesa_invariant_spec.Turns.{AnswersDisk, AnswersDraft, Shown, SomeRose, Takes}
-use Rattle.mesa_engine.proofs.mesa_invariant_spec.Alike.{due_alike}
-use Rattle.mesa_engine.proofs.mesa_invariant_spec.Faulting.{disk_also, rose_still}
+use Rattle.mesa_write_turns.specs.mesa_history_spec.Rows.{no_rows}
+use Rattle.mesa_write_turns.specs.mesa_invariant_spec.Turns.{AnswersDisk, AnswersDraft, Shown, SomeRose, Takes}
+use Rattle.mesa_write_turns.proofs.mesa_invariant_spec.Alike.{due_alike}
+use Rattle.mesa_write_turns.proofs.mesa_invariant_spec.Faulting.{disk_also, rose_still}
 use Rattle.mesa_tasks.specs.Tasks.{claim_in}
 use Rattle.mesa_work_turns.specs.Swept.{HasStood, IsSwept}
 use Rattle.mesa_work_turns.proofs.Sweeping.{skipped_stood}

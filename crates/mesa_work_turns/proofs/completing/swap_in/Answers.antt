@@ -1,10 +1,10 @@
 use Rattle.std.proofs.Common.{◌≡◌, inl, ◌+◌, ◌<◌, [], ◌∷◌, ◌++◌, length, true, false, ◌||◌, ◌^◌, not, refl, sym, ◌∙◌, ap, subst, arith, Ok}
-use Rattle.mesa_disk.specs.mesa_io.Causes.{Rose}
+use Rattle.mesa_io.specs.Causes.{Rose}
 use Rattle.mesa_disk.specs.Files.{files_of}
-use Rattle.mesa_publishing.specs.mesa_history_spec.Machine.{claim_checked, swapped_reply}
-use Rattle.mesa_publishing.specs.mesa_history_spec.Refused.{is_refusal}
-use Rattle.mesa_publishing.specs.mesa_history_spec.Run.{Finished, Renewed}
-use Rattle.mesa_publishing.specs.mesa_history_spec.Turns.{IsDue}
+use Rattle.mesa_write_turns.specs.mesa_history_spec.Machine.{claim_checked, swapped_reply}
+use Rattle.mesa_write_turns.specs.mesa_history_spec.Refused.{is_refusal}
+use Rattle.mesa_write_turns.specs.mesa_history_spec.Run.{Finished, Renewed}
+use Rattle.mesa_write_turns.specs.mesa_history_spec.Turns.{IsDue}
 use Rattle.mesa_engine.specs.mesa_image_spec.Catalog.{applied, stock_at}
 use Rattle.mesa_engine.specs.mesa_image_spec.Ids.{dropped_ids}
 use Rattle.mesa_engine.specs.mesa_catalog.Lookups.{generation_of, turns_generation}
@@ -13,19 +13,19 @@ use Rattle.mesa_model.specs.Entry.{IsShort}
 use Rattle.mesa_model.specs.declared.commands.Command.TheVariants as command
 use Rattle.mesa_model.specs.declared.entries.Kind.TheVariants as kind
 use Rattle.mesa_model.specs.declared.entries.Outcome.TheVariants as outcome
-use Rattle.mesa_publishing.specs.mesa_history_spec.Replay.{no_rows as no_lines}
+use Rattle.mesa_write_turns.specs.mesa_history_spec.Replay.{no_rows as no_lines}
 use Rattle.mesa_record.proofs.RecordsBoth.{record_found}
-use Rattle.mesa_engine.specs.mesa_script.Rows.{body_of}
-use Rattle.mesa_engine.specs.mesa_history_spec.Rows.{Rows, no_rows}
-use Rattle.mesa_publishing.specs.Finished.{HasRange, IsFinished}
-use Rattle.mesa_publishing.specs.Swapped.{IsSwapped}
-use Rattle.mesa_engine.specs.mesa_invariant_spec.Causes.{Replies, Unwritten, told_at}
-use Rattle.mesa_engine.specs.mesa_invariant_spec.Turns.{AnswersDisk, AnswersDraft, Shown, SomeRose, Takes, entry, faults_of}
-use Rattle.mesa_engine.specs.mesa_invariant_spec.Invariant.{Counts, run_at}
-use Rattle.mesa_engine.proofs.mesa_invariant_spec.Alike.{due_alike}
-use Rattle.mesa_engine.proofs.mesa_invariant_spec.Clock.{closing}
-use Rattle.mesa_engine.proofs.mesa_invariant_spec.Faulting.{disk_counted, disk_where}
-use Rattle.mesa_engine.proofs.mesa_invariant_spec.Working.{checked_open}
+use Rattle.mesa_write_turns.specs.mesa_script.Rows.{body_of}
+use Rattle.mesa_write_turns.specs.mesa_history_spec.Rows.{Rows, no_rows}
+use Rattle.mesa_write_turns.specs.mesa_publishing.Finished.{HasRange, IsFinished}
+use Rattle.mesa_write_turns.specs.mesa_publishing.Swapped.{IsSwapped}
+use Rattle.mesa_write_turns.specs.mesa_invariant_spec.Causes.{Replies, Unwritten, told_at}
+use Rattle.mesa_write_turns.specs.mesa_invariant_spec.Turns.{AnswersDisk, AnswersDraft, Shown, SomeRose, Takes, entry, faults_of}
+use Rattle.mesa_write_turns.specs.mesa_invariant_spec.Invariant.{Counts, run_at}
+use Rattle.mesa_write_turns.proofs.mesa_invariant_spec.Alike.{due_alike}
+use Rattle.mesa_write_turns.proofs.mesa_invariant_spec.Clock.{closing}
+use Rattle.mesa_write_turns.proofs.mesa_invariant_spec.Faulting.{disk_counted, disk_where}
+use Rattle.mesa_write_turns.proofs.mesa_invariant_spec.Working.{checked_open}
 use Rattle.mesa_engine.specs.EngineState.{EngineState, books_of}
 use Rattle.mesa_engine.specs.Recorded.{failed_state, holds_in, left_by, recorded_state, removed_by, waiting}
 use Rattle.mesa_engine.specs.Turned.{leased_state}
@@ -36,7 +36,7 @@ use Rattle.mesa_engine.specs.Memory.{Memory}
 use Rattle.mesa_engine.specs.Engine.{IsEngine, Standing, starts_of}
 use Rattle.mesa_engine.proofs.Drafting.{answers_none}
 use Rattle.mesa_tasks.specs.Tasks.{claim_in}
-use Rattle.mesa_publishing.specs.mesa_commit.Holding.{kept}
+use Rattle.mesa_engine.specs.mesa_commit.Holding.{kept}
 use Rattle.mesa_write_turns.proofs.Loads.{all_tell}
 use Rattle.mesa_write_turns.proofs.Written.{IsWhole, IsWorked}
 use Rattle.mesa_engine.specs.Written.{written_at}

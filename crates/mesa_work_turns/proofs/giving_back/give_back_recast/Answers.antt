@@ -1,6 +1,6 @@
 use Rattle.std.proofs.Common.{arith, subst}
 use Rattle.mesa_engine.specs.Vault.{Starts}
-use Rattle.mesa_engine.specs.mesa_invariant_spec.Turns.{NoneFell, faults_of}
+use Rattle.mesa_write_turns.specs.mesa_invariant_spec.Turns.{NoneFell, faults_of}
 use Rattle.mesa_engine.specs.Engine.{Standing, starts_of}
 use Rattle.mesa_engine.proofs.Turning.{unmoved_engine}
 use Rattle.mesa_work_turns.proofs.giving_back.give_back_recast.Goals as goal

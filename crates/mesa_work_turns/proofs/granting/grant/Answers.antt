@@ -1,13 +1,13 @@
 use Rattle.std.proofs.Common.{◌≡◌, ◌≤◌, length, refl, subst, false}
 use Rattle.std.specs.Prelude.{Result}
-use Rattle.mesa_engine.specs.mesa_history_spec.Machine.{Claim, claim_of}
-use Rattle.mesa_engine.specs.mesa_history_spec.Run.{First, Finished}
+use Rattle.mesa_write_turns.specs.mesa_history_spec.Machine.{Claim, claim_of}
+use Rattle.mesa_write_turns.specs.mesa_history_spec.Run.{First, Finished}
 use Rattle.mesa_model.specs.declared.commands.Command.TheVariants as command
-use Rattle.mesa_engine.specs.mesa_history_spec.Rows.{no_rows}
-use Rattle.mesa_engine.proofs.mesa_invariant_spec.Alike.{due_alike}
+use Rattle.mesa_write_turns.specs.mesa_history_spec.Rows.{no_rows}
+use Rattle.mesa_write_turns.proofs.mesa_invariant_spec.Alike.{due_alike}
 use Rattle.mesa_engine.specs.Engine.{Standing}
 use Rattle.mesa_engine.specs.EngineState.{books_of}
-use Rattle.mesa_engine.specs.mesa_invariant_spec.Works.{HasNoClaim}
+use Rattle.mesa_write_turns.specs.mesa_invariant_spec.Works.{HasNoClaim}
 use Rattle.mesa_engine.specs.Failure.{cause_in}
 use Rattle.mesa_model.specs.declared.replies.Reply.{Reply}
 use Rattle.mesa_work_turns.proofs.granting.grant.Goals as goal

@@ -1,11 +1,11 @@
 use Rattle.std.proofs.Common.{◌≡◌, ◌<◌, ◌≤◌, ◌+◌, ◌-◌, [], ◌∷◌, ◌++◌, length, Bool, IsTrue, true, false, not, refl, sym, ◌∙◌, ap, subst, arith, Ok, None, Some}
 use Rattle.std.specs.List.{AllByRecursion}
-use Rattle.mesa_plans.specs.mesa_schema.Changes.{Lineage, epoch_of}
+use Rattle.mesa_write_turns.specs.mesa_schema.Changes.{Lineage, epoch_of}
 use Rattle.mesa_span.specs.Ranges.{base_before}
 use Rattle.mesa_span.specs.Work.{next_work}
-use Rattle.mesa_engine.specs.mesa_history_spec.Machine.{Claim, Merges, claim_of}
-use Rattle.mesa_engine.specs.mesa_history_spec.Run.{First, Granted, Finished}
-use Rattle.mesa_engine.specs.mesa_history_spec.Turns.{IsDue}
+use Rattle.mesa_write_turns.specs.mesa_history_spec.Machine.{Claim, Merges, claim_of}
+use Rattle.mesa_write_turns.specs.mesa_history_spec.Run.{First, Granted, Finished}
+use Rattle.mesa_write_turns.specs.mesa_history_spec.Turns.{IsDue}
 use Rattle.mesa_engine.specs.mesa_image_spec.Catalog.{Catalog, Delta, Stock, ranges_of, stock_at}
 use Rattle.mesa_engine.specs.mesa_image_spec.Fitting.{deltas_of, may_be_work}
 use Rattle.mesa_model.specs.Entry.{IsShort}
@@ -16,19 +16,19 @@ use Rattle.mesa_engine.specs.EngineState.{EngineState, books_of}
 use Rattle.mesa_engine.proofs.mesa_image_spec.Plans.{due_work_fits}
 use Rattle.mesa_engine.specs.mesa_image_spec.Moves.{first_of, is_base, last_of}
 use Rattle.mesa_engine.specs.Vault.{IsVault, Starts, outset_of}
-use Rattle.mesa_publishing.specs.mesa_compact.Bounded.{IsBounded}
+use Rattle.mesa_copy.specs.mesa_compact.Bounded.{IsBounded}
 use Rattle.mesa_engine.specs.Failure.{cause_in}
 use Rattle.mesa_plans.specs.Gathered.{IsGathered, unread_views}
 use Rattle.mesa_lease.specs.Book.{granted}
 use Rattle.mesa_engine.specs.Memory.{with_leases}
 use Rattle.mesa_plans.specs.mesa_table.Meaning.{stock_of}
-use Rattle.mesa_engine.specs.mesa_history_spec.Rows.{Rows, no_rows}
-use Rattle.mesa_publishing.specs.Finished.{HasRange}
+use Rattle.mesa_write_turns.specs.mesa_history_spec.Rows.{Rows, no_rows}
+use Rattle.mesa_write_turns.specs.mesa_publishing.Finished.{HasRange}
 use Rattle.mesa_tasks.specs.Tasks.{IsTask}
 use Rattle.mesa_tasks.specs.declared.merging.Task.{Task}
-use Rattle.mesa_engine.specs.mesa_invariant_spec.Turns.{AnswersDisk, Shown, SomeRose, Takes, entry, faults_of}
-use Rattle.mesa_engine.specs.mesa_invariant_spec.Invariant.{run_at}
-use Rattle.mesa_engine.proofs.mesa_invariant_spec.Alike.{due_alike}
+use Rattle.mesa_write_turns.specs.mesa_invariant_spec.Turns.{AnswersDisk, Shown, SomeRose, Takes, entry, faults_of}
+use Rattle.mesa_write_turns.specs.mesa_invariant_spec.Invariant.{run_at}
+use Rattle.mesa_write_turns.proofs.mesa_invariant_spec.Alike.{due_alike}
 use Rattle.mesa_engine.specs.Engine.{Standing, starts_of}
 use Rattle.mesa_work_turns.specs.Claims.{claim_as}
 use Rattle.mesa_engine.specs.Written.{written_at}

@@ -5,12 +5,12 @@ use Rattle.mesa_engine.specs.mesa_image_spec.Catalog.{Catalog, start_in, stock_a
 use Rattle.mesa_model.specs.Tables.{recast_asked}
 use Rattle.mesa_rules.specs.Recastings.{recast_due}
 use Rattle.mesa_rules.specs.Seen.{number_of}
-use Rattle.mesa_plans.specs.mesa_schema.Changes.{epoch_of}
-use Rattle.mesa_plans.specs.mesa_schema.Recasts.{Recast, recast_checked}
+use Rattle.mesa_write_turns.specs.mesa_schema.Changes.{epoch_of}
+use Rattle.mesa_write_turns.specs.mesa_schema.Recasts.{Recast, recast_checked}
 use Rattle.mesa_engine.specs.EngineState.{books_of}
-use Rattle.mesa_engine.specs.mesa_invariant_spec.Works.{HasNoClaim}
-use Rattle.mesa_engine.specs.mesa_history_spec.Machine.{Recasts, recast_claim_of}
-use Rattle.mesa_engine.specs.mesa_history_spec.Rows.{no_rows}
+use Rattle.mesa_write_turns.specs.mesa_invariant_spec.Works.{HasNoClaim}
+use Rattle.mesa_write_turns.specs.mesa_history_spec.Machine.{Recasts, recast_claim_of}
+use Rattle.mesa_write_turns.specs.mesa_history_spec.Rows.{no_rows}
 use Rattle.mesa_work_turns.proofs.RecastClaims.{busy, claimed, crowded, denied, over, shut, within}
 use Rattle.mesa_work_turns.proofs.recast_claiming.claim_recast.Goals as goal
 

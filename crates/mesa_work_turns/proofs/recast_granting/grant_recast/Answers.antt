@@ -1,8 +1,8 @@
 use Rattle.std.proofs.Common.{◌≤◌, length, refl, false}
-use Rattle.mesa_engine.specs.mesa_history_spec.Run.{First, Finished}
+use Rattle.mesa_write_turns.specs.mesa_history_spec.Run.{First, Finished}
 use Rattle.mesa_model.specs.declared.commands.Command.TheVariants as command
-use Rattle.mesa_engine.specs.mesa_history_spec.Rows.{no_rows}
-use Rattle.mesa_engine.proofs.mesa_invariant_spec.Alike.{due_alike}
+use Rattle.mesa_write_turns.specs.mesa_history_spec.Rows.{no_rows}
+use Rattle.mesa_write_turns.proofs.mesa_invariant_spec.Alike.{due_alike}
 use Rattle.mesa_work_turns.proofs.recast_granting.grant_recast.Goals as goal
 
 pub skip-requires-clause-due : goal.skip-requires-clause-due

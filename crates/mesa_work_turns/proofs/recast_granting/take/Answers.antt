@@ -1,9 +1,9 @@
 use Rattle.std.proofs.Common.{◌≡◌, ◌<◌, ◌≤◌, ◌+◌, [], ◌∷◌, ◌++◌, length, Bool, IsTrue, true, false, not, refl, sym, ◌∙◌, ap, subst, Ok, None}
 use Rattle.std.specs.List.{AllByRecursion}
-use Rattle.mesa_plans.specs.mesa_schema.Changes.{Lineage, epoch_of}
-use Rattle.mesa_engine.specs.mesa_history_spec.Machine.{Claim, Recasts, recast_claim_of}
-use Rattle.mesa_engine.specs.mesa_history_spec.Run.{First, Granted, Finished}
-use Rattle.mesa_engine.specs.mesa_history_spec.Turns.{IsDue}
+use Rattle.mesa_write_turns.specs.mesa_schema.Changes.{Lineage, epoch_of}
+use Rattle.mesa_write_turns.specs.mesa_history_spec.Machine.{Claim, Recasts, recast_claim_of}
+use Rattle.mesa_write_turns.specs.mesa_history_spec.Run.{First, Granted, Finished}
+use Rattle.mesa_write_turns.specs.mesa_history_spec.Turns.{IsDue}
 use Rattle.mesa_engine.specs.mesa_image_spec.Catalog.{Catalog, Delta, Stock, stock_at}
 use Rattle.mesa_model.specs.Entry.{IsShort}
 use Rattle.mesa_model.specs.declared.commands.Command.TheVariants as command
@@ -15,17 +15,17 @@ use Rattle.mesa_engine.specs.Failure.{cause_in}
 use Rattle.mesa_lease.specs.Book.{granted}
 use Rattle.mesa_engine.specs.Memory.{with_leases}
 use Rattle.mesa_plans.specs.mesa_table.Meaning.{stock_of}
-use Rattle.mesa_engine.specs.mesa_history_spec.Rows.{Rows, no_rows}
-use Rattle.mesa_engine.specs.mesa_invariant_spec.Turns.{AnswersDisk, Shown, SomeRose, Takes, entry, faults_of}
-use Rattle.mesa_engine.specs.mesa_invariant_spec.Invariant.{run_at}
-use Rattle.mesa_engine.proofs.mesa_invariant_spec.Alike.{due_alike}
+use Rattle.mesa_write_turns.specs.mesa_history_spec.Rows.{Rows, no_rows}
+use Rattle.mesa_write_turns.specs.mesa_invariant_spec.Turns.{AnswersDisk, Shown, SomeRose, Takes, entry, faults_of}
+use Rattle.mesa_write_turns.specs.mesa_invariant_spec.Invariant.{run_at}
+use Rattle.mesa_write_turns.proofs.mesa_invariant_spec.Alike.{due_alike}
 use Rattle.mesa_engine.specs.Engine.{Standing, starts_of}
 use Rattle.mesa_work_turns.specs.Claims.{recast_claim_as}
 use Rattle.mesa_work_turns.proofs.Grants.{next_there, shaped_at, tables_there, unopened_counts}
 use Rattle.mesa_work_turns.proofs.GrantTurns.{IsGrant, IsNoGrant, is_grant, is_no_grant}
 use Rattle.std.specs.Prelude.{IfSome}
 use Rattle.mesa_engine.specs.mesa_image_spec.Fitting.{deltas_of}
-use Rattle.mesa_plans.specs.mesa_schema.Recasts.{recast_checked}
+use Rattle.mesa_write_turns.specs.mesa_schema.Recasts.{recast_checked}
 use Rattle.mesa_plans.specs.Ranges.{HoldsAll, IsDamagedRange, IsOfRange}
 use Rattle.mesa_tasks.specs.Recasts.{AreRangesOf, claim_of_recast, recast_table}
 use Rattle.mesa_tasks.specs.declared.recasting.Recast.{Recast}

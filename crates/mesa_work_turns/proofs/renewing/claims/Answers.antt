@@ -1,5 +1,5 @@
 use Rattle.std.proofs.Common.{sym, ◌∙◌}
-use Rattle.mesa_engine.specs.mesa_history_spec.Rows.{no_rows}
+use Rattle.mesa_write_turns.specs.mesa_history_spec.Rows.{no_rows}
 use Rattle.mesa_work_turns.proofs.Renewals.{held_claim, lost_claim}
 use Rattle.mesa_work_turns.proofs.renewing.claims.Goals as goal
 

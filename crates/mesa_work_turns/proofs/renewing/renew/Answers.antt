@@ -1,11 +1,11 @@
 use Rattle.std.proofs.Common.{refl, sym, subst}
-use Rattle.mesa_engine.specs.mesa_history_spec.Machine.{Merges}
-use Rattle.mesa_engine.specs.mesa_history_spec.Run.{Finished}
+use Rattle.mesa_write_turns.specs.mesa_history_spec.Machine.{Merges}
+use Rattle.mesa_write_turns.specs.mesa_history_spec.Run.{Finished}
 use Rattle.mesa_model.specs.declared.commands.Command.TheVariants as command
 use Rattle.mesa_model.specs.declared.entries.Kind.TheVariants as kind
-use Rattle.mesa_engine.specs.mesa_history_spec.Rows.{no_rows}
-use Rattle.mesa_engine.specs.mesa_invariant_spec.Turns.{AnswersDisk, Shown, SomeRose, Takes}
-use Rattle.mesa_engine.proofs.mesa_invariant_spec.Faulting.{disk_also}
+use Rattle.mesa_write_turns.specs.mesa_history_spec.Rows.{no_rows}
+use Rattle.mesa_write_turns.specs.mesa_invariant_spec.Turns.{AnswersDisk, Shown, SomeRose, Takes}
+use Rattle.mesa_write_turns.proofs.mesa_invariant_spec.Faulting.{disk_also}
 use Rattle.mesa_work_turns.proofs.renewing.renew.Goals as goal
 
 pub renew_lease-requires-clause-due : goal.renew_lease-requires-clause-due

@@ -1,7 +1,7 @@
 use Rattle.std.proofs.Common.{◌≡◌, [], ◌∷◌, ◌++◌, true, false, not, refl, sym, ◌∙◌, ap, subst}
-use Rattle.mesa_engine.specs.mesa_history_spec.Replay.{no_rows as no_lines}
-use Rattle.mesa_engine.specs.mesa_history_spec.Run.{Granted, Renewed, Finished}
-use Rattle.mesa_engine.specs.mesa_history_spec.Turns.{IsDue}
+use Rattle.mesa_write_turns.specs.mesa_history_spec.Replay.{no_rows as no_lines}
+use Rattle.mesa_write_turns.specs.mesa_history_spec.Run.{Granted, Renewed, Finished}
+use Rattle.mesa_write_turns.specs.mesa_history_spec.Turns.{IsDue}
 use Rattle.mesa_model.specs.Entry.{IsShort}
 use Rattle.mesa_model.specs.declared.entries.Kind.TheVariants as kind
 use Rattle.mesa_model.specs.declared.entries.Outcome.TheVariants as outcome
@@ -9,12 +9,12 @@ use Rattle.mesa_model.specs.declared.replies.Reply.TheVariants as reply
 use Rattle.mesa_engine.specs.Vault.{Starts, outset_of}
 use Rattle.mesa_engine.proofs.BeforeTurns.{vault_at_seen}
 use Rattle.mesa_engine.specs.Printing.{PrintsBlock}
-use Rattle.mesa_engine.specs.mesa_history_spec.Rows.{no_rows}
-use Rattle.mesa_engine.specs.mesa_invariant_spec.Causes.{told_at}
-use Rattle.mesa_engine.specs.mesa_invariant_spec.Turns.{AnswersDisk, Shown, Takes, entry}
-use Rattle.mesa_engine.specs.mesa_invariant_spec.Invariant.{run_at}
-use Rattle.mesa_engine.proofs.mesa_invariant_spec.Alike.{due_alike}
-use Rattle.mesa_engine.proofs.mesa_invariant_spec.Faulting.{disk_never}
+use Rattle.mesa_write_turns.specs.mesa_history_spec.Rows.{no_rows}
+use Rattle.mesa_write_turns.specs.mesa_invariant_spec.Causes.{told_at}
+use Rattle.mesa_write_turns.specs.mesa_invariant_spec.Turns.{AnswersDisk, Shown, Takes, entry}
+use Rattle.mesa_write_turns.specs.mesa_invariant_spec.Invariant.{run_at}
+use Rattle.mesa_write_turns.proofs.mesa_invariant_spec.Alike.{due_alike}
+use Rattle.mesa_write_turns.proofs.mesa_invariant_spec.Faulting.{disk_never}
 use Rattle.mesa_engine.specs.Engine.{Standing, starts_of}
 use Rattle.mesa_work_turns.specs.Claims.{claim_with}
 use Rattle.mesa_work_turns.proofs.Renewals.{lost_engine, lost_takes, renewed_engine, renewed_takes}

@@ -1,10 +1,10 @@
 use Rattle.std.proofs.Common.{◌≡◌, ◌∷◌, ◌++◌, [], length, Option, Some, ℕ, IsTrue, true, false, not, refl, sym, ◌∙◌, ap, subst, arith}
 use Rattle.std.specs.Prelude.{◌==◌}
-use Rattle.mesa_disk.specs.mesa_io.Causes.{last}
-use Rattle.mesa_publishing.specs.mesa_history_spec.Counting.{answers_bench}
-use Rattle.mesa_publishing.specs.mesa_history_spec.Replay.{closes}
-use Rattle.mesa_publishing.specs.mesa_history_spec.Run.{Granted, Finished}
-use Rattle.mesa_publishing.specs.mesa_history_spec.Turns.{IsDue}
+use Rattle.mesa_io.specs.Causes.{last}
+use Rattle.mesa_write_turns.specs.mesa_history_spec.Counting.{answers_bench}
+use Rattle.mesa_write_turns.specs.mesa_history_spec.Replay.{closes}
+use Rattle.mesa_write_turns.specs.mesa_history_spec.Run.{Granted, Finished}
+use Rattle.mesa_write_turns.specs.mesa_history_spec.Turns.{IsDue}
 use Rattle.mesa_model.specs.declared.commands.Command.TheVariants as command
 use Rattle.mesa_model.specs.declared.entries.Kind.TheVariants as kind
 use Rattle.mesa_engine.specs.EngineState.{EngineState}
@@ -13,16 +13,16 @@ use Rattle.mesa_engine.proofs.BeforeTurns.{vault_at_seen}
 use Rattle.mesa_engine.specs.Failure.{cause_in}
 use Rattle.mesa_engine.specs.Printing.{PrintsBlock}
 use Rattle.mesa_engine.specs.Memory.{Memory}
-use Rattle.mesa_engine.specs.mesa_history_spec.Output.{block}
-use Rattle.mesa_engine.specs.mesa_history_spec.Rows.{no_rows}
+use Rattle.mesa_write_turns.specs.mesa_history_spec.Output.{block}
+use Rattle.mesa_write_turns.specs.mesa_history_spec.Rows.{no_rows}
 use Rattle.mesa_tasks.specs.GivingBack.{task_inputs}
-use Rattle.mesa_engine.specs.mesa_invariant_spec.Causes.{Cause, is_read_fault, outcome_of, reply_of, told_at}
-use Rattle.mesa_engine.specs.mesa_invariant_spec.Printing.{IsPut}
-use Rattle.mesa_engine.specs.mesa_invariant_spec.Turns.{AnswersDisk, AnswersDraft, Shown, SomeRose, Takes, entry, faults_of}
-use Rattle.mesa_engine.specs.mesa_invariant_spec.Invariant.{run_at}
-use Rattle.mesa_engine.proofs.mesa_invariant_spec.Alike.{due_alike}
-use Rattle.mesa_engine.proofs.mesa_invariant_spec.Clock.{begun_moment, not_closing}
-use Rattle.mesa_engine.proofs.mesa_invariant_spec.Faulting.{disk_caused}
+use Rattle.mesa_write_turns.specs.mesa_invariant_spec.Causes.{Cause, is_read_fault, outcome_of, reply_of, told_at}
+use Rattle.mesa_write_turns.specs.mesa_invariant_spec.Printing.{IsPut}
+use Rattle.mesa_write_turns.specs.mesa_invariant_spec.Turns.{AnswersDisk, AnswersDraft, Shown, SomeRose, Takes, entry, faults_of}
+use Rattle.mesa_write_turns.specs.mesa_invariant_spec.Invariant.{run_at}
+use Rattle.mesa_write_turns.proofs.mesa_invariant_spec.Alike.{due_alike}
+use Rattle.mesa_write_turns.proofs.mesa_invariant_spec.Clock.{begun_moment, not_closing}
+use Rattle.mesa_write_turns.proofs.mesa_invariant_spec.Faulting.{disk_caused}
 use Rattle.mesa_engine.specs.Engine.{Standing, IsEngine, starts_of}
 use Rattle.mesa_engine.proofs.Drafting.{answers_where}
 use Rattle.mesa_tasks.specs.Tasks.{claim_in}

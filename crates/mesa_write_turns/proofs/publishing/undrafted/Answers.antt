@@ -1,5 +1,5 @@
 use Rattle.std.proofs.Common.{◌≡◌, inl, inr, ◌<◌, [], ◌∷◌, ◌++◌, true, false, not, refl, sym, ◌∙◌, ap, subst, arith}
-use Rattle.mesa_disk.specs.mesa_io.Causes.{last}
+use Rattle.mesa_io.specs.Causes.{last}
 use Rattle.mesa_disk.specs.Story.{Steps}
 use Rattle.mesa_engine.specs.mesa_history_spec.Run.{Finished, Looked}
 use Rattle.mesa_engine.specs.mesa_history_spec.Turns.{IsDue}

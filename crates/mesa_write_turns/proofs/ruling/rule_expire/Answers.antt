@@ -3,7 +3,7 @@ use Rattle.mesa_model.specs.Versions.{expire_all, expire_table}
 use Rattle.mesa_model.specs.Warehouse.{Warehouse}
 use Rattle.mesa_model.specs.declared.commands.Command.TheVariants as command
 use Rattle.mesa_record.specs.declared.record.Record.TheVariants as record_of
-use Rattle.mesa_engine.specs.mesa_catalog.mesa_image_spec.Catalog.{Catalog}
+use Rattle.mesa_engine.specs.mesa_image_spec.Catalog.{Catalog}
 use Rattle.mesa_engine.specs.declared.failure.Failure.TheVariants as failure
 use Rattle.mesa_rules.specs.Ruled.{IsRuled, IsRefused as IsUnruled}
 use Rattle.mesa_rules.specs.Seen.{HasCatalog, number_of}

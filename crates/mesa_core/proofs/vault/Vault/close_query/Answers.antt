@@ -3,8 +3,8 @@ use Rattle.mesa_core.specs.Handing.{Tells}
 use Rattle.mesa_core.specs.Vault.{Stand}
 use Rattle.mesa_core.proofs.Handed.{has_differed, has_failed, none_damaged, to_close}
 use Rattle.mesa_core.specs.Pins.{IsOpenQuery, known_pin}
-use Rattle.mesa_engine.specs.mesa_invariant_spec.Turns.{AnswersDisk, SomeRose}
-use Rattle.mesa_engine.specs.mesa_history_spec.Rows.{no_rows}
+use Rattle.mesa_recast_turns.specs.mesa_invariant_spec.Turns.{AnswersDisk, SomeRose}
+use Rattle.mesa_recast_turns.specs.mesa_history_spec.Rows.{no_rows}
 use Rattle.mesa_core.proofs.vault.Vault.close_query.Goals as goal
 
 pub close_query-requires-clause-due : goal.close_query-requires-clause-due

@@ -1,21 +1,21 @@
 use Rattle.std.proofs.Common.{◌≡◌, Err, true, length, not, sym, ap, ◌∙◌, subst}
 use Rattle.std.specs.Prelude.{OnOk, is_ok}
-use Rattle.mesa_core.specs.mesa_history_spec.Run.{Granted, Renewed}
+use Rattle.mesa_recast_turns.specs.mesa_history_spec.Run.{Granted, Renewed}
 use Rattle.mesa_model.specs.declared.commands.Command.TheVariants as command
 use Rattle.mesa_core.specs.Works.{HasMerged, WasGranted, known_task}
 use Rattle.mesa_recast_turns.specs.mesa_work_turns.Swept.{ClaimHolds, HasStood, IsSwept}
-use Rattle.mesa_engine.specs.mesa_history_spec.Rows.{no_rows}
+use Rattle.mesa_recast_turns.specs.mesa_history_spec.Rows.{no_rows}
 use Rattle.mesa_tasks.specs.Tasks.{claim_in}
 use Rattle.mesa_tasks.specs.declared.merging.CompactError.TheVariants as compact
-use Rattle.mesa_engine.specs.mesa_invariant_spec.Turns.{AnswersDisk, AnswersDraft, Asks, SomeRose, is_merge}
-use Rattle.mesa_engine.specs.mesa_invariant_spec.Invariant.{run_at}
-use Rattle.mesa_engine.specs.mesa_invariant_spec.Works.{closing_stage}
+use Rattle.mesa_recast_turns.specs.mesa_invariant_spec.Turns.{AnswersDisk, AnswersDraft, Asks, SomeRose, is_merge}
+use Rattle.mesa_recast_turns.specs.mesa_invariant_spec.Invariant.{run_at}
+use Rattle.mesa_recast_turns.specs.mesa_invariant_spec.Works.{closing_stage}
 use Rattle.mesa_core.specs.Handing.{IsGranted}
 use Rattle.mesa_core.specs.Vault.{Stand}
 use Rattle.mesa_core.proofs.Due.{due_of, sort_of}
-use Rattle.mesa_core.specs.mesa_history_spec.Claims.{is_live}
-use Rattle.mesa_core.specs.mesa_history_spec.mesa_lease.Book.{Book}
-use Rattle.mesa_engine.proofs.mesa_invariant_spec.Alike.{begun_alike}
+use Rattle.mesa_recast_turns.specs.mesa_history_spec.Claims.{is_live}
+use Rattle.mesa_recast_turns.specs.mesa_lease.Book.{Book}
+use Rattle.mesa_recast_turns.proofs.mesa_invariant_spec.Alike.{begun_alike}
 use Rattle.mesa_core.proofs.Merged.{answers_more, finished_as, unmerged_differed, unmerged_failed, unmerged_whole}
 use Rattle.mesa_core.proofs.vault.Vault.complete.Goals as goal
 

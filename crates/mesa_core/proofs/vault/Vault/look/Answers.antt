@@ -3,7 +3,7 @@ use Rattle.mesa_batch.specs.Glance.{Sight}
 use Rattle.mesa_engine.specs.mesa_catalog.Lookups.{sight_of}
 use Rattle.mesa_engine.proofs.Seeing.{ok_also}
 use Rattle.mesa_core.specs.Sight.{sight_after}
-use Rattle.mesa_engine.specs.mesa_history_spec.Rows.{no_rows}
+use Rattle.mesa_recast_turns.specs.mesa_history_spec.Rows.{no_rows}
 use Rattle.mesa_core.proofs.vault.Vault.look.Goals as goal
 
 pub returns-clause-glance : goal.returns-clause-glance

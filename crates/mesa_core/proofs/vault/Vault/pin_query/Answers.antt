@@ -1,15 +1,15 @@
 use Rattle.std.proofs.Common.{◌≡◌, ◌∙◌, ap, sym, subst, Some}
 use Rattle.std.specs.Prelude.{IfSome}
-use Rattle.mesa_recast_turns.specs.mesa_work_turns.mesa_read_turns.Opening.{HasItsFiles}
+use Rattle.mesa_recast_turns.specs.mesa_read_turns.Opening.{HasItsFiles}
 use Rattle.mesa_filter.specs.declared.words.QueryWords.{QueryWords}
-use Rattle.mesa_core.specs.mesa_history_spec.Legal.{is_query}
-use Rattle.mesa_core.specs.mesa_history_spec.Run.{First, command_at}
+use Rattle.mesa_recast_turns.specs.mesa_history_spec.Legal.{is_query}
+use Rattle.mesa_recast_turns.specs.mesa_history_spec.Run.{First, command_at}
 use Rattle.mesa_model.specs.declared.commands.Command.TheVariants as command
 use Rattle.mesa_model.specs.declared.commands.Script.{Script}
 use Rattle.mesa_core.specs.Pins.{TakesQuery}
-use Rattle.mesa_engine.specs.mesa_history_spec.Rows.{no_rows}
-use Rattle.mesa_engine.specs.mesa_invariant_spec.Turns.{AnswersDisk, Asks, SomeRose}
-use Rattle.mesa_engine.specs.mesa_invariant_spec.Invariant.{run_at}
+use Rattle.mesa_recast_turns.specs.mesa_history_spec.Rows.{no_rows}
+use Rattle.mesa_recast_turns.specs.mesa_invariant_spec.Turns.{AnswersDisk, Asks, SomeRose}
+use Rattle.mesa_recast_turns.specs.mesa_invariant_spec.Invariant.{run_at}
 use Rattle.mesa_core.specs.Handing.{Tells}
 use Rattle.mesa_core.specs.Vault.{Stand}
 use Rattle.mesa_core.proofs.Due.{due_of, sort_of}

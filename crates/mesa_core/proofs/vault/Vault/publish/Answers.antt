@@ -1,13 +1,13 @@
 use Rattle.std.proofs.Common.{◌≡◌, ◌∙◌, Some, sym, ap, subst}
 use Rattle.mesa_batch.specs.Glance.{Sight}
-use Rattle.mesa_core.specs.mesa_history_spec.Run.{Looked, command_at}
+use Rattle.mesa_recast_turns.specs.mesa_history_spec.Run.{Looked, command_at}
 use Rattle.mesa_model.specs.declared.commands.Command.TheVariants as command
 use Rattle.mesa_model.specs.declared.commands.Script.{Script}
 use Rattle.mesa_core.specs.Sight.{sight_after}
-use Rattle.mesa_engine.specs.mesa_history_spec.Rows.{no_rows}
+use Rattle.mesa_recast_turns.specs.mesa_history_spec.Rows.{no_rows}
 use Rattle.mesa_tasks.specs.Batches.{HasPrepared}
-use Rattle.mesa_engine.specs.mesa_invariant_spec.Turns.{Asks, is_load}
-use Rattle.mesa_engine.specs.mesa_invariant_spec.Invariant.{run_at}
+use Rattle.mesa_recast_turns.specs.mesa_invariant_spec.Turns.{Asks, is_load}
+use Rattle.mesa_recast_turns.specs.mesa_invariant_spec.Invariant.{run_at}
 use Rattle.mesa_core.specs.Vault.{Stand}
 use Rattle.mesa_core.proofs.Due.{due_of, sort_of}
 use Rattle.mesa_core.proofs.vault.Vault.publish.Goals as goal

@@ -4,24 +4,24 @@ use Rattle.std.specs.Prelude.{IfErr, OnOk}
 use Rattle.mesa_delta.specs.declared.error.FileError.TheVariants as file_error
 use Rattle.mesa_core.specs.Recasts.{HasRegrouped, known_recast}
 use Rattle.mesa_core.specs.Works.{WasGranted}
-use Rattle.mesa_core.specs.mesa_publishing.Recasts.{stock_of_recast}
-use Rattle.mesa_core.specs.mesa_history_spec.Machine.{still_checked}
-use Rattle.mesa_core.specs.mesa_history_spec.Run.{Renewed}
+use Rattle.mesa_recast_turns.specs.mesa_publishing.Recasts.{stock_of_recast}
+use Rattle.mesa_recast_turns.specs.mesa_history_spec.Machine.{still_checked}
+use Rattle.mesa_recast_turns.specs.mesa_history_spec.Run.{Renewed}
 use Rattle.mesa_model.specs.declared.commands.Command.TheVariants as command
 use Rattle.mesa_model.specs.declared.entries.Kind.TheVariants as kind
 use Rattle.mesa_recast_turns.specs.mesa_work_turns.Swept.{ClaimHolds, HasStood, IsSwept}
 use Rattle.mesa_recast_turns.specs.mesa_work_turns.Unmerged.{closing_cause}
 use Rattle.mesa_recast_turns.specs.Rested.{HasUnpaid}
-use Rattle.mesa_model.specs.mesa_schema.Changes.{epoch_of}
-use Rattle.mesa_engine.specs.mesa_history_spec.Rows.{no_rows}
+use Rattle.mesa_recast_turns.specs.mesa_schema.Changes.{epoch_of}
+use Rattle.mesa_recast_turns.specs.mesa_history_spec.Rows.{no_rows}
 use Rattle.mesa_tasks.specs.Recasts.{claim_of_recast, recast_in}
 use Rattle.mesa_tasks.specs.declared.merging.CompactError.TheVariants as compact
-use Rattle.mesa_engine.specs.mesa_invariant_spec.mesa_history_spec.Output.{block}
-use Rattle.mesa_engine.specs.mesa_invariant_spec.Causes.{outcome_of, reply_of, told_at}
-use Rattle.mesa_engine.specs.mesa_invariant_spec.Printing.{IsPut}
-use Rattle.mesa_engine.specs.mesa_invariant_spec.Turns.{AnswersDisk, AnswersDraft, Asks, SomeRose, entry, is_recast}
-use Rattle.mesa_engine.specs.mesa_invariant_spec.Invariant.{run_at}
-use Rattle.mesa_engine.specs.mesa_invariant_spec.Works.{closing_stage}
+use Rattle.mesa_recast_turns.specs.mesa_history_spec.Output.{block}
+use Rattle.mesa_recast_turns.specs.mesa_invariant_spec.Causes.{outcome_of, reply_of, told_at}
+use Rattle.mesa_recast_turns.specs.mesa_invariant_spec.Printing.{IsPut}
+use Rattle.mesa_recast_turns.specs.mesa_invariant_spec.Turns.{AnswersDisk, AnswersDraft, Asks, SomeRose, entry, is_recast}
+use Rattle.mesa_recast_turns.specs.mesa_invariant_spec.Invariant.{run_at}
+use Rattle.mesa_recast_turns.specs.mesa_invariant_spec.Works.{closing_stage}
 use Rattle.mesa_core.specs.Handing.{AllAreRested, IsRecastGranted, IsRecastHeld}
 use Rattle.mesa_core.specs.Vault.{Stand}
 use Rattle.mesa_core.proofs.Due.{due_of, sort_of}

@@ -1,6 +1,6 @@
 use Rattle.std.proofs.Common.{subst}
-use Rattle.mesa_recast_turns.proofs.mesa_work_turns.mesa_write_turns.Keeping.{same_keep}
-use Rattle.mesa_recast_turns.specs.mesa_work_turns.mesa_write_turns.Writing.{KeepsFiles}
+use Rattle.mesa_recast_turns.proofs.mesa_write_turns.Keeping.{same_keep}
+use Rattle.mesa_recast_turns.specs.mesa_write_turns.Writing.{KeepsFiles}
 use Rattle.mesa_disk.specs.Story.{Steps}
 use Rattle.mesa_core.specs.Vault.{Stand}
 use Rattle.mesa_core.proofs.vault.Vault.simple.Goals as goal

@@ -1,10 +1,10 @@
 use Rattle.std.proofs.Common.{◌≡◌, false, ◌∙◌, ap}
 use Rattle.mesa_batch.specs.Glance.{Sight, tables_of}
-use Rattle.mesa_engine.specs.mesa_catalog.Lookups.{sight_of}
+use Rattle.mesa_catalog.specs.Lookups.{sight_of}
 use Rattle.mesa_engine.specs.Vault.{Starts, outset_of}
-use Rattle.mesa_engine.specs.mesa_history_spec.Rows.{no_rows}
-use Rattle.mesa_engine.specs.mesa_invariant_spec.Sight.{tables_seen}
-use Rattle.mesa_engine.specs.mesa_invariant_spec.Invariant.{run_at}
+use Rattle.mesa_catalog.specs.mesa_history_spec.Rows.{no_rows}
+use Rattle.mesa_invariant_spec.specs.Sight.{tables_seen}
+use Rattle.mesa_invariant_spec.specs.Invariant.{run_at}
 use Rattle.mesa_engine.specs.Engine.{Standing, starts_of}
 use Rattle.mesa_engine.proofs.Seeing.{ok_also, tables_are_seen}
 use Rattle.mesa_engine.proofs.engine.Engine.glance.Goals as goal

@@ -3,10 +3,10 @@ use Rattle.mesa_model.specs.Entry.{IsShort}
 use Rattle.mesa_model.specs.declared.entries.Outcome.TheVariants as outcome
 use Rattle.mesa_engine.specs.Vault.{Starts, outset_of}
 use Rattle.mesa_engine.proofs.BeforeTurns.{vault_at_seen}
-use Rattle.mesa_engine.specs.mesa_history_spec.Rows.{Rows, no_rows}
-use Rattle.mesa_engine.specs.mesa_invariant_spec.Turns.{AnswersDisk, AnswersDraft, Shown, Takes, entry}
-use Rattle.mesa_engine.specs.mesa_invariant_spec.Invariant.{run_at}
-use Rattle.mesa_engine.proofs.mesa_invariant_spec.Faulting.{disk_never}
+use Rattle.mesa_catalog.specs.mesa_history_spec.Rows.{Rows, no_rows}
+use Rattle.mesa_invariant_spec.specs.Turns.{AnswersDisk, AnswersDraft, Shown, Takes, entry}
+use Rattle.mesa_invariant_spec.specs.Invariant.{run_at}
+use Rattle.mesa_invariant_spec.proofs.Faulting.{disk_never}
 use Rattle.mesa_engine.specs.Engine.{Standing, IsEngine, starts_of}
 use Rattle.mesa_engine.specs.Failing.{Comes}
 use Rattle.mesa_engine.proofs.Drafting.{answers_none}

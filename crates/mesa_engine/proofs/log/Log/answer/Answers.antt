@@ -3,7 +3,7 @@ use Rattle.mesa_engine.specs.Printing.{GoesOn, page_text}
 use Rattle.mesa_engine.proofs.Printing.{gives}
 use Rattle.mesa_model.specs.declared.replies.Reply.TheVariants as reply
 use Rattle.mesa_script.specs.Replies.{head_line}
-use Rattle.mesa_engine.specs.mesa_invariant_spec.Printing.{IsPut}
+use Rattle.mesa_invariant_spec.specs.Printing.{IsPut}
 use Rattle.mesa_engine.proofs.log.Log.answer.Goals as goal
 
 pub returns-clause-put : goal.returns-clause-put

@@ -1,12 +1,12 @@
 use Rattle.std.proofs.Common.{◌≡◌, [], length, sym, ◌∙◌, ap, subst}
-use Rattle.mesa_engine.specs.mesa_invariant_spec.mesa_history_spec.Replay.{no_rows}
+use Rattle.mesa_catalog.specs.mesa_history_spec.Replay.{no_rows}
 use Rattle.mesa_engine.specs.Failure.{cause_in}
 use Rattle.mesa_engine.specs.Printing.{PrintsBlock}
 use Rattle.mesa_engine.proofs.Printing.{no_body}
 use Rattle.mesa_model.specs.Entry.{IsShort}
 use Rattle.mesa_script.specs.Rows.{body_of}
-use Rattle.mesa_engine.specs.mesa_invariant_spec.Causes.{reply_of, told_at}
-use Rattle.mesa_engine.specs.mesa_invariant_spec.Turns.{entry}
+use Rattle.mesa_invariant_spec.specs.Causes.{reply_of, told_at}
+use Rattle.mesa_invariant_spec.specs.Turns.{entry}
 use Rattle.mesa_engine.proofs.log.Log.fail.Goals as goal
 
 pub returns-clause-told : goal.returns-clause-told

@@ -3,7 +3,7 @@ use Rattle.std.specs.Prelude.{◌+◌, ◌*◌, ◌/◌, ◌%◌, decimal, pos, 
 use Rattle.std.specs.Fmt.{signed_decimal}
 use Rattle.std.proofs.lemmas.Result.{on_ok_weaker}
 use Rattle.std.proofs.lemmas.Int.{to_z-of_z}
-use Rattle.mesa_script.specs.Generated.{draw}
+use Rattle.mesa_invariant_spec.specs.mesa_script.Generated.{draw}
 use Rattle.mesa_generate.proofs.Records.{joined}
 use Rattle.mesa_generate.proofs.generator.Generator.write_row.Goals as goal
 

@@ -1,7 +1,7 @@
 use Rattle.std.proofs.Common.{◌∙◌, arith}
 use Rattle.mesa_generate.proofs.Records.{draw_small, row_more, rows_done}
 use Rattle.mesa_generate.proofs.generator.Generator.write_rows.Goals as goal
-use Rattle.mesa_script.specs.Generated.{draw}
+use Rattle.mesa_invariant_spec.specs.mesa_script.Generated.{draw}
 
 pub rows-preserved : goal.rows-preserved
 rows-preserved c =

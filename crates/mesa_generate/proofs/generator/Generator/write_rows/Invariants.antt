@@ -1,5 +1,5 @@
 use Rattle.std.proofs.Common.{◌≡◌, ◌<◌, ◌-◌, ◌++◌, ℕ, List}
-use Rattle.mesa_script.specs.Generated.{rows_from}
+use Rattle.mesa_invariant_spec.specs.mesa_script.Generated.{rows_from}
 use Rattle.mesa_generate.proofs.generator.Generator.write_rows.Given as goal
 
 -- what was written and the rows to come are all four

@@ -1,6 +1,6 @@
 use Rattle.std.proofs.Common.{◌∙◌, ◌+◌, ◌++◌, ap, codes, sym}
 use Rattle.std.proofs.lemmas.Result.{on_ok_weaker}
-use Rattle.mesa_script.specs.Generated.{expiry_after, versions_from}
+use Rattle.mesa_invariant_spec.specs.mesa_script.Generated.{expiry_after, versions_from}
 use Rattle.mesa_generate.proofs.Records.{both_written}
 use Rattle.mesa_generate.proofs.generator.Generator.write_version.Goals as goal
 

@@ -2,7 +2,7 @@ use Rattle.std.proofs.Common.{◌≡◌, ◌≢◌, refl, sym, ap, ◌∙◌, in
 use Rattle.std.proofs.lemmas.Bool.{false≢true}
 use Rattle.std.proofs.lemmas.List.{length-drop}
 use Rattle.std.specs.Prelude.{None}
-use Rattle.mesa_disk.specs.mesa_file.declared.damage.Seen.TheVariants as seen
+use Rattle.mesa_delta.specs.mesa_file.declared.damage.Seen.TheVariants as seen
 use Rattle.mesa_delta.specs.Indexed.{Indexed}
 use Rattle.mesa_delta.specs.Places.{entry_of}
 use Rattle.mesa_scan.specs.Cursors.{IsSameInput, block_of, comes_behind, low_of, next_of}

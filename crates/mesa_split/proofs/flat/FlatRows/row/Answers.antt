@@ -1,4 +1,4 @@
-use Rattle.mesa_block.proofs.Made.{not_none, over_room, row_there, within_keys}
+use Rattle.mesa_delta.proofs.mesa_block.Made.{not_none, over_room, row_there, within_keys}
 use Rattle.mesa_split.proofs.flat.FlatRows.row.Goals as goal
 
 pub values_at-requires : goal.values_at-requires
