@@ -1,6 +1,5 @@
-//! Batches: the rows of a load, checked and in order.
-//!
-//! Rows folded by their keys: a batch is put into rows that stand in the order of their keys, or merged with them into new ones.
+//! Batches: the rows of a load, checked and in order, and rows folded by their keys, where a batch is put into
+//! rows that stand in that order, or merged with them into new ones.
 #![tactic(auto)]
 
 mod batch;

@@ -1,6 +1,6 @@
-//! Files examined: whether a file is the recorded one, and what the absolute values of its rows add up to.
-//!
-//! The files of a store compared with what they are to have: where a cumulative first differs from the fold of its range's singletons, and a view's file from its table's rows, grouped. They are read as streams, each once, and compared as rows that come in the order of their keys: where two lists of them first differ.
+//! The files of a store checked: whether a file is the recorded one, and what the absolute values of its rows add
+//! up to; where a cumulative first differs from the fold of its range's singletons, and a view's file from its
+//! table's rows, grouped. They are read as streams, each once.
 #![tactic(auto)]
 
 mod aggregate;

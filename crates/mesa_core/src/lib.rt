@@ -1,9 +1,9 @@
-//! The vault: one run over a store, in turns. Each call that is a turn's adds one entry to the history, and is one step of what the run's script asks.
+//! The vault: one run over a store, in turns. Each call that is a turn's adds one entry to the history, and is
+//! one step of what the run's script asks.
 //!
-//! Definitions and laws of sessions: what one knows of a run by its pass, whatever turns others took meanwhile, and what
-//! becomes of that where passes are split and joined; what a load sees of the tables; what is known of the files that
-//! were handed out to it, and what came of reading them. What is told of the files of a work or a recast where they are
-//! granted stays known of them, however much of them is read.
+//! And definitions and laws of sessions, in whose words its calls are stated: what one knows of a run by its
+//! pass, whatever turns others took meanwhile; what a load sees of the tables; what is known of the files that
+//! were handed out, however much of them is read.
 #![tactic(auto)]
 
 mod asked;

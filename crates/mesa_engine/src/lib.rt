@@ -1,13 +1,10 @@
-//! The engine of a vault: its memory, its disk and its log, and what they are to the history of its run whenever no turn is under way.
+//! The engine of a vault: its memory, its disk and its log, and what they are to the history of its run whenever
+//! no turn is under way.
 //!
-//! The turns stand in the crates above. Here are its start and its end, what can be asked of it between turns, the turns that do nothing for their command, and the log: the history of the run, each of whose turns is an entry, and what of it is printed.
-//!
-//! What a vault has in its memory beside its disk and its history: the catalogue, the pins and the open queries with the files that they hold, the files that wait to be removed, and the leases.
-//!
-//! Each call does to it what a turn does to the state. A call that has no answer for want of memory takes none.
-//!
-//! The state: what a vault has in its memory and on its disk between turns. A run is named by its
-//! script, its start and its origin, which the rows of the files complete.
+//! The turns stand in the crates above. Here are its start and its end, what can be asked of it between turns,
+//! and the turns that do nothing for their command; the log, which is the history of the run and what of it is
+//! printed; and the memory: the catalogue, the pins and the open queries with the files that they hold, the files
+//! that wait to be removed, and the leases. A call that has no answer for want of memory takes none.
 #![tactic(auto)]
 
 mod counts;

@@ -1,6 +1,5 @@
-//! Laws of the warehouse: what its definitions say together, over whole histories.
-//!
-//! What a script prints whose commands are all one session's: a function of the script and of what the store held.
+//! Laws of the warehouse: what its definitions say together, over whole histories, and over scripts of which one
+//! session alone has commands.
 #![tactic(auto)]
 
 mod answering;

@@ -1,12 +1,8 @@
-//! The history of a run: what each turn makes of what stands before it, which histories a run may
-//! have, and what a store that is reopened after a crash holds.
+//! The history of a run: what each turn makes of what stands before it, which histories a run may have, what they
+//! print, and what a store that is reopened after a crash holds.
 //!
-//! What a run prints: the blocks of its history's entries, and whether some printed reply is a
-//! refusal.
-//!
-//! Projections: what of a warehouse, of a turn and of a run doesn't hang on the stored rows. Which turn
-//! is due, what is refused and what is legal hang on the projection alone, so they are known of a store
-//! whose rows nobody has read.
+//! And what of a warehouse, of a turn and of a run doesn't hang on the stored rows (projections): which turn is
+//! due, what is refused and what is legal, so that these are known of a store whose rows nobody has read.
 #![tactic(auto)]
 
 mod laws;

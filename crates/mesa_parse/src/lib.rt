@@ -1,7 +1,4 @@
-//! Reading scripts: what their records say, as csv reads them.
-//!
-//! The words that the program is called with: `run`, `check`, `gen SEED VERSIONS`,
-//! or `digest NAME`.
+//! Scripts and the words that the program is called with, parsed.
 #![tactic(auto)]
 
 mod changes;

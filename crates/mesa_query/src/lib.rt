@@ -1,6 +1,6 @@
-//! Queries answered from files: the rows of each file go into the groups of a page as they are read, by one thread or by a few, so that a few blocks and the groups are all that is held.
-//!
-//! Queries answered from files whose pages are cached.
+//! Queries answered from files: the rows of each file go into the groups of a page as they are read, by one
+//! thread or by a few, so that a few blocks and the groups are all that is held. A file is read as it is, or
+//! through a cache of its pages.
 #![tactic(auto)]
 
 mod answering;

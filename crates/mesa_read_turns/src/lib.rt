@@ -1,6 +1,5 @@
-//! Turns of a vault that write nothing.
-//!
-//! The turns of a query: the first opens the files that answer it, and the last prints its page.
+//! Turns of a vault that write nothing: a load's look, a pin and its release, an explain, and a query's two, of
+//! which the first opens the files that answer it, and the last prints its page.
 #![tactic(auto)]
 
 mod asking;

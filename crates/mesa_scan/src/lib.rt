@@ -1,6 +1,5 @@
-//! Files scanned for the rows that match: a block is read only where it may have one.
-//!
-//! Files read block by block, from the first row on or from a key on, their rows lifted to the present: at most one block of a file is held.
+//! Files read as streams of rows, block by block, each row lifted to the present: a cursor reads from the first
+//! row on or from a key on, and a scan only the blocks that may have a row that matches a filter.
 #![tactic(auto)]
 
 mod ahead;

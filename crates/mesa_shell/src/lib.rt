@@ -1,8 +1,5 @@
-//! The top call over a store: a script in, answers out, and how a call ends.
-//!
-//! What a call of the program tells: its status, and its line where it runs nothing.
-//!
-//! How a call of the program may end over a store: by its words, its input, the store's opening and the run.
+//! The top call over a store: a script in, answers out; how a call ends, as definitions, and as its status and
+//! its line where it runs nothing.
 #![tactic(auto)]
 
 mod checking;

@@ -1,6 +1,6 @@
-//! The turns of a work and of a recast that write nothing.
-//!
-//! A work's last turn: its range is swapped in, or it is told why it isn't. Passes on the turns of the crates below, so that who has the last turn has all of them.
+//! The turns of a work, and the first ones of a recast: the grant, the renewal, and a work's last turn, in which
+//! its range is swapped in, or it is told why it isn't. Passes on the turns of the crates below, so that who has
+//! these has all of them.
 #![tactic(auto)]
 
 mod claiming;
