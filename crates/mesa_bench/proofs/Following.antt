@@ -23,8 +23,8 @@ use Rattle.mesa_schema.specs.declared.columns.ValueColumn.{ValueColumn}
 use Rattle.mesa_schema.specs.Columns.{Columns, kinds_of}
 use Rattle.mesa_schema.specs.Folded.{row_combined, all_combined}
 use Rattle.mesa_schema.specs.Rows.{AreOf, IsRowOf}
-use Rattle.mesa_tasks.specs.mesa_block.Rows.{Rise}
-use Rattle.mesa_tasks.specs.mesa_block.Spelling.{key_of}
+use Rattle.mesa_open_files.specs.mesa_block.Rows.{Rise}
+use Rattle.mesa_open_files.specs.mesa_block.Spelling.{key_of}
 use Rattle.mesa_delta.specs.Summary.{all_noted, aggregates, values_of, last_key, AllCombine}
 use Rattle.mesa_delta.specs.Writing.{HasTaken, IsNext, MayFollow, columns_of}
 use Rattle.mesa_delta.specs.declared.writer.DeltaWriter.{DeltaWriter}

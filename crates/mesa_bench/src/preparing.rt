@@ -3,7 +3,7 @@ use crate::failure::Failure;
 use mesa_batch::{Glance, LoadRows};
 use mesa_disk::{MemBench, MemMade};
 use mesa_load::prepare;
-use mesa_tasks::{Prepared, Serials};
+use mesa_open_files::{Prepared, Serials};
 use std::alloc::Global;
 use std::thread::Threads;
 

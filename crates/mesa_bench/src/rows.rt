@@ -4,8 +4,8 @@ ghost use Rattle.mesa_key.specs.Spelling.{key_spelling};
 ghost use Rattle.mesa_schema.specs.Columns.{Columns};
 ghost use Rattle.mesa_schema.specs.Rows.{AreRowsOf, IsRowOf};
 ghost use Rattle.mesa_batch.specs.Totals.{abs_total};
-ghost use Rattle.mesa_tasks.specs.mesa_block.Spelling.{key_of};
-ghost use Rattle.mesa_tasks.specs.mesa_block.Rows.{Rise};
+ghost use Rattle.mesa_open_files.specs.mesa_block.Spelling.{key_of};
+ghost use Rattle.mesa_open_files.specs.mesa_block.Rows.{Rise};
 ghost use Rattle.mesa_delta.specs.Writing.{MayFollow};
 ghost use Rattle.mesa_bench.specs.Made.{HasColumns, key_at, row_at, rows_below};
 

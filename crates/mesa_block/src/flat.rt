@@ -120,23 +120,23 @@ fn number_of(width: Width, cell: &[u8]) -> Amount
     ensures { result ≡ number width cell.now }
 {
     match width {
-        Width::Eight => Amount::from(narrow_number(cell)),
+        Width::Eight => Amount::from(number_of_eight(cell)),
         Width::Sixteen => wide_number(cell),
     }
 }
 
 // The number that eight bytes spell.
-fn narrow_number(cell: &[u8]) -> i64
+fn number_of_eight(cell: &[u8]) -> i64
     ensures { result ≡ number Width.Eight cell.now }
 {
     match cell {
         [a, b, c, d, e, f, g, h] => i64::from_be_bytes([*a, *b, *c, *d, *e, *f, *g, *h]),
-        _ => narrow_in(cell),
+        _ => number_at_eight(cell),
     }
 }
 
 // The number of any bytes, the first eight of them.
-fn narrow_in(cell: &[u8]) -> i64
+fn number_at_eight(cell: &[u8]) -> i64
     ensures { result ≡ number Width.Eight cell.now }
 {
     i64::from_be_bytes([

@@ -18,18 +18,18 @@ use Rattle.mesa_record.specs.declared.record.Record.TheVariants as record_of
 use Rattle.mesa_record.specs.declared.record.Files.{Files}
 use Rattle.mesa_record.specs.declared.record.Part.{Part}
 use Rattle.mesa_span.specs.Ranges.{end_of}
-use Rattle.mesa_table.specs.mesa_image_spec.Catalog.{Catalog, Stock, stock_at, stock_changed, stock_viewed, with_stock}
-use Rattle.mesa_table.specs.mesa_image_spec.Fitting.{brings_new_files, files_fit_if_any, fits, has_epoch, is_new_name, is_there, kind_fits, may_be_work, part_fits, publish_fits, recast_fits, swap_fits, table_fits}
-use Rattle.mesa_catalog.specs.declared.shelves.Shelves.{Shelves}
-use Rattle.mesa_table.specs.declared.table.Table.{Table}
-use Rattle.mesa_table.specs.declared.ready.ReadyPart.{ReadyPart}
+use Rattle.mesa_catalog_table.specs.mesa_store_spec.Catalog.{Catalog, TableMeta, meta_at, meta_changed, meta_viewed, with_meta}
+use Rattle.mesa_catalog_table.specs.mesa_store_spec.Fitting.{brings_new_files, files_fit_if_any, fits, has_epoch, is_new_name, is_there, kind_fits, may_be_work, part_fits, publish_fits, recast_fits, swap_fits, table_fits}
+use Rattle.mesa_catalog.specs.declared.catalog_tables.CatalogTables.{CatalogTables}
+use Rattle.mesa_catalog_table.specs.declared.table.Table.{Table}
+use Rattle.mesa_catalog_table.specs.declared.ready.ReadyPart.{ReadyPart}
 use Rattle.mesa_catalog.specs.Meaning.{catalogue_of}
-use Rattle.mesa_table.specs.Meaning.{IsTable, start_of_base, stock_of, widths_of}
+use Rattle.mesa_catalog_table.specs.Meaning.{IsTable, start_of_base, meta_of, widths_of}
 use Rattle.mesa_catalog.specs.Readied.{IsMadePart, last_change, last_view}
-use Rattle.mesa_table.specs.Readied.{IsPartOf, IsSwapOf, part_in}
-use Rattle.mesa_catalog.proofs.Stocks.{stock_here}
-use Rattle.mesa_table.proofs.Tests.{both}
-use Rattle.mesa_table.proofs.Works.{base_work, cumulative_work}
+use Rattle.mesa_catalog_table.specs.Readied.{IsPartOf, IsSwapOf, part_in}
+use Rattle.mesa_catalog.proofs.TableMetas.{meta_here}
+use Rattle.mesa_catalog_table.proofs.Tests.{both}
+use Rattle.mesa_catalog_table.proofs.Works.{base_work, cumulative_work}
 
 pub kind_of_fits : (c : Catalog) (r : Record) → fits c r ≡ true → kind_fits c r ≡ true
 unfolding fits
@@ -40,35 +40,35 @@ unfolding fits
 news_of_fits c r e = (both (kind_fits c r) (brings_new_files c r) e).1
 
 -- a table in the place of another
-pub put_stock : (s : Shelves) (i : ℕ) (t : Table) (u : Stock) → stock_of s.next t ≡ u → record { tables = map (stock_of s.next) (set s.tables.items i t); floor = s.floor; next = s.next; run = s.run } ≡ with_stock (catalogue_of s) i u
-put_stock s i t u e =
-    let tables = map-set (stock_of s.next) s.tables.items i t ∙ ap (set (map (stock_of s.next) s.tables.items) i) e in
+pub put_meta : (s : CatalogTables) (i : ℕ) (t : Table) (u : TableMeta) → meta_of s.next t ≡ u → record { tables = map (meta_of s.next) (set s.tables.items i t); floor = s.floor; next = s.next; run = s.run } ≡ with_meta (catalogue_of s) i u
+put_meta s i t u e =
+    let tables = map-set (meta_of s.next) s.tables.items i t ∙ ap (set (map (meta_of s.next) s.tables.items) i) e in
     λ k. record { tables = tables k; floor = s.floor; next = s.next; run = s.run }
 
 -- ---- views
 
-pub viewed_stock : (next : ℕ) (t : Table) (u : Stock) (e : Arc Lineage Global) → u ≡ stock_of next t → e.value ≡ with_view u.lineage (last_view e.value)
-    → stock_of next (record t { evolving = e }) ≡ stock_viewed u (last_view e.value).name (last_view e.value).keys (last_view e.value).values
-viewed_stock next t u e same made = λ k. record (sym same k) { lineage = made k }
+pub viewed_meta : (next : ℕ) (t : Table) (u : TableMeta) (e : Arc Lineage Global) → u ≡ meta_of next t → e.value ≡ with_view u.lineage (last_view e.value)
+    → meta_of next (record t { evolving = e }) ≡ meta_viewed u (last_view e.value).name (last_view e.value).keys (last_view e.value).values
+viewed_meta next t u e same made = λ k. record (sym same k) { lineage = made k }
 
-pub viewed_table : (next : ℕ) (t : Table) (u : Stock) (e : Arc Lineage Global) → IsTable next t → u ≡ stock_of next t → e.value ≡ with_view u.lineage (last_view e.value) → IsTable next (record t { evolving = e })
+pub viewed_table : (next : ℕ) (t : Table) (u : TableMeta) (e : Arc Lineage Global) → IsTable next t → u ≡ meta_of next t → e.value ≡ with_view u.lineage (last_view e.value) → IsTable next (record t { evolving = e })
 viewed_table next t u e table same made = record {
   tens = table.tens;
   loaded = table.loaded;
   oldest = table.oldest;
-  widths = table.widths ∙ sym (ap widths_of (made ∙ ap (λ (x : Stock). with_view x.lineage (last_view e.value)) same));
+  widths = table.widths ∙ sym (ap widths_of (made ∙ ap (λ (x : TableMeta). with_view x.lineage (last_view e.value)) same));
 }
 
 -- ---- changes
 
-pub changed_stock : (next : ℕ) (t : Table) (u : Stock) (e : Arc Lineage Global) (widths totals : List ℕ) → u ≡ stock_of next t → e.value ≡ with_change u.lineage (last_change e.value)
+pub changed_meta : (next : ℕ) (t : Table) (u : TableMeta) (e : Arc Lineage Global) (widths totals : List ℕ) → u ≡ meta_of next t → e.value ≡ with_change u.lineage (last_change e.value)
     → totals ≡ totals_after (columns_of u.lineage) (last_change e.value) u.totals
-    → stock_of next (record t { evolving = e; widths = widths; totals = totals }) ≡ stock_changed u (last_change e.value)
-changed_stock next t u e widths totals same made sums = λ k. record (sym same k) { lineage = made k; totals = sums k }
+    → meta_of next (record t { evolving = e; widths = widths; totals = totals }) ≡ meta_changed u (last_change e.value)
+changed_meta next t u e widths totals same made sums = λ k. record (sym same k) { lineage = made k; totals = sums k }
 
 -- ---- batches
 
-pub parts_made : (s : Shelves) (parts : List ReadyPart) → AllByRecursion (IsMadePart (catalogue_of s)) parts → AllByRecursion (λ (p : ReadyPart). IfSome (slice_get s.tables.items p.table) (λ t. IsPartOf t p)) parts
+pub parts_made : (s : CatalogTables) (parts : List ReadyPart) → AllByRecursion (IsMadePart (catalogue_of s)) parts → AllByRecursion (λ (p : ReadyPart). IfSome (slice_get s.tables.items p.table) (λ t. IsPartOf t p)) parts
 parts_made s [] made = tt
 parts_made s (p ∷ parts) made =
     let Goal : Option Table → Type 0 = λ o. slice_get s.tables.items p.table ≡ o → IfSome o (λ t. IsPartOf t p) in (
@@ -76,8 +76,8 @@ parts_made s (p ∷ parts) made =
         | None ↦ λ e. tt
         | Some t ↦ λ e.
             let within = slice_get_within s.tables.items p.table t e in
-            let same = stock_here s p.table t within ∙ ap (stock_of s.next) (get_or_from_slice_get s.tables.items p.table t t e) in
-            record { delta = made.0.delta; totals = made.0.totals ∙ ap (λ (u : Stock). totals_with u.totals (part_in p).totals) same }
+            let same = meta_here s p.table t within ∙ ap (meta_of s.next) (get_or_from_slice_get s.tables.items p.table t t e) in
+            record { delta = made.0.delta; totals = made.0.totals ∙ ap (λ (u : TableMeta). totals_with u.totals (part_in p).totals) same }
       ] refl,
       parts_made s parts made.1,
     )
@@ -86,14 +86,14 @@ pub next_version : (c : Catalog) (version : ℕ) (parts : List Part) → publish
 next_version c version parts e =
     let newest = version == c.next in
     let room = nat_lt version (2 ^ 32 - 1) in
-    let first = both newest room (both (newest && room) (list_all (λ (p : Part). is_there c p.table && part_fits (stock_at c p.table) p) parts) e).0 in
+    let first = both newest room (both (newest && room) (list_all (λ (p : Part). is_there c p.table && part_fits (meta_at c p.table) p) parts) e).0 in
     let same = first.0 in
     let few = first.1 in
     (grind (arith, nat_tests), grind (arith, nat_tests))
 
 -- ---- merged deltas
 
-pub swap_base_of : (s : Shelves) (t : Table) (from to : ℕ) → IsTable s.next t → may_be_work (catalogue_of s) (stock_of s.next t) true from to ≡ true → IsSwapOf s.next t true to
+pub swap_base_of : (s : CatalogTables) (t : Table) (from to : ℕ) → IsTable s.next t → may_be_work (catalogue_of s) (meta_of s.next t) true from to ≡ true → IsSwapOf s.next t true to
 swap_base_of s t from to table e =
     let all = sym (base_work s.next t.oldest from to t) ∙ e in
     let starts_first = from == 0 in
@@ -108,7 +108,7 @@ swap_base_of s t from to table e =
     let there = table.oldest in
     (grind (arith, nat_tests), grind (arith, nat_tests))
 
-pub swap_ten_of : (s : Shelves) (t : Table) (from to : ℕ) → may_be_work (catalogue_of s) (stock_of s.next t) false from to ≡ true → IsSwapOf s.next t false to
+pub swap_ten_of : (s : CatalogTables) (t : Table) (from to : ℕ) → may_be_work (catalogue_of s) (meta_of s.next t) false from to ≡ true → IsSwapOf s.next t false to
 swap_ten_of s t from to e =
     let all = sym (cumulative_work s.next from to t) ∙ e in
     let end = end_of (start_of_base t.base) (length t.cumulatives.items) in
@@ -121,29 +121,29 @@ swap_ten_of s t from to e =
     let below : end_of (start_of_base t.base) (length t.cumulatives.items) < s.next = grind (arith, nat_tests) in
     (last, omega arith)
 
-pub swap_of : (s : Shelves) (t : Table) (base : Bool) (from to : ℕ) → IsTable s.next t → may_be_work (catalogue_of s) (stock_of s.next t) base from to ≡ true → IsSwapOf s.next t base to
+pub swap_of : (s : CatalogTables) (t : Table) (base : Bool) (from to : ℕ) → IsTable s.next t → may_be_work (catalogue_of s) (meta_of s.next t) base from to ≡ true → IsSwapOf s.next t base to
 swap_of s t true from to table e = swap_base_of s t from to table e
 swap_of s t false from to table e = swap_ten_of s t from to e
 
-pub swap_there : (c : Catalog) (table : ℕ) (base : Bool) (from to epoch : ℕ) (files : Option Files) → (is_there c table && swap_fits c (stock_at c table) base from to epoch files) ≡ true → (is_there c table ≡ true) × (may_be_work c (stock_at c table) base from to ≡ true)
+pub swap_there : (c : Catalog) (table : ℕ) (base : Bool) (from to epoch : ℕ) (files : Option Files) → (is_there c table && swap_fits c (meta_at c table) base from to epoch files) ≡ true → (is_there c table ≡ true) × (may_be_work c (meta_at c table) base from to ≡ true)
 swap_there c table base from to epoch files e =
-    let parts = both (is_there c table) (swap_fits c (stock_at c table) base from to epoch files) e in
-    let work = may_be_work c (stock_at c table) base from to in
-    let old = has_epoch (stock_at c table).lineage epoch in
-    (parts.0, (both work old (both (work && old) (files_fit_if_any (stock_at c table).lineage epoch files) parts.1).0).0)
+    let parts = both (is_there c table) (swap_fits c (meta_at c table) base from to epoch files) e in
+    let work = may_be_work c (meta_at c table) base from to in
+    let old = has_epoch (meta_at c table).lineage epoch in
+    (parts.0, (both work old (both (work && old) (files_fit_if_any (meta_at c table).lineage epoch files) parts.1).0).0)
 
 -- ---- recasts
 
-pub recast_there : (c : Catalog) (k : Recasting) → fits c (record_of.Recast k) ≡ true → (is_there c k.table ≡ true) × (recast_fits (stock_at c k.table) k ≡ true)
-recast_there c k e = both (is_there c k.table) (recast_fits (stock_at c k.table) k) (kind_of_fits c (record_of.Recast k) e)
+pub recast_there : (c : Catalog) (k : Recasting) → fits c (record_of.Recast k) ≡ true → (is_there c k.table ≡ true) × (recast_fits (meta_at c k.table) k ≡ true)
+recast_there c k e = both (is_there c k.table) (recast_fits (meta_at c k.table) k) (kind_of_fits c (record_of.Recast k) e)
 
 -- ---- tables
 
-pub room_left : (s : Shelves) (name : List ℕ) (columns : Columns) → table_fits (catalogue_of s) name columns ≡ true → length s.tables.items < 32
+pub room_left : (s : CatalogTables) (name : List ℕ) (columns : Columns) → table_fits (catalogue_of s) name columns ≡ true → length s.tables.items < 32
 room_left s name columns e =
     let c = catalogue_of s in
     let room = (both (is_new_name c name && is_schema columns) (nat_lt (length c.tables) 32) e).1 in
-    let count = length-map s.tables.items (stock_of s.next) in
+    let count = length-map s.tables.items (meta_of s.next) in
     grind (arith, nat_tests)
 
 -- ---- both halves of fitting

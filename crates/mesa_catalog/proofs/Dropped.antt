@@ -5,27 +5,27 @@ use Rattle.std.specs.declared.alloc.Global.{Global}
 use Rattle.std.specs.declared.sync.Arc.{Arc}
 use Rattle.std.proofs.lemmas.List.{append-nil}
 use Rattle.mesa_record.specs.declared.record.Files.{Files}
-use Rattle.mesa_table.specs.mesa_image_spec.Catalog.{Delta, start_in}
-use Rattle.mesa_table.specs.mesa_image_spec.Fitting.{base_deltas, delta_in}
-use Rattle.mesa_table.specs.mesa_image_spec.Ids.{delta_ids, dropped_deltas, file_ids, own_delta_id, own_id, recast_dropped}
-use Rattle.mesa_table.specs.declared.table.Base.{Base}
-use Rattle.mesa_table.specs.declared.table.Table.{Table}
-use Rattle.mesa_table.specs.Meaning.{IsTable, ending_of, start_of_base, stock_of}
-use Rattle.mesa_table.specs.Named.{base_ids, base_own, ids_if_any, ids_recast, ids_through, own_ids, own_if_any, shared_ids, single_ids, single_own, table_ids, through}
-use Rattle.mesa_table.specs.Named as held
-use Rattle.mesa_table.proofs.Named.{all_through, base_held, flat_map-map, flat_map-same, singles_through}
-use Rattle.mesa_table.proofs.Singles.{flat_map-append, singles_give}
-use Rattle.mesa_table.proofs.Tens.{tens_deltas}
-use Rattle.mesa_table.proofs.Works.{starts}
+use Rattle.mesa_catalog_table.specs.mesa_store_spec.Catalog.{Delta, start_in}
+use Rattle.mesa_catalog_table.specs.mesa_store_spec.Fitting.{base_deltas, delta_in}
+use Rattle.mesa_catalog_table.specs.mesa_store_spec.Ids.{delta_ids, dropped_deltas, file_ids, own_delta_id, own_id, recast_dropped}
+use Rattle.mesa_catalog_table.specs.declared.table.Base.{Base}
+use Rattle.mesa_catalog_table.specs.declared.table.Table.{Table}
+use Rattle.mesa_catalog_table.specs.Meaning.{IsTable, ending_of, start_of_base, meta_of}
+use Rattle.mesa_catalog_table.specs.Named.{base_ids, base_own, ids_if_any, ids_recast, ids_through, own_ids, own_if_any, shared_ids, single_ids, single_own, table_ids, through}
+use Rattle.mesa_catalog_table.specs.Named as held
+use Rattle.mesa_catalog_table.proofs.Named.{all_through, base_held, flat_map-map, flat_map-same, singles_through}
+use Rattle.mesa_catalog_table.proofs.Singles.{flat_map-append, singles_give}
+use Rattle.mesa_catalog_table.proofs.Tens.{tens_deltas}
+use Rattle.mesa_catalog_table.proofs.Works.{starts}
 
 files_same : (files : Option Files) → file_ids files ≡ ids_if_any files
 files_same None = refl
 files_same (Some f) = refl
 
 -- the files of the deltas whose place a new base takes are those that are held up to its end
-pub dropped_held : (next : ℕ) (t : Table) (to : ℕ) → IsTable next t → flat_map delta_ids (dropped_deltas (stock_of next t) to) ≡ ids_through t to
+pub dropped_held : (next : ℕ) (t : Table) (to : ℕ) → IsTable next t → flat_map delta_ids (dropped_deltas (meta_of next t) to) ≡ ids_through t to
 dropped_held next t to table =
-    let u = stock_of next t in
+    let u = meta_of next t in
     let start = start_of_base t.base in
     let gone = take (to + 1 - start_in u) u.singles in
     let singles : flat_map held.delta_ids gone ≡ flat_map single_ids (through to t.loaded.items) =
@@ -45,9 +45,9 @@ own_held None = refl
 own_held (Some b) = elim (b.delta) as (λ d. flat_map own_ids (base_deltas (Some (ending_of (record b { delta = d })))) ≡ base_own (Some (record b { delta = d }))) [ None ↦ refl | Some d ↦ append-nil (own_ids d.value) ]
 
 -- the files that go with a recast are those that are held
-pub recast_held : (next : ℕ) (t : Table) → recast_dropped (stock_of next t) ≡ ids_recast t
+pub recast_held : (next : ℕ) (t : Table) → recast_dropped (meta_of next t) ≡ ids_recast t
 recast_held next t =
-    let u = stock_of next t in
+    let u = meta_of next t in
     let start = start_of_base t.base in
     let cumulatives : flat_map delta_ids (map delta_in u.cumulatives) ≡ flat_map shared_ids t.cumulatives.items =
     flat_map-same delta_ids held.delta_ids (map delta_in u.cumulatives) (λ d. files_same d.files)

@@ -7,40 +7,40 @@ use Rattle.std.proofs.lemmas.List.Sums.{sum_by-append, sum_by-cons}
 use Rattle.std.proofs.lemmas.List.{append-nil}
 use Rattle.mesa_schema.specs.Changes.{Lineage}
 use Rattle.mesa_schema.specs.Recasts.{recast_lineage}
-use Rattle.mesa_record.specs.declared.checkpoint.StatedSingle.{StatedSingle}
+use Rattle.mesa_record.specs.declared.checkpoint.CheckpointSingle.{CheckpointSingle}
 use Rattle.mesa_record.specs.declared.recasting.RecastBase.{RecastBase}
 use Rattle.mesa_record.specs.declared.recasting.Recasting.{Recasting}
 use Rattle.mesa_record.specs.declared.record.Files.{Files}
 use Rattle.mesa_record.specs.declared.record.Part.{Part}
 use Rattle.mesa_record.specs.declared.record.Record.{Record}
 use Rattle.mesa_record.specs.declared.record.Record.TheVariants as record_of
-use Rattle.mesa_table.specs.mesa_image_spec.Catalog.{Catalog, base_recast, base_told, empty_delta, recast_in, single_stated, singles_stated, singles_told, start_in, stock_at}
-use Rattle.mesa_table.specs.mesa_image_spec.Fitting.{are_new_ids, base_deltas, brings_new_files, brought, delta_own, has_number, own_shelved, part_shelved, recast_shelved, run_of_id, shelved_id, stock_shelved}
-use Rattle.mesa_table.specs.mesa_image_spec.Ids.{named, times}
-use Rattle.mesa_table.specs.Named.{own_ids, own_if_any, table_ids}
-use Rattle.mesa_table.specs.Meaning.{stock_of}
-use Rattle.mesa_table.proofs.Named.{files_ids, flat_map-map, flat_map-same, map-flat_map, table_held}
-use Rattle.mesa_table.proofs.Pushes.{pushed_more, pushed_one}
-use Rattle.mesa_table.proofs.Singles.{empties_give, flat_map-append}
-use Rattle.mesa_catalog.specs.declared.shelves.Shelves.{Shelves}
+use Rattle.mesa_catalog_table.specs.mesa_store_spec.Catalog.{Catalog, base_recast, base_told, empty_delta, recast_in, single_stated, singles_stated, singles_told, start_in, meta_at}
+use Rattle.mesa_catalog_table.specs.mesa_store_spec.Fitting.{are_new_ids, base_deltas, brings_new_files, brought, delta_own, has_number, own_live, part_live, recast_live, run_of_id, live_id, meta_live}
+use Rattle.mesa_catalog_table.specs.mesa_store_spec.Ids.{named, times}
+use Rattle.mesa_catalog_table.specs.Named.{own_ids, own_if_any, table_ids}
+use Rattle.mesa_catalog_table.specs.Meaning.{meta_of}
+use Rattle.mesa_catalog_table.proofs.Named.{files_ids, flat_map-map, flat_map-same, map-flat_map, table_held}
+use Rattle.mesa_catalog_table.proofs.Pushes.{pushed_more, pushed_one}
+use Rattle.mesa_catalog_table.proofs.Singles.{empties_give, flat_map-append}
+use Rattle.mesa_catalog.specs.declared.catalog_tables.CatalogTables.{CatalogTables}
 use Rattle.mesa_catalog.specs.Meaning.{catalogue_of}
 use Rattle.mesa_catalog.specs.Named.{RiseTo, held_ids, ids_brought, is_once_new, part_ids, recast_base_ids, recast_ids, told_id}
 
 -- ---- what is named and brought
 
 -- what is named is what is held
-pub named_held : (s : Shelves) → named (catalogue_of s) ≡ held_ids s
+pub named_held : (s : CatalogTables) → named (catalogue_of s) ≡ held_ids s
 named_held s =
-    map-flat_map shelved_id stock_shelved (map (stock_of s.next) s.tables.items)
-    ∙ flat_map-map (λ t. map shelved_id (stock_shelved t)) (stock_of s.next) s.tables.items
+    map-flat_map live_id meta_live (map (meta_of s.next) s.tables.items)
+    ∙ flat_map-map (λ t. map live_id (meta_live t)) (meta_of s.next) s.tables.items
     ∙ flat_map-same _ table_ids s.tables.items (table_held s.next)
 
-parts_bring : (c : Catalog) (parts : List Part) → map shelved_id (flat_map (part_shelved c) parts) ≡ flat_map part_ids parts
-parts_bring c parts = map-flat_map shelved_id (part_shelved c) parts ∙ flat_map-same _ part_ids parts (λ p. files_ids (stock_at c p.table).lineage p.epoch (Some p.files))
+parts_bring : (c : Catalog) (parts : List Part) → map live_id (flat_map (part_live c) parts) ≡ flat_map part_ids parts
+parts_bring c parts = map-flat_map live_id (part_live c) parts ∙ flat_map-same _ part_ids parts (λ p. files_ids (meta_at c p.table).lineage p.epoch (Some p.files))
 
 -- ---- what a recast brings
 
-ids_of_own : (l : Lineage) (epoch : ℕ) (files : Option Files) → map shelved_id (own_shelved l epoch files) ≡ own_if_any files
+ids_of_own : (l : Lineage) (epoch : ℕ) (files : Option Files) → map live_id (own_live l epoch files) ≡ own_if_any files
 ids_of_own l epoch None = refl
 ids_of_own l epoch (Some f) = refl
 
@@ -49,36 +49,36 @@ base_brings epoch None = refl
 base_brings epoch (Some b) = append-nil (own_if_any b.files)
 
 -- versions that are told bring a file each, and those of which nothing is told none
-singles_bring : (from next : ℕ) (ss : List StatedSingle) → flat_map own_ids (singles_stated from next ss) ≡ map told_id ss
+singles_bring : (from next : ℕ) (ss : List CheckpointSingle) → flat_map own_ids (singles_stated from next ss) ≡ map told_id ss
 singles_bring from next [] = empties_give own_ids (next - from) refl
 singles_bring from next (s ∷ ss) =
     flat_map-append own_ids (replicate (s.version - from) empty_delta) (single_stated s ∷ singles_stated (s.version + 1) next ss)
     ∙ (λ i. empties_give own_ids (s.version - from) refl i ++ (told_id s ∷ singles_bring (s.version + 1) next ss i))
 
-recasts_bring : (c : Catalog) (k : Recasting) → map shelved_id (recast_shelved c k) ≡ recast_ids k
+recasts_bring : (c : Catalog) (k : Recasting) → map live_id (recast_live c k) ≡ recast_ids k
 recasts_bring c k =
-    let l = recast_lineage (stock_at c k.table).lineage (recast_in k) in
-    let singles = singles_told c.next (stock_at c k.table) k in
-    map-flat_map shelved_id (delta_own l) (base_deltas (base_told k) ++ singles)
+    let l = recast_lineage (meta_at c k.table).lineage (recast_in k) in
+    let singles = singles_told c.next (meta_at c k.table) k in
+    map-flat_map live_id (delta_own l) (base_deltas (base_told k) ++ singles)
     ∙ flat_map-same _ own_ids (base_deltas (base_told k) ++ singles) (λ d. ids_of_own l d.epoch d.files)
     ∙ flat_map-append own_ids (base_deltas (base_told k)) singles
-    ∙ (λ i. base_brings k.epoch k.base i ++ singles_bring (start_in (stock_at c k.table)) c.next k.singles i)
+    ∙ (λ i. base_brings k.epoch k.base i ++ singles_bring (start_in (meta_at c k.table)) c.next k.singles i)
 
 -- what a record brings has the same ids, whatever the catalogue
-pub ids_bring : (c : Catalog) (r : Record) → map shelved_id (brought c r) ≡ ids_brought r
+pub ids_bring : (c : Catalog) (r : Record) → map live_id (brought c r) ≡ ids_brought r
 ids_bring c (record_of.Run number) = refl
 ids_bring c (record_of.Table name keys values) = refl
 ids_bring c (record_of.View table name keys values) = refl
 ids_bring c (record_of.Alter table change) = refl
 ids_bring c (record_of.Publish version parts) = parts_bring c parts
-ids_bring c (record_of.Swap table base from to epoch files) = files_ids (stock_at c table).lineage epoch files
+ids_bring c (record_of.Swap table base from to epoch files) = files_ids (meta_at c table).lineage epoch files
 ids_bring c (record_of.Expire version) = refl
 ids_bring c (record_of.ExpireTable table version) = refl
 ids_bring c (record_of.Checkpoint k) = refl
 ids_bring c (record_of.Recast k) = recasts_bring c k
 
 -- the test of new files, by what is held
-pub brings_held : (s : Shelves) (r : Record) → are_new_ids s.run (held_ids s) (ids_brought r) ≡ brings_new_files (catalogue_of s) r
+pub brings_held : (s : CatalogTables) (r : Record) → are_new_ids s.run (held_ids s) (ids_brought r) ≡ brings_new_files (catalogue_of s) r
 brings_held s r = λ i. are_new_ids s.run (sym (named_held s) i) (sym (ids_bring (catalogue_of s) r) i)
 
 -- ---- new ids, one after another and each by itself

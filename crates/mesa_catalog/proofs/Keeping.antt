@@ -4,13 +4,13 @@ use Rattle.std.proofs.lemmas.Bool.{cases_lt}
 use Rattle.std.specs.Prelude.{Option, Some, None, IfSome}
 use Rattle.std.specs.List.{AllByRecursion}
 use Rattle.mesa_record.specs.declared.record.Record.{Record}
-use Rattle.mesa_table.specs.mesa_image_spec.Catalog.{Catalog, applied}
-use Rattle.mesa_table.specs.mesa_image_spec.Fitting.{fits, kind_fits}
-use Rattle.mesa_table.specs.mesa_image_spec.Ids.{named, times}
-use Rattle.mesa_catalog.specs.declared.shelves.Shelves.{Shelves}
+use Rattle.mesa_catalog_table.specs.mesa_store_spec.Catalog.{Catalog, applied}
+use Rattle.mesa_catalog_table.specs.mesa_store_spec.Fitting.{fits, kind_fits}
+use Rattle.mesa_catalog_table.specs.mesa_store_spec.Ids.{named, times}
+use Rattle.mesa_catalog.specs.declared.catalog_tables.CatalogTables.{CatalogTables}
 use Rattle.mesa_catalog.specs.declared.ready.Ready.{Ready}
 use Rattle.mesa_catalog.specs.Kept.{IsKept}
-use Rattle.mesa_catalog.specs.Meaning.{IsShelved, catalogue_of}
+use Rattle.mesa_catalog.specs.Meaning.{AreCatalogTables, catalogue_of}
 use Rattle.mesa_catalog.specs.Named.{ids_brought}
 use Rattle.mesa_catalog.specs.Readied.{HasRoom, IsMade, IsReady, record_in}
 use Rattle.mesa_catalog.proofs.Counted.{named_or_brought}
@@ -26,9 +26,9 @@ most_after c r old new kind more were brings =
     (λ none. counted_below new id (ids_brought r) brings (let same = ap (times id) (ids_bring c r) in omega (arith, either, none, same))) (cases_lt 0 (times id (named c))))
 
 -- more room in its lists changes nothing that a catalogue keeps
-pub kept_roomier : (old new : Shelves) (made : Option Ready) (greatest : ℕ) → catalogue_of new ≡ catalogue_of old → IsShelved new → (HasRoom old → HasRoom new) → IsKept old made greatest → IsKept new made greatest
-kept_roomier old new made greatest same shelved room kept = record {
-  shelves = shelved;
+pub kept_roomier : (old new : CatalogTables) (made : Option Ready) (greatest : ℕ) → catalogue_of new ≡ catalogue_of old → AreCatalogTables new → (HasRoom old → HasRoom new) → IsKept old made greatest → IsKept new made greatest
+kept_roomier old new made greatest same live_files room kept = record {
+  catalog_tables = live_files;
   ready = ready_roomier made kept.ready;
   once = λ id. subst (λ (k : Catalog). times id (named k) ≤ 1) (sym same) (kept.once id);
   most = subst (λ (k : Catalog). AllByRecursion (λ id. id ≤ greatest) (named k)) (sym same) kept.most;

@@ -1,7 +1,7 @@
 pub use Rattle.mesa_batch.proofs as mesa_batch
-pub use Rattle.mesa_table.proofs.mesa_image_spec as mesa_image_spec
+pub use Rattle.mesa_catalog_table.proofs.mesa_store_spec as mesa_store_spec
 pub use Rattle.mesa_schema.proofs as mesa_schema
-pub use Rattle.mesa_table.proofs as mesa_table
+pub use Rattle.mesa_catalog_table.proofs as mesa_catalog_table
 pub mod Applies
 pub mod Counted
 pub mod Dropped
@@ -14,6 +14,6 @@ pub mod Made
 pub mod Sorting
 pub mod Relations
 pub mod Roomier
-pub mod Stocks
+pub mod TableMetas
 pub mod RestoredIds
 pub mod Restored

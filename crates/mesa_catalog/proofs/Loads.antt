@@ -7,12 +7,12 @@ use Rattle.std.proofs.lemmas.Iterator.Adapters.{position_from-zero}
 use Rattle.std.proofs.lemmas.List.{drop-drop, drop-set-lt, drop_more, map_push, take_more_set}
 use Rattle.std.proofs.lemmas.Option.{slice_get-get_or}
 use Rattle.mesa_record.specs.declared.record.Part.{Part}
-use Rattle.mesa_table.specs.mesa_image_spec.Catalog.{part_of, stock_loaded, stocks_loaded}
-use Rattle.mesa_table.specs.declared.table.Table.{Table}
-use Rattle.mesa_table.specs.declared.ready.ReadyPart.{ReadyPart}
-use Rattle.mesa_table.specs.Meaning.{IsTable, stock_of}
-use Rattle.mesa_table.specs.Readied.{IsPartOf, is_part_of}
-use Rattle.mesa_catalog.proofs.Stocks.{all_pushed}
+use Rattle.mesa_catalog_table.specs.mesa_store_spec.Catalog.{part_of, meta_loaded, metas_loaded}
+use Rattle.mesa_catalog_table.specs.declared.table.Table.{Table}
+use Rattle.mesa_catalog_table.specs.declared.ready.ReadyPart.{ReadyPart}
+use Rattle.mesa_catalog_table.specs.Meaning.{IsTable, meta_of}
+use Rattle.mesa_catalog_table.specs.Readied.{IsPartOf, is_part_of}
+use Rattle.mesa_catalog.proofs.TableMetas.{all_pushed}
 
 -- ---- the first part of a table
 
@@ -72,7 +72,7 @@ found_holds P p (y ∷ ys) x all e =
 
 -- The tables before a number have what the version brings, and those from it on are as they were.
 pub record AreLoading (version : ℕ) (parts : List Part) (old now : List Table) (number : ℕ) : Type 0 where
-  pub done : map (stock_of (version + 1)) (take number now) ++ stocks_loaded parts number (map (stock_of version) (drop number old)) ≡ stocks_loaded parts 0 (map (stock_of version) old)
+  pub done : map (meta_of (version + 1)) (take number now) ++ metas_loaded parts number (map (meta_of version) (drop number old)) ≡ metas_loaded parts 0 (map (meta_of version) old)
   pub rest : drop number now ≡ drop number old
   pub are : AllByRecursion (IsTable (version + 1)) (take number now)
 
@@ -80,18 +80,18 @@ pub loads_begin : (version : ℕ) (parts : List Part) (old : List Table) → Are
 loads_begin version parts old = record { done = refl; rest = refl; are = tt }
 
 pub loads_step : (version : ℕ) (parts : List Part) (old now : List Table) (number : ℕ) (t new : Table) → number < length now → get_or now number t ≡ t
-    → stock_of (version + 1) new ≡ stock_loaded (stock_of version t) (part_of number parts) → IsTable (version + 1) new
+    → meta_of (version + 1) new ≡ meta_loaded (meta_of version t) (part_of number parts) → IsTable (version + 1) new
     → AreLoading version parts old now number → AreLoading version parts old (set now number new) (number + 1)
 loads_step version parts old now number t new h here is table loading =
-    let f = stock_of (version + 1) in
-    let g = stock_of version in
+    let f = meta_of (version + 1) in
+    let g = meta_of version in
     let before = take_more_set now number new h in
     let cut : drop number old ≡ t ∷ drop (number + 1) now = sym loading.rest ∙ drop_more now number t h ∙ ap (λ x. x ∷ drop (number + 1) now) here in
     let rest : drop (number + 1) now ≡ drop (number + 1) old = sym (drop-drop 1 number now) ∙ ap (drop 1) loading.rest ∙ drop-drop 1 number old in
-    let later = stocks_loaded parts (number + 1) (map g (drop (number + 1) old)) in
-    let one : stocks_loaded parts number (map g (drop number old)) ≡ f new ∷ later =
-    ap (λ ts. stocks_loaded parts number (map g ts)) cut
-    ∙ (λ i. sym is i ∷ stocks_loaded parts (number + 1) (map g (rest i))) in
+    let later = metas_loaded parts (number + 1) (map g (drop (number + 1) old)) in
+    let one : metas_loaded parts number (map g (drop number old)) ≡ f new ∷ later =
+    ap (λ ts. metas_loaded parts number (map g ts)) cut
+    ∙ (λ i. sym is i ∷ metas_loaded parts (number + 1) (map g (rest i))) in
     record {
       done =
           ap (λ ts. map f ts ++ later) before ∙ ap (λ xs. xs ++ later) (map_push f (take number now) new)

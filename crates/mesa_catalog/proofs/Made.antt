@@ -14,16 +14,16 @@ use Rattle.mesa_schema.specs.Views.{with_view}
 use Rattle.mesa_batch.specs.Totals.{sums_in}
 use Rattle.mesa_span.specs.Ranges.{base_before, start_behind}
 use Rattle.mesa_record.specs.declared.record.Record.TheVariants as record_of
-use Rattle.mesa_table.specs.mesa_image_spec.Catalog.{Catalog, empty_base, end_in, new_stock, stock_at}
-use Rattle.mesa_table.specs.mesa_image_spec.Fitting.{alter_fits, is_there, view_fits}
-use Rattle.mesa_catalog.specs.declared.shelves.Shelves.{Shelves}
-use Rattle.mesa_table.specs.declared.table.Base.{Base}
-use Rattle.mesa_table.specs.declared.table.Table.{Table}
-use Rattle.mesa_table.specs.Meaning.{AreLoaded, IsTable, ending_of, singles_from, start_of_base, stock_of, tens_from, widths_of}
-use Rattle.mesa_catalog.specs.Meaning.{IsShelved, catalogue_of}
+use Rattle.mesa_catalog_table.specs.mesa_store_spec.Catalog.{Catalog, empty_base, end_in, new_meta, meta_at}
+use Rattle.mesa_catalog_table.specs.mesa_store_spec.Fitting.{alter_fits, is_there, view_fits}
+use Rattle.mesa_catalog.specs.declared.catalog_tables.CatalogTables.{CatalogTables}
+use Rattle.mesa_catalog_table.specs.declared.table.Base.{Base}
+use Rattle.mesa_catalog_table.specs.declared.table.Table.{Table}
+use Rattle.mesa_catalog_table.specs.Meaning.{AreLoaded, IsTable, ending_of, singles_from, start_of_base, meta_of, tens_from, widths_of}
+use Rattle.mesa_catalog.specs.Meaning.{AreCatalogTables, catalogue_of}
 use Rattle.mesa_catalog.specs.Readied.{last_change, last_or, last_view}
-use Rattle.mesa_table.proofs.Tens.{base_ends}
-use Rattle.mesa_table.proofs.Tests.{both}
+use Rattle.mesa_catalog_table.proofs.Tens.{base_ends}
+use Rattle.mesa_catalog_table.proofs.Tests.{both}
 
 last_pushed : {X : Type 0} (d : X) (xs : List X) (x : X) → last_or d (xs ++ x ∷ []) ≡ x
 last_pushed d [] x = refl
@@ -40,7 +40,7 @@ view_record table e l v w is same = let last = view_last e l v is ∙ same in λ
 pub view_made : (e l m : Lineage) (v : View) → e ≡ with_view l v → l ≡ m → e ≡ with_view m (last_view e)
 view_made e l m v is same = let last = sym (view_last e l v is) in is ∙ (λ i. with_view (same i) (last i))
 
-pub view_there : (c : Catalog) (table : ℕ) (name : List ℕ) (keys values : List (List ℕ)) → view_fits c table name keys values ≡ true → (is_there c table ≡ true) × (length (stock_at c table).lineage.views < 8)
+pub view_there : (c : Catalog) (table : ℕ) (name : List ℕ) (keys values : List (List ℕ)) → view_fits c table name keys values ≡ true → (is_there c table ≡ true) × (length (meta_at c table).lineage.views < 8)
 view_there c table name keys values fits =
     let room = both _ _ fits in
     let first = both _ _ (both _ _ room.0).0 in
@@ -91,7 +91,7 @@ start_new b oldest e =
     ] refl
 
 -- a table without rows
-pub record IsNew (s : Shelves) (t : Table) : Type 0 where
+pub record IsNew (s : CatalogTables) (t : Table) : Type 0 where
   pub lineage : t.evolving.value ≡ record { begins = 0; first = t.evolving.value.first; changes = []; views = [] }
   pub oldest : t.oldest ≡ s.floor
   pub totals : t.totals ≡ replicate (sums_in (aggs_of t.evolving.value.first)) 0
@@ -100,10 +100,10 @@ pub record IsNew (s : Shelves) (t : Table) : Type 0 where
   pub loaded : t.loaded.items ≡ []
   pub widths : t.widths ≡ length t.evolving.value.first.values ∷ []
 
-pub new_made : (s : Shelves) (t : Table) → IsShelved s → IsNew s t → (stock_of s.next t ≡ new_stock (catalogue_of s) t.name t.evolving.value.first) × IsTable s.next t
-new_made s t shelved new =
+pub new_made : (s : CatalogTables) (t : Table) → AreCatalogTables s → IsNew s t → (meta_of s.next t ≡ new_meta (catalogue_of s) t.name t.evolving.value.first) × IsTable s.next t
+new_made s t live_files new =
     let start = start_new t.base s.floor new.base in
-    let below : s.floor ≤ s.next = let h = shelved.floor in omega arith in (
+    let below : s.floor ≤ s.next = let h = live_files.floor in omega arith in (
       λ i. record {
         name = t.name;
         lineage = new.lineage i;
@@ -116,7 +116,7 @@ new_made s t shelved new =
       record {
         tens = let count = ap length new.cumulatives in omega arith;
         loaded = subst (AreLoaded (start_of_base t.base) s.next) (sym new.loaded) tt;
-        oldest = let first = shelved.floor in omega (arith, first, new.oldest);
+        oldest = let first = live_files.floor in omega (arith, first, new.oldest);
         widths = new.widths ∙ ap widths_of (sym new.lineage);
       },
     )

@@ -5,46 +5,46 @@ use Rattle.std.specs.List.{AllByRecursion}
 use Rattle.std.proofs.lemmas.Bool.Decides.{nat_tests}
 use Rattle.std.proofs.lemmas.List.{length-map, map_push, take_more}
 use Rattle.mesa_record.specs.declared.checkpoint.Checkpoint.{Checkpoint}
-use Rattle.mesa_table.specs.mesa_image_spec.Checkpoint.{stated, stock_stated}
-use Rattle.mesa_table.specs.mesa_image_spec.CheckpointFits.{counts_fit, ids_fit, oldest_fits}
-use Rattle.mesa_table.specs.mesa_image_spec.Fitting.{max_runs, names_in}
-use Rattle.mesa_table.specs.mesa_model.Warehouse.{max_tables, max_versions}
-use Rattle.mesa_table.specs.mesa_image_spec.Ids.{named}
-use Rattle.mesa_table.specs.declared.table.Table.{Table}
-use Rattle.mesa_table.specs.Meaning.{IsTable, stock_of}
-use Rattle.mesa_table.proofs.Named.{flat_map-map}
-use Rattle.mesa_table.proofs.Restored.{there}
-use Rattle.mesa_table.proofs.Tests.{both}
-use Rattle.mesa_catalog.specs.declared.shelves.Shelves.{Shelves}
+use Rattle.mesa_catalog_table.specs.mesa_store_spec.Checkpoint.{stated, meta_stated}
+use Rattle.mesa_catalog_table.specs.mesa_store_spec.CheckpointFits.{counts_fit, ids_fit, oldest_fits}
+use Rattle.mesa_catalog_table.specs.mesa_store_spec.Fitting.{max_runs, names_in}
+use Rattle.mesa_catalog_table.specs.mesa_model.Warehouse.{max_tables, max_versions}
+use Rattle.mesa_catalog_table.specs.mesa_store_spec.Ids.{named}
+use Rattle.mesa_catalog_table.specs.declared.table.Table.{Table}
+use Rattle.mesa_catalog_table.specs.Meaning.{IsTable, meta_of}
+use Rattle.mesa_catalog_table.proofs.Named.{flat_map-map}
+use Rattle.mesa_catalog_table.proofs.Restored.{there}
+use Rattle.mesa_catalog_table.proofs.Tests.{both}
+use Rattle.mesa_catalog.specs.declared.catalog_tables.CatalogTables.{CatalogTables}
 use Rattle.mesa_catalog.specs.Kept.{IsKept}
-use Rattle.mesa_catalog.specs.Meaning.{IsShelved, catalogue_of}
+use Rattle.mesa_catalog.specs.Meaning.{AreCatalogTables, catalogue_of}
 use Rattle.mesa_catalog.specs.Restored.{table_names}
 use Rattle.mesa_catalog.proofs.RestoredIds.{stands_once}
 
 -- the names of all tables and views
-pub names_held : (next : ℕ) (tables : List Table) → flat_map names_in (map (stock_of next) tables) ≡ flat_map table_names tables
-names_held next tables = flat_map-map names_in (stock_of next) tables
+pub names_held : (next : ℕ) (tables : List Table) → flat_map names_in (map (meta_of next) tables) ≡ flat_map table_names tables
+names_held next tables = flat_map-map names_in (meta_of next) tables
 
 -- Tables that were made of those that a checkpoint states.
-pub record AreRestored (k : Checkpoint) (s : Shelves) : Type 0 where
+pub record AreRestored (k : Checkpoint) (s : CatalogTables) : Type 0 where
   pub floor : s.floor ≡ k.floor
   pub next : s.next ≡ k.versions
   pub run : s.run ≡ k.run
-  pub stocks : map (stock_of s.next) s.tables.items ≡ map (stock_stated k.versions) k.tables
+  pub metas : map (meta_of s.next) s.tables.items ≡ map (meta_stated k.versions) k.tables
   pub tables : AllByRecursion (IsTable s.next) s.tables.items
 
-pub catalogue_restored : (k : Checkpoint) (s : Shelves) → AreRestored k s → catalogue_of s ≡ stated k
-catalogue_restored k s r = λ i. record { tables = r.stocks i; floor = r.floor i; next = r.next i; run = r.run i }
+pub catalogue_restored : (k : Checkpoint) (s : CatalogTables) → AreRestored k s → catalogue_of s ≡ stated k
+catalogue_restored k s r = λ i. record { tables = r.metas i; floor = r.floor i; next = r.next i; run = r.run i }
 
-pub shelves_restored : (k : Checkpoint) (s : Shelves) → counts_fit k ≡ true → AreRestored k s → IsShelved s
-shelves_restored k s fits r =
+pub catalog_tables_restored : (k : Checkpoint) (s : CatalogTables) → counts_fit k ≡ true → AreRestored k s → AreCatalogTables s
+catalog_tables_restored k s fits r =
     let there_too = both (nat_le (length k.tables) max_tables && nat_le k.versions max_versions && nat_le k.run max_runs) (oldest_fits k.floor k.versions) fits in
     let runs = both (nat_le (length k.tables) max_tables && nat_le k.versions max_versions) (nat_le k.run max_runs) there_too.0 in
     let counts = both (nat_le (length k.tables) max_tables) (nat_le k.versions max_versions) runs.0 in
     let few : length k.tables ≤ 32 = grind (arith, nat_tests, counts.0) in
     let most : k.versions ≤ max_versions = grind (arith, nat_tests, counts.1) in
     let floor = there k.floor k.versions there_too.1 in
-    let count : length s.tables.items ≡ length k.tables = sym (length-map s.tables.items (stock_of s.next)) ∙ ap length r.stocks ∙ length-map k.tables (stock_stated k.versions) in
+    let count : length s.tables.items ≡ length k.tables = sym (length-map s.tables.items (meta_of s.next)) ∙ ap length r.metas ∙ length-map k.tables (meta_stated k.versions) in
     let next = r.next in
     let oldest = r.floor in
     record {
@@ -54,9 +54,9 @@ shelves_restored k s fits r =
       tables = r.tables;
     }
 
-pub kept_restored : (s : Shelves) (greatest : ℕ) → IsShelved s → ids_fit (catalogue_of s) ≡ true → AllByRecursion (λ id. id ≤ greatest) (named (catalogue_of s)) → IsKept s None greatest
-kept_restored s greatest shelved fits most = record {
-  shelves = shelved;
+pub kept_restored : (s : CatalogTables) (greatest : ℕ) → AreCatalogTables s → ids_fit (catalogue_of s) ≡ true → AllByRecursion (λ id. id ≤ greatest) (named (catalogue_of s)) → IsKept s None greatest
+kept_restored s greatest live_files fits most = record {
+  catalog_tables = live_files;
   ready = tt;
   once = stands_once s.run (named (catalogue_of s)) fits;
   most = most;

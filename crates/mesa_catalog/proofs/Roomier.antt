@@ -5,10 +5,10 @@ use Rattle.std.specs.List.{AllByRecursion}
 use Rattle.std.specs.declared.alloc.Global.{Global}
 use Rattle.std.specs.declared.sync.Arc.{Arc}
 use Rattle.mesa_schema.specs.Changes.{Lineage}
-use Rattle.mesa_table.specs.declared.table.Table.{Table}
-use Rattle.mesa_table.specs.Meaning.{AreLoaded, IsTable, ending_of, singles_from, start_of_base, stock_of, tens_from, widths_of}
+use Rattle.mesa_catalog_table.specs.declared.table.Table.{Table}
+use Rattle.mesa_catalog_table.specs.Meaning.{AreLoaded, IsTable, ending_of, singles_from, start_of_base, meta_of, tens_from, widths_of}
 use Rattle.mesa_catalog.specs.Readied.{AreRoomier}
-use Rattle.mesa_table.specs.Readied.{HasSpare, IsRoomier}
+use Rattle.mesa_catalog_table.specs.Readied.{HasSpare, IsRoomier}
 
 roomier_same : (t : Table) → IsRoomier t t
 roomier_same t = record { name = refl; evolving = refl; widths = refl; totals = refl; oldest = refl; base = refl; cumulatives = refl; loaded = refl; spare = λ h. h }
@@ -37,8 +37,8 @@ roomier_set (x ∷ xs) [] i d t all h k = absurd all
 roomier_set (x ∷ xs) (y ∷ ys) zero d t all h k = (roomier_then x y t all.0 k, all.1)
 roomier_set (x ∷ xs) (y ∷ ys) (suc i) d t all h k = (all.0, roomier_set xs ys i d t all.1 (omega arith) k)
 
-roomier_stock : (next : ℕ) (old new : Table) → IsRoomier old new → stock_of next new ≡ stock_of next old
-roomier_stock next old new r = λ i. record {
+roomier_meta : (next : ℕ) (old new : Table) → IsRoomier old new → meta_of next new ≡ meta_of next old
+roomier_meta next old new r = λ i. record {
   name = r.name i;
   lineage = ap (λ (e : Arc Lineage Global). e.value) r.evolving i;
   totals = r.totals i;
@@ -48,11 +48,11 @@ roomier_stock next old new r = λ i. record {
   singles = singles_from (start_of_base (r.base i)) next (r.loaded i);
 }
 
-pub roomier_stocks : (next : ℕ) (old new : List Table) → AreRoomier old new → map (stock_of next) new ≡ map (stock_of next) old
-roomier_stocks next [] [] all = refl
-roomier_stocks next [] (y ∷ ys) all = absurd all
-roomier_stocks next (x ∷ xs) [] all = absurd all
-roomier_stocks next (x ∷ xs) (y ∷ ys) all = λ i. roomier_stock next x y all.0 i ∷ roomier_stocks next xs ys all.1 i
+pub roomier_metas : (next : ℕ) (old new : List Table) → AreRoomier old new → map (meta_of next) new ≡ map (meta_of next) old
+roomier_metas next [] [] all = refl
+roomier_metas next [] (y ∷ ys) all = absurd all
+roomier_metas next (x ∷ xs) [] all = absurd all
+roomier_metas next (x ∷ xs) (y ∷ ys) all = λ i. roomier_meta next x y all.0 i ∷ roomier_metas next xs ys all.1 i
 
 roomier_table : (next : ℕ) (old new : Table) → IsRoomier old new → IsTable next old → IsTable next new
 roomier_table next old new r table = record {

@@ -5,15 +5,15 @@ use Rattle.std.specs.List.Sorted.{IsNonDecreasingBy}
 use Rattle.std.proofs.lemmas.Bool.Decides.{nat_tests}
 use Rattle.std.proofs.lemmas.List.Sorted.{IsPermutation-map, sum_by-IsPermutation}
 use Rattle.std.proofs.lemmas.Simd.{map-map}
-use Rattle.mesa_table.specs.mesa_image_spec.Catalog.{Catalog}
-use Rattle.mesa_table.specs.mesa_image_spec.Fitting.{shelved, stock_shelved}
-use Rattle.mesa_table.specs.mesa_image_spec.Ids.{named, times}
-use Rattle.mesa_table.specs.declared.recorded.Recorded.{Recorded}
-use Rattle.mesa_table.specs.declared.table.Table.{Table}
-use Rattle.mesa_table.specs.Files.{AreRecorded, RiseFrom, recorded_id, recorded_of}
-use Rattle.mesa_table.specs.Meaning.{stock_of}
-use Rattle.mesa_table.proofs.Named.{flat_map-map, map-flat_map}
-use Rattle.mesa_catalog.specs.declared.shelves.Shelves.{Shelves}
+use Rattle.mesa_catalog_table.specs.mesa_store_spec.Catalog.{Catalog}
+use Rattle.mesa_catalog_table.specs.mesa_store_spec.Fitting.{live_files, meta_live}
+use Rattle.mesa_catalog_table.specs.mesa_store_spec.Ids.{named, times}
+use Rattle.mesa_catalog_table.specs.declared.recorded.Recorded.{Recorded}
+use Rattle.mesa_catalog_table.specs.declared.table.Table.{Table}
+use Rattle.mesa_catalog_table.specs.Files.{AreRecorded, RiseFrom, recorded_id, recorded_of}
+use Rattle.mesa_catalog_table.specs.Meaning.{meta_of}
+use Rattle.mesa_catalog_table.proofs.Named.{flat_map-map, map-flat_map}
+use Rattle.mesa_catalog.specs.declared.catalog_tables.CatalogTables.{CatalogTables}
 use Rattle.mesa_catalog.specs.Meaning.{catalogue_of}
 use Rattle.mesa_catalog.proofs.Ids.{times_cons}
 
@@ -48,14 +48,14 @@ pub times_moved : {X : Type 0} (n : X → ℕ) (xs ys : List X) (id : ℕ) → I
 times_moved n xs ys id moved = sum_by-IsPermutation (λ m. cond (id == m) 1 0) (map n xs) (map n ys) (IsPermutation-map n xs ys moved)
 
 -- what is recorded, table by table
-pub recorded_tables : (s : Shelves) → map recorded_of (shelved (catalogue_of s)) ≡ flat_map (λ (t : Table). map recorded_of (stock_shelved (stock_of s.next t))) s.tables.items
-recorded_tables s = map-flat_map recorded_of stock_shelved (map (stock_of s.next) s.tables.items) ∙ flat_map-map (λ t. map recorded_of (stock_shelved t)) (stock_of s.next) s.tables.items
+pub recorded_tables : (s : CatalogTables) → map recorded_of (live_files (catalogue_of s)) ≡ flat_map (λ (t : Table). map recorded_of (meta_live (meta_of s.next t))) s.tables.items
+recorded_tables s = map-flat_map recorded_of meta_live (map (meta_of s.next) s.tables.items) ∙ flat_map-map (λ t. map recorded_of (meta_live t)) (meta_of s.next) s.tables.items
 
 -- sorted by ids, it is by rising ids
-pub sorted_recorded : (c : Catalog) (files : List Recorded) → IsPermutation (map recorded_of (shelved c)) files → IsNonDecreasingBy recorded_id files → ((id : ℕ) → times id (named c) ≤ 1) → AreRecorded c files
+pub sorted_recorded : (c : Catalog) (files : List Recorded) → IsPermutation (map recorded_of (live_files c)) files → IsNonDecreasingBy recorded_id files → ((id : ℕ) → times id (named c) ≤ 1) → AreRecorded c files
 sorted_recorded c files moved sorted once = record {
   rising = rise_sorted recorded_id 0 files (λ i d h. omega arith) sorted (λ id.
-      let same = times_moved recorded_id (map recorded_of (shelved c)) files id moved ∙ ap (times id) (map-map recorded_id recorded_of (shelved c)) in
+      let same = times_moved recorded_id (map recorded_of (live_files c)) files id moved ∙ ap (times id) (map-map recorded_id recorded_of (live_files c)) in
       let most = once id in
       omega (arith, same, most));
   same = moved;

@@ -5,15 +5,15 @@ use Rattle.mesa_schema.specs.Changes.{epoch_of}
 use Rattle.mesa_batch.specs.Glance.{Known, Sight}
 use Rattle.mesa_record.specs.declared.record.Record.{Record}
 use Rattle.mesa_record.specs.declared.record.Record.TheVariants as record_of
-use Rattle.mesa_table.specs.mesa_image_spec.Catalog.{Catalog, Stock}
-use Rattle.mesa_table.specs.declared.relation.Relation.{Relation}
-use Rattle.mesa_table.specs.Lookups.{relation_in}
-use Rattle.mesa_table.specs.declared.table.Table.{Table}
+use Rattle.mesa_catalog_table.specs.mesa_store_spec.Catalog.{Catalog, TableMeta}
+use Rattle.mesa_catalog_table.specs.declared.relation.Relation.{Relation}
+use Rattle.mesa_catalog_table.specs.Lookups.{relation_in}
+use Rattle.mesa_catalog_table.specs.declared.table.Table.{Table}
 
 -- ---- relations
 
 -- the same among the tables from a number on
-abbrev pub relation_from : ℕ → List ℕ → List Stock → Option Relation
+abbrev pub relation_from : ℕ → List ℕ → List TableMeta → Option Relation
 relation_from number name [] = None
 relation_from number name (t ∷ tables) = option_or (relation_in number name t) (relation_from (number + 1) name tables)
 
@@ -24,7 +24,7 @@ relation_of c name = relation_from 0 name c.tables
 -- ---- the generation
 
 -- a table counts once, each of its views once, and each of its changes and recasts once
-abbrev pub changes_in : Stock → ℕ
+abbrev pub changes_in : TableMeta → ℕ
 changes_in t = 1 + length t.lineage.views + epoch_of t.lineage
 
 -- the same of a table that is held
@@ -50,7 +50,7 @@ turns_generation (record_of.Recast k) = 1
 
 -- ---- glances
 
-abbrev pub known_as : Stock → Known
+abbrev pub known_as : TableMeta → Known
 known_as t = record { name = t.name; lineage = t.lineage }
 
 -- the same of a table that is held

@@ -3,16 +3,16 @@ use Rattle.std.specs.Prelude.{◌≡◌, ℕ, ◌<◌, List, [], ◌∷◌, ◌+
 use Rattle.mesa_record.specs.declared.record.Part.{Part}
 use Rattle.mesa_record.specs.declared.record.Record.{Record}
 use Rattle.mesa_record.specs.declared.record.Record.TheVariants as record_of
-use Rattle.mesa_record.specs.declared.checkpoint.StatedSingle.{StatedSingle}
+use Rattle.mesa_record.specs.declared.checkpoint.CheckpointSingle.{CheckpointSingle}
 use Rattle.mesa_record.specs.declared.recasting.RecastBase.{RecastBase}
 use Rattle.mesa_record.specs.declared.recasting.Recasting.{Recasting}
-use Rattle.mesa_table.specs.mesa_image_spec.Fitting.{has_number, run_of_id}
-use Rattle.mesa_table.specs.mesa_image_spec.Ids.{times}
-use Rattle.mesa_table.specs.Named.{file_ids, ids_if_any, own_if_any, table_ids}
-use Rattle.mesa_catalog.specs.declared.shelves.Shelves.{Shelves}
+use Rattle.mesa_catalog_table.specs.mesa_store_spec.Fitting.{has_number, run_of_id}
+use Rattle.mesa_catalog_table.specs.mesa_store_spec.Ids.{times}
+use Rattle.mesa_catalog_table.specs.Named.{file_ids, ids_if_any, own_if_any, table_ids}
+use Rattle.mesa_catalog.specs.declared.catalog_tables.CatalogTables.{CatalogTables}
 
 -- The ids of all files that are held.
-abbrev pub held_ids : Shelves → List ℕ
+abbrev pub held_ids : CatalogTables → List ℕ
 held_ids s = flat_map table_ids s.tables.items
 
 abbrev pub part_ids : Part → List ℕ
@@ -23,7 +23,7 @@ abbrev pub recast_base_ids : Option RecastBase → List ℕ
 recast_base_ids None = []
 recast_base_ids (Some b) = own_if_any b.files
 
-abbrev pub told_id : StatedSingle → ℕ
+abbrev pub told_id : CheckpointSingle → ℕ
 told_id s = s.files.file.id
 
 abbrev pub recast_ids : Recasting → List ℕ

@@ -9,15 +9,15 @@ use Rattle.mesa_schema.specs.Views.{with_view}
 use Rattle.mesa_batch.specs.Totals.{totals_after, totals_with}
 use Rattle.mesa_record.specs.declared.record.Record.{Record}
 use Rattle.mesa_record.specs.declared.record.Record.TheVariants as record_of
-use Rattle.mesa_table.specs.mesa_image_spec.Catalog.{Catalog, new_stock, part_delta, stock_at}
-use Rattle.mesa_table.specs.mesa_image_spec.Fitting.{fits}
-use Rattle.mesa_table.specs.declared.table.Table.{Table}
-use Rattle.mesa_catalog.specs.declared.shelves.Shelves.{Shelves}
+use Rattle.mesa_catalog_table.specs.mesa_store_spec.Catalog.{Catalog, new_meta, part_delta, meta_at}
+use Rattle.mesa_catalog_table.specs.mesa_store_spec.Fitting.{fits}
+use Rattle.mesa_catalog_table.specs.declared.table.Table.{Table}
+use Rattle.mesa_catalog.specs.declared.catalog_tables.CatalogTables.{CatalogTables}
 use Rattle.mesa_catalog.specs.declared.ready.Ready.{Ready}
 use Rattle.mesa_catalog.specs.declared.ready.Ready.TheVariants as ready_of
-use Rattle.mesa_table.specs.declared.ready.ReadyPart.{ReadyPart}
-use Rattle.mesa_table.specs.Readied.{HasSpare, IsRecast, IsRoomier, part_in, recasting_in}
-use Rattle.mesa_table.specs.Meaning.{IsTable, stock_of, widths_of}
+use Rattle.mesa_catalog_table.specs.declared.ready.ReadyPart.{ReadyPart}
+use Rattle.mesa_catalog_table.specs.Readied.{HasSpare, IsRecast, IsRoomier, part_in, recasting_in}
+use Rattle.mesa_catalog_table.specs.Meaning.{IsTable, meta_of, widths_of}
 use Rattle.mesa_catalog.specs.Meaning.{catalogue_of}
 
 -- the last of a list, or this one where it is empty
@@ -46,30 +46,30 @@ record_in (ready_of.Recast table y) = record_of.Recast (recasting_in table y)
 -- a part's delta has its totals, and beside it stand the table's totals with them
 pub record IsMadePart (c : Catalog) (p : ReadyPart) : Type 0 where
   pub delta : p.delta.value ≡ part_delta (part_in p)
-  pub totals : p.totals ≡ totals_with (stock_at c p.table).totals (part_in p).totals
+  pub totals : p.totals ≡ totals_with (meta_at c p.table).totals (part_in p).totals
 
 -- the pieces of a record are made for this catalogue
 abbrev pub IsMade : Catalog → Ready → Type 0
 IsMade c (ready_of.Run number) = ⊤
-IsMade c (ready_of.Table t) = (stock_of c.next t ≡ new_stock c t.name t.evolving.value.first) × IsTable c.next t
-IsMade c (ready_of.View table e) = e.value ≡ with_view (stock_at c table).lineage (last_view e.value)
+IsMade c (ready_of.Table t) = (meta_of c.next t ≡ new_meta c t.name t.evolving.value.first) × IsTable c.next t
+IsMade c (ready_of.View table e) = e.value ≡ with_view (meta_at c table).lineage (last_view e.value)
 IsMade c (ready_of.Alter table e widths totals) =
-    (e.value ≡ with_change (stock_at c table).lineage (last_change e.value))
+    (e.value ≡ with_change (meta_at c table).lineage (last_change e.value))
     × (widths ≡ widths_of e.value)
-    × (totals ≡ totals_after (columns_of (stock_at c table).lineage) (last_change e.value) (stock_at c table).totals)
+    × (totals ≡ totals_after (columns_of (meta_at c table).lineage) (last_change e.value) (meta_at c table).totals)
 IsMade c (ready_of.Publish version parts) = AllByRecursion (IsMadePart c) parts.items
 IsMade c (ready_of.Swap table base from to d) = d.value.totals ≡ None
 IsMade c (ready_of.Expire version) = ⊤
 IsMade c (ready_of.ExpireTable table version) = ⊤
-IsMade c (ready_of.Recast table y) = IsRecast (stock_at c table).lineage (stock_at c table).totals y (recasting_in table y)
+IsMade c (ready_of.Recast table y) = IsRecast (meta_at c table).lineage (meta_at c table).totals y (recasting_in table y)
 
 -- there is room for a table more, and in each table for a delta more
-pub record HasRoom (s : Shelves) : Type 0 where
+pub record HasRoom (s : CatalogTables) : Type 0 where
   pub table : vec_len s.tables < vec_capacity s.tables
   pub deltas : AllByRecursion HasSpare s.tables.items
 
 -- A record that fits, with all that it takes to take it in without memory.
-pub record IsReady (s : Shelves) (y : Ready) : Type 0 where
+pub record IsReady (s : CatalogTables) (y : Ready) : Type 0 where
   pub fits : IsTrue (fits (catalogue_of s) (record_in y))
   pub room : HasRoom s
   pub made : IsMade (catalogue_of s) y

@@ -1,29 +1,29 @@
 // Taking a record in, without memory.
 ghost use Rattle.std.specs.Prelude.{◌≡◌, ◌<◌, ℕ, map};
 ghost use Rattle.std.specs.List.{AllByRecursion};
-ghost use Rattle.mesa_table.specs.mesa_image_spec.Catalog.{applied, stock_from};
+ghost use Rattle.mesa_catalog_table.specs.mesa_store_spec.Catalog.{applied, meta_from};
 ghost use Rattle.mesa_catalog.specs.declared.ready.Ready.TheVariants as ready_of;
-ghost use Rattle.mesa_catalog.specs.Meaning.{IsShelved, catalogue_of};
+ghost use Rattle.mesa_catalog.specs.Meaning.{AreCatalogTables, catalogue_of};
 ghost use Rattle.mesa_catalog.specs.Readied.{IsReady, record_in};
-ghost use Rattle.mesa_table.specs.Meaning.{IsTable, stock_of};
+ghost use Rattle.mesa_catalog_table.specs.Meaning.{IsTable, meta_of};
 
 mod loading;
 
 use crate::ready::Ready;
-use crate::shelves::Shelves;
+use crate::catalog_tables::CatalogTables;
 use loading::load;
 use mesa_list::Items;
 use mesa_schema::{Evolving, Totals};
-use mesa_table::{Delta, ReadyPart, ReadyRecast, Table, recast, swap};
+use mesa_catalog_table::{Delta, ReadyPart, ReadyRecast, Table, recast, swap};
 use std::sync::Arc;
 
-impl Shelves {
+impl CatalogTables {
     // Puts the pieces of a record in.
     pub(crate) fn take_in(&mut self, ready: Ready)
-        requires shelved { IsShelved self.old }
+        requires live_files { AreCatalogTables self.old }
         requires ready { IsReady self.old ready }
         ensures applied { catalogue_of self.new ≡ applied (catalogue_of self.old) (record_in ready) }
-        ensures shelved { IsShelved self.new }
+        ensures live_files { AreCatalogTables self.new }
     {
         match ready {
             Ready::Run { number } => self.run = number,
@@ -50,19 +50,19 @@ impl Shelves {
     }
 
     fn take_table(&mut self, made: Table)
-        requires shelved { IsShelved self.old }
+        requires live_files { AreCatalogTables self.old }
         requires ready { IsReady self.old (ready_of.Table made) }
         ensures applied { catalogue_of self.new ≡ applied (catalogue_of self.old) (record_in (ready_of.Table made)) }
-        ensures shelved { IsShelved self.new }
+        ensures live_files { AreCatalogTables self.new }
     {
         self.tables.push_reserved(made);
     }
 
     fn take_view(&mut self, table: u16, evolving: Arc<Evolving>)
-        requires shelved { IsShelved self.old }
+        requires live_files { AreCatalogTables self.old }
         requires ready { IsReady self.old (ready_of.View table evolving) }
         ensures applied { catalogue_of self.new ≡ applied (catalogue_of self.old) (record_in (ready_of.View table evolving)) }
-        ensures shelved { IsShelved self.new }
+        ensures live_files { AreCatalogTables self.new }
     {
         let table = &mut self.tables[table as usize];
         table.evolving = evolving;
@@ -75,10 +75,10 @@ impl Shelves {
         widths: Items<u8>,
         totals: Totals,
     )
-        requires shelved { IsShelved self.old }
+        requires live_files { AreCatalogTables self.old }
         requires ready { IsReady self.old (ready_of.Alter table evolving widths totals) }
         ensures applied { catalogue_of self.new ≡ applied (catalogue_of self.old) (record_in (ready_of.Alter table evolving widths totals)) }
-        ensures shelved { IsShelved self.new }
+        ensures live_files { AreCatalogTables self.new }
     {
         let table = &mut self.tables[table as usize];
         table.evolving = evolving;
@@ -87,50 +87,50 @@ impl Shelves {
     }
 
     fn take_batch(&mut self, version: u32, parts: Vec<ReadyPart>)
-        requires shelved { IsShelved self.old }
+        requires live_files { AreCatalogTables self.old }
         requires ready { IsReady self.old (ready_of.Publish version parts) }
         ensures applied { catalogue_of self.new ≡ applied (catalogue_of self.old) (record_in (ready_of.Publish version parts)) }
-        ensures shelved { IsShelved self.new }
+        ensures live_files { AreCatalogTables self.new }
     {
         load(&mut self.tables, version, parts);
         self.next += 1;
     }
 
     fn take_merged(&mut self, table: u16, base: bool, from: u32, to: u32, delta: Arc<Delta>)
-        requires shelved { IsShelved self.old }
+        requires live_files { AreCatalogTables self.old }
         requires ready { IsReady self.old (ready_of.Swap table base from to delta) }
         ensures applied { catalogue_of self.new ≡ applied (catalogue_of self.old) (record_in (ready_of.Swap table base from to delta)) }
-        ensures shelved { IsShelved self.new }
+        ensures live_files { AreCatalogTables self.new }
     {
         let table = &mut self.tables[table as usize];
         swap(table, base, to, delta);
     }
 
     fn take_floor(&mut self, version: u32)
-        requires shelved { IsShelved self.old }
+        requires live_files { AreCatalogTables self.old }
         requires ready { IsReady self.old (ready_of.Expire version) }
         ensures applied { catalogue_of self.new ≡ applied (catalogue_of self.old) (record_in (ready_of.Expire version)) }
-        ensures shelved { IsShelved self.new }
+        ensures live_files { AreCatalogTables self.new }
     {
         expire_tables(&mut self.tables, version);
         self.floor = version;
     }
 
     fn take_oldest(&mut self, table: u16, version: u32)
-        requires shelved { IsShelved self.old }
+        requires live_files { AreCatalogTables self.old }
         requires ready { IsReady self.old (ready_of.ExpireTable table version) }
         ensures applied { catalogue_of self.new ≡ applied (catalogue_of self.old) (record_in (ready_of.ExpireTable table version)) }
-        ensures shelved { IsShelved self.new }
+        ensures live_files { AreCatalogTables self.new }
     {
         let table = &mut self.tables[table as usize];
         table.expire(version);
     }
 
     fn take_recast(&mut self, table: u16, made: ReadyRecast)
-        requires shelved { IsShelved self.old }
+        requires live_files { AreCatalogTables self.old }
         requires ready { IsReady self.old (ready_of.Recast table made) }
         ensures applied { catalogue_of self.new ≡ applied (catalogue_of self.old) (record_in (ready_of.Recast table made)) }
-        ensures shelved { IsShelved self.new }
+        ensures live_files { AreCatalogTables self.new }
     {
         let table = &mut self.tables[table as usize];
         recast(table, made);
@@ -139,7 +139,7 @@ impl Shelves {
 
 // Lets the versions of each table below this one go.
 fn expire_tables(tables: &mut [Table], version: u32)
-    ensures stocks { (next : ℕ) → map (stock_of next) tables.new ≡ map (stock_from version) (map (stock_of next) tables.old) }
+    ensures metas { (next : ℕ) → map (meta_of next) tables.new ≡ map (meta_from version) (map (meta_of next) tables.old) }
     ensures tables { (next : ℕ) → version < next → AllByRecursion (IsTable next) tables.old → AllByRecursion (IsTable next) tables.new }
 {
     for table in tables.iter_mut() {

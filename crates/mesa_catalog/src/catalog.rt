@@ -1,23 +1,23 @@
 // The catalogue.
 ghost use Rattle.std.specs.Prelude.{◌≡◌, ◌+◌, None, Some, OnOk, OnErr, IsTrue, IfOk};
 ghost use Rattle.mesa_span.specs.Ranges.{base_before};
-ghost use Rattle.mesa_table.specs.mesa_image_spec.Catalog.{applied, empty_catalog};
-ghost use Rattle.mesa_table.specs.mesa_image_spec.Fitting.{brings_new_files, fits as fits_catalog, kind_fits};
+ghost use Rattle.mesa_catalog_table.specs.mesa_store_spec.Catalog.{applied, empty_catalog};
+ghost use Rattle.mesa_catalog_table.specs.mesa_store_spec.Fitting.{brings_new_files, fits as fits_catalog, kind_fits};
 ghost use Rattle.mesa_catalog.specs.Lookups.{generation_of, turns_generation};
 
 use crate::copying::share_tables;
 use crate::newness::{brings_new, brings_rising, greatest_with};
 use crate::ready::Ready;
 use crate::readying::make_room;
-use crate::shelves::Shelves;
+use crate::catalog_tables::CatalogTables;
 use mesa_record::Record;
-use mesa_table::NoRows;
+use mesa_catalog_table::NoRows;
 use std::alloc::{AllocError, Global};
 use std::marker::Model;
 
 /// The catalogue: the tables with their deltas and oldest versions, the floor, how many versions there are, and the last run. A version that brought a table nothing costs nothing.
 pub struct Catalog {
-    pub(crate) shelves: Shelves,
+    pub(crate) catalog_tables: CatalogTables,
     pub(crate) ready: Option<Ready>,
     // No file that is named has a greater id.
     pub(crate) greatest: u64,
@@ -30,16 +30,16 @@ impl Model for Catalog {
 
     ghost Value = { Reserved };
 
-    ghost view = { λ c. reserved_of c.shelves c.ready };
+    ghost view = { λ c. reserved_of c.catalog_tables c.ready };
 
-    ghost invariant = { λ c. IsKept c.shelves c.ready c.greatest };
+    ghost invariant = { λ c. IsKept c.catalog_tables c.ready c.greatest };
 }
 
 // Each exit calls this, in place of letting go of each part itself.
 impl Drop for Catalog {
     fn drop(self) {
         let Catalog {
-            shelves: _,
+            catalog_tables: _,
             ready: _,
             greatest: _,
             no_rows: _,
@@ -53,7 +53,7 @@ impl Catalog {
         ensures { result ≡ record { catalogue = empty_catalog; reserved = None } }
     {
         Catalog {
-            shelves: Shelves {
+            catalog_tables: CatalogTables {
                 tables: Vec::new(alloc),
                 floor: 0,
                 next: 0,
@@ -69,13 +69,13 @@ impl Catalog {
     pub fn copy(&self, alloc: Global) -> Result<Catalog, AllocError>
         ensures { IfOk result (λ copy. copy ≡ record { catalogue = self.now.catalogue; reserved = None }) }
     {
-        let tables = share_tables(alloc, &self.shelves.tables)?;
+        let tables = share_tables(alloc, &self.catalog_tables.tables)?;
         let copy = Catalog {
-            shelves: Shelves {
+            catalog_tables: CatalogTables {
                 tables,
-                floor: self.shelves.floor,
-                next: self.shelves.next,
-                run: self.shelves.run,
+                floor: self.catalog_tables.floor,
+                next: self.catalog_tables.next,
+                run: self.catalog_tables.run,
             },
             ready: None,
             greatest: self.greatest,
@@ -88,21 +88,21 @@ impl Catalog {
     pub fn floor(&self) -> u32
         ensures { result ≡ self.now.catalogue.floor }
     {
-        self.shelves.floor
+        self.catalog_tables.floor
     }
 
     /// The newest version.
     pub fn newest(&self) -> Option<u32>
         ensures { result ≡ base_before self.now.catalogue.next }
     {
-        self.shelves.next.checked_sub(1)
+        self.catalog_tables.next.checked_sub(1)
     }
 
     /// The number of the last run, 0 before the first.
     pub fn run(&self) -> u32
         ensures { result ≡ self.now.catalogue.run }
     {
-        self.shelves.run
+        self.catalog_tables.run
     }
 }
 
@@ -111,7 +111,7 @@ impl Catalog {
     pub fn allows(&self, r: &Record) -> bool
         ensures { result ≡ kind_fits self.now.catalogue r.now }
     {
-        self.shelves.allows(r)
+        self.catalog_tables.allows(r)
     }
 
     /// Whether a record fits: it keeps the rules of its kind, and its files are new. Takes no memory. What a run adopts has rising ids, so that the test costs what the record brings; only other ids are looked for among all that are named.
@@ -125,10 +125,10 @@ impl Catalog {
     fn brings_new_files(&self, r: &Record) -> bool
         ensures { result ≡ brings_new_files self.now.catalogue r.now }
     {
-        if brings_rising(self.shelves.run, self.greatest, r) {
+        if brings_rising(self.catalog_tables.run, self.greatest, r) {
             return true;
         }
-        brings_new(&self.shelves, r)
+        brings_new(&self.catalog_tables, r)
     }
 
     /// Takes all memory that it takes to take in a record. Another record that was reserved for is forgotten.
@@ -138,8 +138,8 @@ impl Catalog {
         ensures reserved { OnOk result (self.new.reserved ≡ Some r.now) }
         ensures err { OnErr result (self.new ≡ self.old) }
     {
-        make_room(&mut self.shelves)?;
-        let ready = self.shelves.make_ready(r)?;
+        make_room(&mut self.catalog_tables)?;
+        let ready = self.catalog_tables.make_ready(r)?;
         self.ready = Some(ready);
         Ok(())
     }
@@ -153,7 +153,7 @@ impl Catalog {
     {
         if let Some(ready) = self.ready.take() {
             self.greatest = greatest_with(self.greatest, &r);
-            self.shelves.take_in(ready);
+            self.catalog_tables.take_in(ready);
         }
     }
 }

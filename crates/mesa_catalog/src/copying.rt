@@ -1,14 +1,14 @@
 // Copies of all tables, which share their deltas.
 ghost use Rattle.std.specs.Prelude.{◌≡◌, ℕ, IfOk, map};
 ghost use Rattle.std.specs.List.{AllByRecursion};
-ghost use Rattle.mesa_table.specs.Meaning.{IsTable, stock_of};
+ghost use Rattle.mesa_catalog_table.specs.Meaning.{IsTable, meta_of};
 
-use mesa_table::{Table, share_table};
+use mesa_catalog_table::{Table, share_table};
 use std::alloc::{AllocError, Global};
 
 // The same tables. Their deltas aren't copied: a copy is a list of pointers to them.
 pub(crate) fn share_tables(alloc: Global, tables: &[Table]) -> Result<Vec<Table>, AllocError>
-    ensures same { (next : ℕ) → IfOk result (λ shared. map (stock_of next) shared.items ≡ map (stock_of next) tables.now) }
+    ensures same { (next : ℕ) → IfOk result (λ shared. map (meta_of next) shared.items ≡ map (meta_of next) tables.now) }
     ensures tables { (next : ℕ) → AllByRecursion (IsTable next) tables.now → IfOk result (λ shared. AllByRecursion (IsTable next) shared.items) }
 {
     let mut shared = Vec::with_capacity(alloc, tables.len())?;

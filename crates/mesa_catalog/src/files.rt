@@ -1,20 +1,20 @@
 // The files that a catalogue names.
 ghost use Rattle.std.specs.Prelude.{◌≡◌, ◌++◌, ◌≤◌, ◌^◌, ℕ, flat_map, map, true, IfOk, IsTrue, OnOk};
 ghost use Rattle.std.specs.List.{AllByRecursion};
-ghost use Rattle.mesa_table.specs.mesa_image_spec.Catalog.{stock_at};
-ghost use Rattle.mesa_table.specs.mesa_image_spec.Fitting.{fits as fits_catalog, is_there, kind_fits, stock_shelved};
-ghost use Rattle.mesa_table.specs.mesa_image_spec.Ids.{dropped_ids, named, recast_dropped};
-ghost use Rattle.mesa_table.specs.declared.table.Table.{Table as Held};
-ghost use Rattle.mesa_table.specs.Files.{AreRecorded, recorded_of};
-ghost use Rattle.mesa_table.specs.Meaning.{IsTable, stock_of};
-ghost use Rattle.mesa_table.specs.Named.{table_ids};
-ghost use Rattle.mesa_catalog.specs.Meaning.{IsShelved, catalogue_of};
+ghost use Rattle.mesa_catalog_table.specs.mesa_store_spec.Catalog.{meta_at};
+ghost use Rattle.mesa_catalog_table.specs.mesa_store_spec.Fitting.{fits as fits_catalog, is_there, kind_fits, meta_live};
+ghost use Rattle.mesa_catalog_table.specs.mesa_store_spec.Ids.{dropped_ids, named, recast_dropped};
+ghost use Rattle.mesa_catalog_table.specs.declared.table.Table.{Table as Held};
+ghost use Rattle.mesa_catalog_table.specs.Files.{AreRecorded, recorded_of};
+ghost use Rattle.mesa_catalog_table.specs.Meaning.{IsTable, meta_of};
+ghost use Rattle.mesa_catalog_table.specs.Named.{table_ids};
+ghost use Rattle.mesa_catalog.specs.Meaning.{AreCatalogTables, catalogue_of};
 
 use crate::Catalog;
-use crate::shelves::Shelves;
+use crate::catalog_tables::CatalogTables;
 use mesa_file::FileId;
 use mesa_record::Record;
-use mesa_table::{Recorded, Table};
+use mesa_catalog_table::{Recorded, Table};
 use std::alloc::{AllocError, Global};
 
 impl Catalog {
@@ -23,7 +23,7 @@ impl Catalog {
         ensures { IfOk result (λ ids. ids.items ≡ named self.now.catalogue) }
     {
         let mut ids = Vec::new(alloc);
-        push_ids(&self.shelves.tables, &mut ids)?;
+        push_ids(&self.catalog_tables.tables, &mut ids)?;
         Ok(ids)
     }
 
@@ -32,7 +32,7 @@ impl Catalog {
         ensures { IfOk result (λ files. AreRecorded self.now.catalogue files.items) }
     {
         let mut files = Vec::new(alloc);
-        push_recorded(&self.shelves.tables, &mut files)?;
+        push_recorded(&self.catalog_tables.tables, &mut files)?;
         files.sort_unstable_by_key(|file| file.id.number());
         Ok(files)
     }
@@ -43,14 +43,14 @@ impl Catalog {
         ensures { IfOk result (λ ids. ids.items ≡ dropped_ids self.now.catalogue r.now) }
     {
         let mut ids = Vec::new(alloc);
-        self.shelves.push_dropped(r, &mut ids)?;
+        self.catalog_tables.push_dropped(r, &mut ids)?;
         Ok(ids)
     }
 }
 
-impl Shelves {
+impl CatalogTables {
     fn push_dropped(&self, r: &Record, ids: &mut Vec<FileId>) -> Result<(), AllocError>
-        requires shelved { IsShelved self.now }
+        requires live_files { AreCatalogTables self.now }
         requires fits { IsTrue (kind_fits (catalogue_of self.now) r.now) }
         ensures { OnOk result (ids.new.items ≡ ids.old.items ++ dropped_ids (catalogue_of self.now) r.now) }
     {
@@ -80,9 +80,9 @@ impl Shelves {
     }
 
     fn push_recast_ids(&self, table: u16, ids: &mut Vec<FileId>) -> Result<(), AllocError>
-        requires shelved { IsShelved self.now }
+        requires live_files { AreCatalogTables self.now }
         requires there { is_there (catalogue_of self.now) table ≡ true }
-        ensures { OnOk result (ids.new.items ≡ ids.old.items ++ recast_dropped (stock_at (catalogue_of self.now) table)) }
+        ensures { OnOk result (ids.new.items ≡ ids.old.items ++ recast_dropped (meta_at (catalogue_of self.now) table)) }
     {
         self.table(table).push_recast_ids(ids)
     }
@@ -100,7 +100,7 @@ pub(crate) fn push_ids(tables: &[Table], ids: &mut Vec<FileId>) -> Result<(), Al
 
 fn push_recorded(tables: &[Table], files: &mut Vec<Recorded>) -> Result<(), AllocError>
     requires { (next : ℕ) × AllByRecursion (IsTable next) tables.now }
-    ensures { (next : ℕ) → OnOk result (files.new.items ≡ files.old.items ++ flat_map (λ (t : Held). map recorded_of (stock_shelved (stock_of next t))) tables.now) }
+    ensures { (next : ℕ) → OnOk result (files.new.items ≡ files.old.items ++ flat_map (λ (t : Held). map recorded_of (meta_live (meta_of next t))) tables.now) }
 {
     for table in tables {
         table.push_recorded(files)?;

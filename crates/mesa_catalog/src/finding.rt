@@ -3,11 +3,11 @@ ghost use Rattle.std.specs.Prelude.{◌≡◌, ◌≤◌, length};
 ghost use Rattle.mesa_catalog.specs.Lookups.{relation_of};
 ghost use Rattle.mesa_catalog.specs.Meaning.{catalogue_of};
 
-use crate::shelves::Shelves;
+use crate::catalog_tables::CatalogTables;
 use mesa_schema::Name;
-use mesa_table::Relation;
+use mesa_catalog_table::Relation;
 
-impl Shelves {
+impl CatalogTables {
     // The table or the view of a name.
     pub(crate) fn find(&self, name: &Name) -> Option<Relation>
         requires { length self.now.tables.items ≤ 32 }

@@ -1,15 +1,15 @@
 // Which records keep the rules of their kind. Takes no memory.
 ghost use Rattle.std.specs.Prelude.{◌≡◌, ◌&&◌};
 ghost use Rattle.std.specs.List.{list_all};
-ghost use Rattle.mesa_table.specs.mesa_image_spec.Catalog.{stock_at};
-ghost use Rattle.mesa_table.specs.mesa_image_spec.Fitting.{alter_fits, expire_fits, is_new_name, is_there, kind_fits, may_be_work, part_fits, publish_fits, recast_fits, run_fits, swap_fits, table_fits, view_fits};
-ghost use Rattle.mesa_catalog.specs.Meaning.{IsShelved, catalogue_of};
-ghost use Rattle.mesa_table.specs.Meaning.{IsTable, stock_of};
+ghost use Rattle.mesa_catalog_table.specs.mesa_store_spec.Catalog.{meta_at};
+ghost use Rattle.mesa_catalog_table.specs.mesa_store_spec.Fitting.{alter_fits, expire_fits, is_new_name, is_there, kind_fits, may_be_work, part_fits, publish_fits, recast_fits, run_fits, swap_fits, table_fits, view_fits};
+ghost use Rattle.mesa_catalog.specs.Meaning.{AreCatalogTables, catalogue_of};
+ghost use Rattle.mesa_catalog_table.specs.Meaning.{IsTable, meta_of};
 
-use crate::shelves::{MAX_TABLES, Shelves};
+use crate::catalog_tables::{MAX_TABLES, CatalogTables};
 use mesa_record::{Files, Part, Recasting, Record};
 use mesa_schema::{Change, KeyColumn, MAX_VIEWS, Name, Schema, ValueColumn};
-use mesa_table::{
+use mesa_catalog_table::{
     Table, allows_recast, counts_files, counts_files_if_any, counts_totals, keeps_bound,
     may_be_base, may_be_cumulative,
 };
@@ -17,10 +17,10 @@ use mesa_table::{
 // The number of the last run that there may be.
 pub(crate) const MAX_RUNS: u32 = (1 << 24) - 1;
 
-impl Shelves {
+impl CatalogTables {
     // Whether a record keeps the rules of its kind.
     pub(crate) fn allows(&self, r: &Record) -> bool
-        requires { IsShelved self.now }
+        requires { AreCatalogTables self.now }
         ensures { result ≡ kind_fits (catalogue_of self.now) r.now }
     {
         match r {
@@ -59,14 +59,14 @@ impl Shelves {
     }
 
     fn allows_table(&self, name: &Name, keys: &[KeyColumn], values: &[ValueColumn]) -> bool
-        requires { IsShelved self.now }
+        requires { AreCatalogTables self.now }
         ensures { result ≡ table_fits (catalogue_of self.now) name.now (record { keys = keys.now; values = values.now }) }
     {
         self.is_new_name(name) && Schema::allows(keys, values) && self.tables.len() < MAX_TABLES
     }
 
     fn allows_view(&self, table: u16, name: &Name, keys: &[Name], values: &[Name]) -> bool
-        requires { IsShelved self.now }
+        requires { AreCatalogTables self.now }
         ensures { result ≡ view_fits (catalogue_of self.now) table name.now keys.now values.now }
     {
         match self.get(table) {
@@ -80,7 +80,7 @@ impl Shelves {
     }
 
     fn allows_change(&self, table: u16, change: &Change) -> bool
-        requires { IsShelved self.now }
+        requires { AreCatalogTables self.now }
         ensures { result ≡ alter_fits (catalogue_of self.now) table change.now }
     {
         match self.get(table) {
@@ -90,22 +90,22 @@ impl Shelves {
     }
 
     fn allows_batch(&self, version: u32, parts: &[Part]) -> bool
-        requires { IsShelved self.now }
+        requires { AreCatalogTables self.now }
         ensures { result ≡ publish_fits (catalogue_of self.now) version parts.now }
     {
         version == self.next && version < u32::MAX && self.allows_parts(parts)
     }
 
     fn allows_parts(&self, parts: &[Part]) -> bool
-        requires { IsShelved self.now }
-        ensures { result ≡ list_all (λ p. is_there (catalogue_of self.now) p.table && part_fits (stock_at (catalogue_of self.now) p.table) p) parts.now }
+        requires { AreCatalogTables self.now }
+        ensures { result ≡ list_all (λ p. is_there (catalogue_of self.now) p.table && part_fits (meta_at (catalogue_of self.now) p.table) p) parts.now }
     {
         parts.iter().all(|part| self.allows_part(part))
     }
 
     fn allows_part(&self, part: &Part) -> bool
-        requires { IsShelved self.now }
-        ensures { result ≡ (is_there (catalogue_of self.now) part.now.table && part_fits (stock_at (catalogue_of self.now) part.now.table) part.now) }
+        requires { AreCatalogTables self.now }
+        ensures { result ≡ (is_there (catalogue_of self.now) part.now.table && part_fits (meta_at (catalogue_of self.now) part.now.table) part.now) }
     {
         match self.get(part.table) {
             None => false,
@@ -127,8 +127,8 @@ impl Shelves {
         epoch: u32,
         files: &Option<Files>,
     ) -> bool
-        requires { IsShelved self.now }
-        ensures { result ≡ (is_there (catalogue_of self.now) table && swap_fits (catalogue_of self.now) (stock_at (catalogue_of self.now) table) base from to epoch files.now) }
+        requires { AreCatalogTables self.now }
+        ensures { result ≡ (is_there (catalogue_of self.now) table && swap_fits (catalogue_of self.now) (meta_at (catalogue_of self.now) table) base from to epoch files.now) }
     {
         match self.get(table) {
             None => false,
@@ -148,8 +148,8 @@ impl Shelves {
     }
 
     fn allows_table_expiry(&self, table: u16, version: u32) -> bool
-        requires { IsShelved self.now }
-        ensures { result ≡ (is_there (catalogue_of self.now) table && expire_fits (catalogue_of self.now) (stock_at (catalogue_of self.now) table).oldest version) }
+        requires { AreCatalogTables self.now }
+        ensures { result ≡ (is_there (catalogue_of self.now) table && expire_fits (catalogue_of self.now) (meta_at (catalogue_of self.now) table).oldest version) }
     {
         match self.get(table) {
             None => false,
@@ -158,8 +158,8 @@ impl Shelves {
     }
 
     fn allows_renewal(&self, told: &Recasting) -> bool
-        requires { IsShelved self.now }
-        ensures { result ≡ (is_there (catalogue_of self.now) told.now.table && recast_fits (stock_at (catalogue_of self.now) told.now.table) told.now) }
+        requires { AreCatalogTables self.now }
+        ensures { result ≡ (is_there (catalogue_of self.now) told.now.table && recast_fits (meta_at (catalogue_of self.now) told.now.table) told.now) }
     {
         match self.get(told.table) {
             None => false,
@@ -169,7 +169,7 @@ impl Shelves {
 
     fn may_recast(&self, t: &Table, told: &Recasting) -> bool
         requires { IsTable self.now.next t.now }
-        ensures { result ≡ recast_fits (stock_of self.now.next t.now) told.now }
+        ensures { result ≡ recast_fits (meta_of self.now.next t.now) told.now }
     {
         allows_recast(t, told)
     }
@@ -177,7 +177,7 @@ impl Shelves {
     // Whether work may give this range.
     fn may_be_work(&self, t: &Table, base: bool, from: u32, to: u32) -> bool
         requires { IsTable self.now.next t.now }
-        ensures { result ≡ may_be_work (catalogue_of self.now) (stock_of self.now.next t.now) base from to }
+        ensures { result ≡ may_be_work (catalogue_of self.now) (meta_of self.now.next t.now) base from to }
     {
         if base {
             return may_be_base(t, from, to);
@@ -187,7 +187,7 @@ impl Shelves {
 
     // Whether no table and no view has this name.
     fn is_new_name(&self, name: &Name) -> bool
-        requires { IsShelved self.now }
+        requires { AreCatalogTables self.now }
         ensures { result ≡ is_new_name (catalogue_of self.now) name.now }
     {
         self.find(name).is_none()

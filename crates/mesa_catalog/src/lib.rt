@@ -15,9 +15,9 @@ mod ready;
 mod readying;
 mod restored_ids;
 mod restoring;
-mod shelves;
+mod catalog_tables;
 mod stating;
 
 pub use begun::Begun;
 pub use catalog::Catalog;
-pub use mesa_table::{Delta, Recorded, Relation};
+pub use mesa_catalog_table::{Delta, Recorded, Relation};

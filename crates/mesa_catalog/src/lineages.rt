@@ -7,7 +7,7 @@ ghost use Rattle.mesa_schema.specs.Views.{with_view};
 
 use mesa_list::{Items, TryCopy};
 use mesa_schema::{Change, Evolving, KeyColumn, MAX_VIEWS, Name, Schema, ValueColumn};
-use mesa_table::width_of;
+use mesa_catalog_table::width_of;
 use std::alloc::{AllocError, Global};
 use std::sync::Arc;
 

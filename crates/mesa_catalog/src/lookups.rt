@@ -3,9 +3,9 @@ ghost use Rattle.std.specs.Prelude.{◌≡◌, ◌<◌, ◌≤◌, ◌^◌, IfOk
 ghost use Rattle.std.specs.Option.{option_copied};
 ghost use Rattle.mesa_span.specs.Ranges.{IsInOrder};
 ghost use Rattle.mesa_batch.specs.Numbers.{known_of};
-ghost use Rattle.mesa_table.specs.mesa_image_spec.Catalog.{ranges_of, stock_at};
-ghost use Rattle.mesa_table.specs.Meaning.{IsTable, stock_of};
-ghost use Rattle.mesa_table.specs.Ranged.{delta_at};
+ghost use Rattle.mesa_catalog_table.specs.mesa_store_spec.Catalog.{ranges_of, meta_at};
+ghost use Rattle.mesa_catalog_table.specs.Meaning.{IsTable, meta_of};
+ghost use Rattle.mesa_catalog_table.specs.Ranged.{delta_at};
 ghost use Rattle.mesa_catalog.specs.Lookups.{changes_of, generation_of, known_in, relation_of, sight_of};
 
 use crate::Catalog;
@@ -13,7 +13,7 @@ use mesa_batch::{Glance, Glanced};
 use mesa_list::TryCopy;
 use mesa_schema::{Evolving, Name, Totals};
 use mesa_span::Ranges;
-use mesa_table::{Delta, Relation, Table, ranges};
+use mesa_catalog_table::{Delta, Relation, Table, ranges};
 use std::alloc::{AllocError, Global};
 use std::sync::Arc;
 
@@ -22,93 +22,93 @@ impl Catalog {
     pub fn tables(&self) -> u16
         ensures { result ≡ length self.now.catalogue.tables }
     {
-        self.shelves.tables.len() as u16
+        self.catalog_tables.tables.len() as u16
     }
 
     /// How often tables, views and columns were made or changed.
     pub fn generation(&self) -> u64
         ensures { result ≡ generation_of self.now.catalogue }
     {
-        generation(&self.shelves.tables)
+        generation(&self.catalog_tables.tables)
     }
 
     /// The table or the view of a name.
     pub fn find(&self, name: &Name) -> Option<Relation>
         ensures { result ≡ relation_of self.now.catalogue name.now }
     {
-        self.shelves.find(name)
+        self.catalog_tables.find(name)
     }
 
     /// The name of the table of a number.
     pub fn name(&self, table: u16) -> &Name
         requires { table < length self.now.catalogue.tables }
-        ensures { result.now ≡ (stock_at self.now.catalogue table).name }
+        ensures { result.now ≡ (meta_at self.now.catalogue table).name }
     {
-        &self.shelves.tables[table as usize].name
+        &self.catalog_tables.tables[table as usize].name
     }
 
     /// The table of a number, as it is held.
     pub fn table(&self, table: u16) -> &Table
         requires { table < length self.now.catalogue.tables }
-        ensures stock { stock_of self.now.catalogue.next result.now ≡ stock_at self.now.catalogue table }
+        ensures meta { meta_of self.now.catalogue.next result.now ≡ meta_at self.now.catalogue table }
         ensures held { IsTable self.now.catalogue.next result.now }
         ensures few { self.now.catalogue.next < 2 ^ 32 }
     {
-        self.shelves.table(table)
+        self.catalog_tables.table(table)
     }
 
     /// The delta of just these versions of the table of a number, if there is one: the base, a cumulative, or the singleton of one version.
     pub fn delta(&self, table: u16, from: u32, to: u32) -> Option<&Delta>
         requires { table < length self.now.catalogue.tables }
-        ensures { option_copied result ≡ delta_at (stock_at self.now.catalogue table) from to }
+        ensures { option_copied result ≡ delta_at (meta_at self.now.catalogue table) from to }
     {
         self.table(table)
-            .delta(self.shelves.next, &self.no_rows, from, to)
+            .delta(self.catalog_tables.next, &self.no_rows, from, to)
     }
 
     /// The oldest version at which the table of a number can be queried.
     pub fn oldest(&self, table: u16) -> u32
         requires { table < length self.now.catalogue.tables }
-        ensures { result ≡ (stock_at self.now.catalogue table).oldest }
+        ensures { result ≡ (meta_at self.now.catalogue table).oldest }
     {
-        self.shelves.tables[table as usize].oldest
+        self.catalog_tables.tables[table as usize].oldest
     }
 
     /// The columns of the table of a number, through its life, and its views.
     pub fn evolving(&self, table: u16) -> &Arc<Evolving>
         requires { table < length self.now.catalogue.tables }
-        ensures { result.now.value ≡ (stock_at self.now.catalogue table).lineage }
+        ensures { result.now.value ≡ (meta_at self.now.catalogue table).lineage }
     {
-        &self.shelves.tables[table as usize].evolving
+        &self.catalog_tables.tables[table as usize].evolving
     }
 
     /// The absolute totals of the table of a number, one for each sum column.
     pub fn totals(&self, table: u16) -> &Totals
         requires { table < length self.now.catalogue.tables }
-        ensures { result.now ≡ (stock_at self.now.catalogue table).totals }
+        ensures { result.now ≡ (meta_at self.now.catalogue table).totals }
     {
-        &self.shelves.tables[table as usize].totals
+        &self.catalog_tables.tables[table as usize].totals
     }
 
     /// The ranges of a table's deltas.
     pub fn ranges(&self, table: u16) -> Result<Ranges, AllocError>
         requires { table < length self.now.catalogue.tables }
-        ensures ranges { IfOk result (λ r. r ≡ ranges_of (stock_at self.now.catalogue table)) }
+        ensures ranges { IfOk result (λ r. r ≡ ranges_of (meta_at self.now.catalogue table)) }
         ensures in_order { IfOk result IsInOrder }
     {
-        let alloc = *self.shelves.tables.allocator();
-        ranges(alloc, self.shelves.table(table))
+        let alloc = *self.catalog_tables.tables.allocator();
+        ranges(alloc, self.catalog_tables.table(table))
     }
 
     /// What a load sees of the catalogue.
     pub fn glance(&self) -> Result<Glance, AllocError>
         ensures { IfOk result (λ g. g ≡ sight_of self.now.catalogue) }
     {
-        let alloc = *self.shelves.tables.allocator();
+        let alloc = *self.catalog_tables.tables.allocator();
         Glance::new(
             alloc,
             self.generation(),
-            glanced(alloc, &self.shelves.tables)?,
+            glanced(alloc, &self.catalog_tables.tables)?,
         )
     }
 }

@@ -1,18 +1,18 @@
 // Whether the files that a record brings are new. Takes no memory.
 ghost use Rattle.std.specs.Prelude.{◌≡◌, ◌==◌, ◌^◌, ◌-◌, ◌≤◌, ◌<◌, [], ◌∷◌, ℕ, flat_map, count_by, map, min, IfSome, IsTrue};
 ghost use Rattle.std.specs.List.{list_all, list_any, AllByRecursion};
-ghost use Rattle.mesa_record.specs.declared.checkpoint.StatedSingle.{StatedSingle as Told};
+ghost use Rattle.mesa_record.specs.declared.checkpoint.CheckpointSingle.{CheckpointSingle as Told};
 ghost use Rattle.mesa_record.specs.declared.record.ViewRef.{ViewRef as Seen};
-ghost use Rattle.mesa_table.specs.mesa_image_spec.Fitting.{are_new_ids, has_number};
-ghost use Rattle.mesa_table.specs.mesa_image_spec.Ids.{times as times_of};
-ghost use Rattle.mesa_table.specs.declared.table.Table.{Table as Held};
-ghost use Rattle.mesa_table.specs.Named.{file_ids, own_if_any, table_ids, view_id};
+ghost use Rattle.mesa_catalog_table.specs.mesa_store_spec.Fitting.{are_new_ids, has_number};
+ghost use Rattle.mesa_catalog_table.specs.mesa_store_spec.Ids.{times as times_of};
+ghost use Rattle.mesa_catalog_table.specs.declared.table.Table.{Table as Held};
+ghost use Rattle.mesa_catalog_table.specs.Named.{file_ids, own_if_any, table_ids, view_id};
 ghost use Rattle.mesa_catalog.specs.Named.{RiseTo, held_ids, ids_brought, is_once_new, part_ids, recast_base_ids, recast_ids, told_id};
 
-use crate::shelves::Shelves;
+use crate::catalog_tables::CatalogTables;
 use mesa_file::FileId;
-use mesa_record::{Files, Part, RecastBase, Recasting, Record, StatedSingle, ViewRef};
-use mesa_table::Table;
+use mesa_record::{Files, Part, RecastBase, Recasting, Record, CheckpointSingle, ViewRef};
+use mesa_catalog_table::Table;
 
 // How many ids of files a run has.
 pub(crate) const IDS_OF_RUN: u64 = 1 << 40;
@@ -93,7 +93,7 @@ fn own_rises(run: u32, above: u64, files: &Option<Files>) -> Option<u64>
     }
 }
 
-fn singles_rise(run: u32, above: u64, singles: &[StatedSingle]) -> Option<u64>
+fn singles_rise(run: u32, above: u64, singles: &[CheckpointSingle]) -> Option<u64>
     ensures { IfSome result (RiseTo run above (map told_id singles.now)) }
 {
     let mut last = above;
@@ -113,16 +113,16 @@ fn id_rises(run: u32, above: u64, id: FileId) -> Option<u64>
 // ---- any ids
 
 // Whether the files that a record brings have new ids, of the last run.
-pub(crate) fn brings_new(shelves: &Shelves, r: &Record) -> bool
-    ensures { result ≡ are_new_ids shelves.now.run (held_ids shelves.now) (ids_brought r.now) }
+pub(crate) fn brings_new(catalog_tables: &CatalogTables, r: &Record) -> bool
+    ensures { result ≡ are_new_ids catalog_tables.now.run (held_ids catalog_tables.now) (ids_brought r.now) }
 {
     match r {
-        Record::Publish { parts, .. } => parts_are_new(shelves, r, parts.as_slice()),
+        Record::Publish { parts, .. } => parts_are_new(catalog_tables, r, parts.as_slice()),
         Record::Swap { files, .. } => match files {
-            Some(files) => files_are_new(shelves, r, files),
+            Some(files) => files_are_new(catalog_tables, r, files),
             None => true,
         },
-        Record::Recast(told) => recast_is_new(shelves, r, told),
+        Record::Recast(told) => recast_is_new(catalog_tables, r, told),
         Record::Run { .. }
         | Record::Table { .. }
         | Record::View { .. }
@@ -133,69 +133,69 @@ pub(crate) fn brings_new(shelves: &Shelves, r: &Record) -> bool
     }
 }
 
-fn parts_are_new(shelves: &Shelves, r: &Record, parts: &[Part]) -> bool
-    ensures { result ≡ list_all (λ p. list_all (is_once_new shelves.now.run (held_ids shelves.now) (ids_brought r.now)) (file_ids p.files)) parts.now }
+fn parts_are_new(catalog_tables: &CatalogTables, r: &Record, parts: &[Part]) -> bool
+    ensures { result ≡ list_all (λ p. list_all (is_once_new catalog_tables.now.run (held_ids catalog_tables.now) (ids_brought r.now)) (file_ids p.files)) parts.now }
 {
     parts
         .iter()
-        .all(|part| files_are_new(shelves, r, &part.files))
+        .all(|part| files_are_new(catalog_tables, r, &part.files))
 }
 
 // Whether each id of these files is new, and stands once among those of the record.
-fn files_are_new(shelves: &Shelves, r: &Record, files: &Files) -> bool
-    ensures { result ≡ list_all (is_once_new shelves.now.run (held_ids shelves.now) (ids_brought r.now)) (file_ids files.now) }
+fn files_are_new(catalog_tables: &CatalogTables, r: &Record, files: &Files) -> bool
+    ensures { result ≡ list_all (is_once_new catalog_tables.now.run (held_ids catalog_tables.now) (ids_brought r.now)) (file_ids files.now) }
 {
-    is_new(shelves, r, files.file.id.number()) && views_are_new(shelves, r, files.views.as_slice())
+    is_new(catalog_tables, r, files.file.id.number()) && views_are_new(catalog_tables, r, files.views.as_slice())
 }
 
-fn views_are_new(shelves: &Shelves, r: &Record, views: &[ViewRef]) -> bool
-    ensures { result ≡ list_all (λ (v : Seen). is_once_new shelves.now.run (held_ids shelves.now) (ids_brought r.now) v.file.id) views.now }
+fn views_are_new(catalog_tables: &CatalogTables, r: &Record, views: &[ViewRef]) -> bool
+    ensures { result ≡ list_all (λ (v : Seen). is_once_new catalog_tables.now.run (held_ids catalog_tables.now) (ids_brought r.now) v.file.id) views.now }
 {
     views
         .iter()
-        .all(|view| is_new(shelves, r, view.file.id.number()))
+        .all(|view| is_new(catalog_tables, r, view.file.id.number()))
 }
 
-fn recast_is_new(shelves: &Shelves, r: &Record, told: &Recasting) -> bool
-    ensures { result ≡ list_all (is_once_new shelves.now.run (held_ids shelves.now) (ids_brought r.now)) (recast_ids told.now) }
+fn recast_is_new(catalog_tables: &CatalogTables, r: &Record, told: &Recasting) -> bool
+    ensures { result ≡ list_all (is_once_new catalog_tables.now.run (held_ids catalog_tables.now) (ids_brought r.now)) (recast_ids told.now) }
 {
-    base_is_new(shelves, r, &told.base) && singles_are_new(shelves, r, told.singles.as_slice())
+    base_is_new(catalog_tables, r, &told.base) && singles_are_new(catalog_tables, r, told.singles.as_slice())
 }
 
-fn base_is_new(shelves: &Shelves, r: &Record, base: &Option<RecastBase>) -> bool
-    ensures { result ≡ list_all (is_once_new shelves.now.run (held_ids shelves.now) (ids_brought r.now)) (recast_base_ids base.now) }
+fn base_is_new(catalog_tables: &CatalogTables, r: &Record, base: &Option<RecastBase>) -> bool
+    ensures { result ≡ list_all (is_once_new catalog_tables.now.run (held_ids catalog_tables.now) (ids_brought r.now)) (recast_base_ids base.now) }
 {
     match base {
         None => true,
-        Some(base) => own_is_new(shelves, r, &base.files),
+        Some(base) => own_is_new(catalog_tables, r, &base.files),
     }
 }
 
-fn own_is_new(shelves: &Shelves, r: &Record, files: &Option<Files>) -> bool
-    ensures { result ≡ list_all (is_once_new shelves.now.run (held_ids shelves.now) (ids_brought r.now)) (own_if_any files.now) }
+fn own_is_new(catalog_tables: &CatalogTables, r: &Record, files: &Option<Files>) -> bool
+    ensures { result ≡ list_all (is_once_new catalog_tables.now.run (held_ids catalog_tables.now) (ids_brought r.now)) (own_if_any files.now) }
 {
     match files {
         None => true,
-        Some(files) => is_new(shelves, r, files.file.id.number()),
+        Some(files) => is_new(catalog_tables, r, files.file.id.number()),
     }
 }
 
-fn singles_are_new(shelves: &Shelves, r: &Record, singles: &[StatedSingle]) -> bool
-    ensures { result ≡ list_all (λ (s : Told). is_once_new shelves.now.run (held_ids shelves.now) (ids_brought r.now) s.files.file.id) singles.now }
+fn singles_are_new(catalog_tables: &CatalogTables, r: &Record, singles: &[CheckpointSingle]) -> bool
+    ensures { result ≡ list_all (λ (s : Told). is_once_new catalog_tables.now.run (held_ids catalog_tables.now) (ids_brought r.now) s.files.file.id) singles.now }
 {
     singles
         .iter()
-        .all(|single| is_new(shelves, r, single.files.file.id.number()))
+        .all(|single| is_new(catalog_tables, r, single.files.file.id.number()))
 }
 
 // Whether an id is of the last run, not named, and stands once among those of the record.
-fn is_new(shelves: &Shelves, r: &Record, id: u64) -> bool
-    ensures { result ≡ is_once_new shelves.now.run (held_ids shelves.now) (ids_brought r.now) id }
+fn is_new(catalog_tables: &CatalogTables, r: &Record, id: u64) -> bool
+    ensures { result ≡ is_once_new catalog_tables.now.run (held_ids catalog_tables.now) (ids_brought r.now) id }
 {
-    if id / IDS_OF_RUN != shelves.run as u64 {
+    if id / IDS_OF_RUN != catalog_tables.run as u64 {
         return false;
     }
-    if tables_name(&shelves.tables, id) {
+    if tables_name(&catalog_tables.tables, id) {
         return false;
     }
     times_in_record(r, id) == 1
@@ -286,7 +286,7 @@ fn times_in_own(files: &Option<Files>, id: u64) -> u64
     }
 }
 
-fn times_in_singles(singles: &[StatedSingle], id: u64) -> u64
+fn times_in_singles(singles: &[CheckpointSingle], id: u64) -> u64
     ensures count { result ≡ count_by (λ (s : Told). id == s.files.file.id) singles.now }
     ensures most { result < 2 ^ 63 }
 {
@@ -378,7 +378,7 @@ fn greatest_in_own(least: u64, files: &Option<Files>) -> u64
     }
 }
 
-fn greatest_in_singles(least: u64, singles: &[StatedSingle]) -> u64
+fn greatest_in_singles(least: u64, singles: &[CheckpointSingle]) -> u64
     ensures least { least ≤ result }
     ensures all { AllByRecursion (λ id. id ≤ result) (map told_id singles.now) }
 {

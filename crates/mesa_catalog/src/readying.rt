@@ -4,20 +4,20 @@ ghost use Rattle.std.specs.List.{AllByRecursion, list_all};
 ghost use Rattle.mesa_record.specs.declared.record.Part.{Part as PartOf};
 ghost use Rattle.mesa_span.specs.Ranges.{base_before};
 ghost use Rattle.mesa_record.specs.declared.record.Record.TheVariants as record_of;
-ghost use Rattle.mesa_table.specs.mesa_image_spec.Catalog.{empty_base, merged_delta, stock_at};
-ghost use Rattle.mesa_table.specs.mesa_image_spec.Fitting.{alter_fits, is_there, kind_fits, part_fits, recast_fits, table_fits, view_fits};
-ghost use Rattle.mesa_catalog.specs.Meaning.{IsShelved, catalogue_of};
-ghost use Rattle.mesa_table.specs.Meaning.{ending_of};
+ghost use Rattle.mesa_catalog_table.specs.mesa_store_spec.Catalog.{empty_base, merged_delta, meta_at};
+ghost use Rattle.mesa_catalog_table.specs.mesa_store_spec.Fitting.{alter_fits, is_there, kind_fits, part_fits, recast_fits, table_fits, view_fits};
+ghost use Rattle.mesa_catalog.specs.Meaning.{AreCatalogTables, catalogue_of};
+ghost use Rattle.mesa_catalog_table.specs.Meaning.{ending_of};
 ghost use Rattle.mesa_catalog.specs.Readied.{AreRoomier, HasRoom, IsMade, IsMadePart, record_in};
-ghost use Rattle.mesa_table.specs.Readied.{HasSpare, part_in};
+ghost use Rattle.mesa_catalog_table.specs.Readied.{HasSpare, part_in};
 
 use crate::lineages::{lineage_with_change, lineage_with_view, new_lineage, widths_with};
 use crate::ready::Ready;
-use crate::shelves::Shelves;
+use crate::catalog_tables::CatalogTables;
 use mesa_list::{Items, TryCopy};
 use mesa_record::{Files, Part, Recasting, Record};
 use mesa_schema::{Change, KeyColumn, Name, ValueColumn};
-use mesa_table::{
+use mesa_catalog_table::{
     Base, Delta, ReadyPart, Table, make_recast, make_spare, no_totals, totals_changed, totals_with,
     width_of,
 };
@@ -25,15 +25,15 @@ use std::alloc::{AllocError, Global};
 use std::sync::Arc;
 
 // Makes room for a table more, and in each table for a delta more.
-pub(crate) fn make_room(shelves: &mut Shelves) -> Result<(), AllocError>
-    requires { IsShelved shelves.old }
-    ensures same { catalogue_of shelves.new ≡ catalogue_of shelves.old }
-    ensures shelved { IsShelved shelves.new }
-    ensures room { OnOk result (HasRoom shelves.new) }
-    ensures kept { HasRoom shelves.old → HasRoom shelves.new }
+pub(crate) fn make_room(catalog_tables: &mut CatalogTables) -> Result<(), AllocError>
+    requires { AreCatalogTables catalog_tables.old }
+    ensures same { catalogue_of catalog_tables.new ≡ catalogue_of catalog_tables.old }
+    ensures live_files { AreCatalogTables catalog_tables.new }
+    ensures room { OnOk result (HasRoom catalog_tables.new) }
+    ensures kept { HasRoom catalog_tables.old → HasRoom catalog_tables.new }
 {
-    shelves.tables.reserve(1)?;
-    make_spares(&mut shelves.tables)
+    catalog_tables.tables.reserve(1)?;
+    make_spares(&mut catalog_tables.tables)
 }
 
 fn make_spares(tables: &mut [Table]) -> Result<(), AllocError>
@@ -46,10 +46,10 @@ fn make_spares(tables: &mut [Table]) -> Result<(), AllocError>
     Ok(())
 }
 
-impl Shelves {
+impl CatalogTables {
     // The pieces of a record.
     pub(crate) fn make_ready(&self, r: &Record) -> Result<Ready, AllocError>
-        requires shelved { IsShelved self.now }
+        requires live_files { AreCatalogTables self.now }
         requires fits { IsTrue (kind_fits (catalogue_of self.now) r.now) }
         ensures record { IfOk result (λ y. record_in y ≡ r.now) }
         ensures made { IfOk result (IsMade (catalogue_of self.now)) }
@@ -108,7 +108,7 @@ impl Shelves {
         keys: &Items<KeyColumn>,
         values: &Items<ValueColumn>,
     ) -> Result<Ready, AllocError>
-        requires shelved { IsShelved self.now }
+        requires live_files { AreCatalogTables self.now }
         requires fits { IsTrue (table_fits (catalogue_of self.now) name.now (record { keys = keys.now; values = values.now })) }
         ensures record { IfOk result (λ y. record_in y ≡ record_of.Table name.now keys.now values.now) }
         ensures made { IfOk result (IsMade (catalogue_of self.now)) }
@@ -146,7 +146,7 @@ impl Shelves {
         keys: &Items<Name>,
         values: &Items<Name>,
     ) -> Result<Ready, AllocError>
-        requires shelved { IsShelved self.now }
+        requires live_files { AreCatalogTables self.now }
         requires fits { IsTrue (view_fits (catalogue_of self.now) table name.now keys.now values.now) }
         ensures record { IfOk result (λ y. record_in y ≡ record_of.View table name.now keys.now values.now) }
         ensures made { IfOk result (IsMade (catalogue_of self.now)) }
@@ -157,7 +157,7 @@ impl Shelves {
     }
 
     fn make_change(&self, table: u16, change: &Change) -> Result<Ready, AllocError>
-        requires shelved { IsShelved self.now }
+        requires live_files { AreCatalogTables self.now }
         requires fits { IsTrue (alter_fits (catalogue_of self.now) table change.now) }
         ensures record { IfOk result (λ y. record_in y ≡ record_of.Alter table change.now) }
         ensures made { IfOk result (IsMade (catalogue_of self.now)) }
@@ -175,8 +175,8 @@ impl Shelves {
     }
 
     fn make_parts(&self, parts: &[Part]) -> Result<Vec<ReadyPart>, AllocError>
-        requires shelved { IsShelved self.now }
-        requires fits { IsTrue (list_all (λ (p : PartOf). is_there (catalogue_of self.now) p.table && part_fits (stock_at (catalogue_of self.now) p.table) p) parts.now) }
+        requires live_files { AreCatalogTables self.now }
+        requires fits { IsTrue (list_all (λ (p : PartOf). is_there (catalogue_of self.now) p.table && part_fits (meta_at (catalogue_of self.now) p.table) p) parts.now) }
         ensures parts { IfOk result (λ made. map part_in made.items ≡ parts.now) }
         ensures made { IfOk result (λ made. AllByRecursion (IsMadePart (catalogue_of self.now)) made.items) }
     {
@@ -188,8 +188,8 @@ impl Shelves {
     }
 
     fn make_part(&self, part: &Part) -> Result<ReadyPart, AllocError>
-        requires shelved { IsShelved self.now }
-        requires fits { IsTrue (is_there (catalogue_of self.now) part.now.table && part_fits (stock_at (catalogue_of self.now) part.now.table) part.now) }
+        requires live_files { AreCatalogTables self.now }
+        requires fits { IsTrue (is_there (catalogue_of self.now) part.now.table && part_fits (meta_at (catalogue_of self.now) part.now.table) part.now) }
         ensures part { IfOk result (λ made. part_in made ≡ part.now) }
         ensures made { IfOk result (IsMadePart (catalogue_of self.now)) }
     {
@@ -207,8 +207,8 @@ impl Shelves {
     }
 
     fn make_renewed(&self, told: &Recasting) -> Result<Ready, AllocError>
-        requires shelved { IsShelved self.now }
-        requires fits { IsTrue (is_there (catalogue_of self.now) told.now.table && recast_fits (stock_at (catalogue_of self.now) told.now.table) told.now) }
+        requires live_files { AreCatalogTables self.now }
+        requires fits { IsTrue (is_there (catalogue_of self.now) told.now.table && recast_fits (meta_at (catalogue_of self.now) told.now.table) told.now) }
         ensures record { IfOk result (λ y. record_in y ≡ record_of.Recast told.now) }
         ensures made { IfOk result (IsMade (catalogue_of self.now)) }
     {

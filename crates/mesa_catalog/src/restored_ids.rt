@@ -1,27 +1,27 @@
 // The ids of the files that a checkpoint names.
 ghost use Rattle.std.specs.Prelude.{◌≡◌, ◌≤◌, is_some, nat_le, IfOk, IfSome};
 ghost use Rattle.std.specs.List.{AllByRecursion, list_all};
-ghost use Rattle.mesa_table.specs.mesa_image_spec.CheckpointFits.{ids_fit};
-ghost use Rattle.mesa_table.specs.mesa_image_spec.Fitting.{run_of_id};
-ghost use Rattle.mesa_table.specs.mesa_image_spec.Ids.{named};
-ghost use Rattle.mesa_catalog.specs.Meaning.{IsShelved, catalogue_of};
+ghost use Rattle.mesa_catalog_table.specs.mesa_store_spec.CheckpointFits.{ids_fit};
+ghost use Rattle.mesa_catalog_table.specs.mesa_store_spec.Fitting.{run_of_id};
+ghost use Rattle.mesa_catalog_table.specs.mesa_store_spec.Ids.{named};
+ghost use Rattle.mesa_catalog.specs.Meaning.{AreCatalogTables, catalogue_of};
 ghost use Rattle.mesa_catalog.specs.Restored.{ids_rise};
 
 use crate::files::push_ids;
 use crate::newness::IDS_OF_RUN;
-use crate::shelves::Shelves;
+use crate::catalog_tables::CatalogTables;
 use mesa_file::FileId;
 use std::alloc::{AllocError, Global};
 
 // The greatest of a number of ids, if each is that of one file, and of a run up to the last one. They are sorted for that.
-pub(crate) fn greatest_id(alloc: Global, shelves: &Shelves) -> Result<Option<u64>, AllocError>
-    requires { IsShelved shelves.now }
-    ensures fits { IfOk result (λ greatest. is_some greatest ≡ ids_fit (catalogue_of shelves.now)) }
-    ensures most { IfOk result (λ greatest. IfSome greatest (λ most. AllByRecursion (λ id. id ≤ most) (named (catalogue_of shelves.now)))) }
+pub(crate) fn greatest_id(alloc: Global, catalog_tables: &CatalogTables) -> Result<Option<u64>, AllocError>
+    requires { AreCatalogTables catalog_tables.now }
+    ensures fits { IfOk result (λ greatest. is_some greatest ≡ ids_fit (catalogue_of catalog_tables.now)) }
+    ensures most { IfOk result (λ greatest. IfSome greatest (λ most. AllByRecursion (λ id. id ≤ most) (named (catalogue_of catalog_tables.now)))) }
 {
     let mut ids = Vec::new(alloc);
-    push_ids(&shelves.tables, &mut ids)?;
-    if !are_of_runs(shelves.run, &ids) {
+    push_ids(&catalog_tables.tables, &mut ids)?;
+    if !are_of_runs(catalog_tables.run, &ids) {
         return Ok(None);
     }
     let greatest = greatest_of(&ids);

@@ -1,11 +1,11 @@
 // The catalogue that a checkpoint states. Names, columns, files and totals are moved, not copied.
 ghost use Rattle.std.specs.Prelude.{◌≡◌, ◌≢◌, ◌++◌, false, flat_map, map, option_map, IfErr, IfOk, IsTrue, OnOk};
 ghost use Rattle.std.specs.List.{AllByRecursion, list_all};
-ghost use Rattle.mesa_table.specs.mesa_image_spec.Checkpoint.{stated, stock_stated};
-ghost use Rattle.mesa_table.specs.mesa_image_spec.CheckpointFits.{checkpoint_fits, counts_fit as counts_are_right, names_differ as all_differ, number_fits as number_is_right, table_fits, tables_fit};
-ghost use Rattle.mesa_table.specs.mesa_image_spec.Journaled.{stated_if};
-ghost use Rattle.mesa_table.specs.declared.restoring.RestoreError.TheVariants as RestoreError;
-ghost use Rattle.mesa_table.specs.Meaning.{IsTable, stock_of};
+ghost use Rattle.mesa_catalog_table.specs.mesa_store_spec.Checkpoint.{stated, meta_stated};
+ghost use Rattle.mesa_catalog_table.specs.mesa_store_spec.CheckpointFits.{checkpoint_fits, counts_fit as counts_are_right, names_differ as all_differ, number_fits as number_is_right, table_fits, tables_fit};
+ghost use Rattle.mesa_catalog_table.specs.mesa_store_spec.Journaled.{stated_if};
+ghost use Rattle.mesa_catalog_table.specs.declared.restoring.RestoreError.TheVariants as RestoreError;
+ghost use Rattle.mesa_catalog_table.specs.Meaning.{IsTable, meta_of};
 ghost use Rattle.mesa_catalog.specs.Kept.{unreserved};
 ghost use Rattle.mesa_catalog.specs.Meaning.{catalogue_of};
 ghost use Rattle.mesa_catalog.specs.Restored.{table_names};
@@ -13,12 +13,12 @@ ghost use Rattle.mesa_catalog.specs.Restored.{table_names};
 use crate::Catalog;
 use crate::fitting::MAX_RUNS;
 use crate::restored_ids::greatest_id;
-use crate::shelves::{MAX_TABLES, Shelves};
+use crate::catalog_tables::{MAX_TABLES, CatalogTables};
 use mesa_disk::Area;
 use mesa_list::{Items, TryCopy};
-use mesa_record::{Checkpoint, StatedTable};
+use mesa_record::{Checkpoint, CheckpointTable};
 use mesa_schema::{Name, repeated_place};
-use mesa_table::{NoRows, RestoreError, Table, restore};
+use mesa_catalog_table::{NoRows, RestoreError, Table, restore};
 use std::alloc::{AllocError, Global};
 use std::collections::VecDeque;
 
@@ -80,20 +80,20 @@ fn restore_catalog(alloc: Global, checkpoint: Checkpoint) -> Result<Catalog, Res
         tables,
     } = checkpoint;
     let tables = restore_tables(alloc, floor, versions, tables)?;
-    let shelves = Shelves {
+    let catalog_tables = CatalogTables {
         tables,
         floor,
         next: versions,
         run,
     };
-    if !shelves.names_differ(alloc)? {
+    if !catalog_tables.names_differ(alloc)? {
         return Err(RestoreError::Misfit);
     }
-    let Some(greatest) = greatest_id(alloc, &shelves)? else {
+    let Some(greatest) = greatest_id(alloc, &catalog_tables)? else {
         return Err(RestoreError::Misfit);
     };
     Ok(Catalog {
-        shelves,
+        catalog_tables,
         ready: None,
         greatest,
         no_rows: NoRows::new(),
@@ -104,11 +104,11 @@ fn restore_tables(
     alloc: Global,
     floor: u32,
     next: u32,
-    stated: Items<StatedTable>,
+    stated: Items<CheckpointTable>,
 ) -> Result<Vec<Table>, RestoreError>
     ensures fits { OnOk result (IsTrue (list_all (table_fits floor next) stated)) }
     ensures refused { IfErr result (λ e. e ≢ RestoreError.Memory → list_all (table_fits floor next) stated ≡ false) }
-    ensures stocks { IfOk result (λ tables. map (stock_of next) tables.items ≡ map (stock_stated next) stated) }
+    ensures metas { IfOk result (λ tables. map (meta_of next) tables.items ≡ map (meta_stated next) stated) }
     ensures tables { IfOk result (λ tables. AllByRecursion (IsTable next) tables.items) }
 {
     let mut tables = Vec::with_capacity(alloc, stated.len())?;
@@ -119,7 +119,7 @@ fn restore_tables(
     Ok(tables)
 }
 
-impl Shelves {
+impl CatalogTables {
     // Whether no two tables or views have the same name. There are at most 32 tables with 8 views each, so that one look at the names before each is fast.
     fn names_differ(&self, alloc: Global) -> Result<bool, AllocError>
         ensures { IfOk result (λ differ. differ ≡ all_differ (catalogue_of self.now)) }

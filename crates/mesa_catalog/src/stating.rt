@@ -2,13 +2,13 @@
 ghost use Rattle.std.specs.Prelude.{◌≡◌, ◌<◌, ◌^◌, ℕ, IfOk, map};
 ghost use Rattle.std.specs.List.{AllByRecursion};
 ghost use Rattle.mesa_record.specs.declared.record.Record.TheVariants as record_of;
-ghost use Rattle.mesa_table.specs.mesa_image_spec.Checkpoint.{checkpoint_of, stating_table};
-ghost use Rattle.mesa_table.specs.Meaning.{IsTable, stock_of};
+ghost use Rattle.mesa_catalog_table.specs.mesa_store_spec.Checkpoint.{checkpoint_of, stating_table};
+ghost use Rattle.mesa_catalog_table.specs.Meaning.{IsTable, meta_of};
 
 use crate::Catalog;
 use mesa_list::Items;
-use mesa_record::{Checkpoint, Record, StatedTable};
-use mesa_table::Table;
+use mesa_record::{Checkpoint, Record, CheckpointTable};
+use mesa_catalog_table::Table;
 use std::alloc::{AllocError, Global};
 
 impl Catalog {
@@ -16,21 +16,21 @@ impl Catalog {
     pub fn checkpoint(&self, alloc: Global, number: u32, run: u32) -> Result<Record, AllocError>
         ensures { IfOk result (λ r. r ≡ record_of.Checkpoint (record (checkpoint_of number self.now.catalogue) { run = run })) }
     {
-        let tables = state_tables(alloc, &self.shelves.tables)?;
+        let tables = state_tables(alloc, &self.catalog_tables.tables)?;
         let checkpoint = Checkpoint {
             number,
             run,
-            floor: self.shelves.floor,
-            versions: self.shelves.next,
+            floor: self.catalog_tables.floor,
+            versions: self.catalog_tables.next,
             tables: Items::from_vec(tables),
         };
         Ok(Record::Checkpoint(checkpoint))
     }
 }
 
-fn state_tables(alloc: Global, tables: &[Table]) -> Result<Vec<StatedTable>, AllocError>
+fn state_tables(alloc: Global, tables: &[Table]) -> Result<Vec<CheckpointTable>, AllocError>
     requires { (next : ℕ) × (next < 2 ^ 32) × AllByRecursion (IsTable next) tables.now }
-    ensures { (next : ℕ) → AllByRecursion (IsTable next) tables.now → IfOk result (λ stated. stated.items ≡ map stating_table (map (stock_of next) tables.now)) }
+    ensures { (next : ℕ) → AllByRecursion (IsTable next) tables.now → IfOk result (λ stated. stated.items ≡ map stating_table (map (meta_of next) tables.now)) }
 {
     let mut all = Vec::with_capacity(alloc, tables.len())?;
     for table in tables {

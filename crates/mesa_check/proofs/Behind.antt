@@ -7,15 +7,15 @@ use Rattle.std.proofs.lemmas.Bool.Decides.{nat_tests}
 use Rattle.std.proofs.lemmas.List.{append_cancel_left, map-append, take-append-drop, take-take}
 use Rattle.std.proofs.lemmas.List.Elements.{filter-append}
 use Rattle.mesa_schema.proofs.Lists.{all_drop}
-use Rattle.mesa_image_spec.specs.Catalog.{Delta, Stock, start_in}
-use Rattle.mesa_image_spec.specs.Fitting.{deltas_of}
-use Rattle.mesa_table.specs.declared.table.Loaded.{Loaded}
-use Rattle.mesa_table.specs.declared.table.Table.{Table}
-use Rattle.mesa_table.specs.Meaning.{AreLoaded, IsTable, start_of_base, stock_of}
-use Rattle.mesa_table.specs.Named.{through}
-use Rattle.mesa_plans.specs.Lent.{lent_if_any, single_delta, with_rows}
-use Rattle.mesa_plans.proofs.Among.{all_singles}
-use Rattle.mesa_plans.proofs.Lending.{singles_taken, start_held}
+use Rattle.mesa_store_spec.specs.Catalog.{Delta, TableMeta, start_in}
+use Rattle.mesa_store_spec.specs.Fitting.{deltas_of}
+use Rattle.mesa_catalog_table.specs.declared.table.Loaded.{Loaded}
+use Rattle.mesa_catalog_table.specs.declared.table.Table.{Table}
+use Rattle.mesa_catalog_table.specs.Meaning.{AreLoaded, IsTable, start_of_base, meta_of}
+use Rattle.mesa_catalog_table.specs.Named.{through}
+use Rattle.mesa_pick_files.specs.Lent.{lent_if_any, single_delta, with_rows}
+use Rattle.mesa_pick_files.proofs.Among.{all_singles}
+use Rattle.mesa_pick_files.proofs.Lending.{singles_taken, start_held}
 use Rattle.mesa_check.specs.Faults.{merged_singles}
 use Rattle.mesa_check.specs.Held.{delta_of, lent_delta}
 use Rattle.mesa_check.specs.Parts.{parts_of}
@@ -44,7 +44,7 @@ through_twice end to (l ∷ loaded) h = by (nat_le l.version to) refl (through_t
 -- ---- singletons
 
 -- those up to a version, and those since then up to another
-pub singles_split : (u : Stock) (end to : ℕ) → end ≤ to → merged_singles u end ++ drop (end + 1 - start_in u) (merged_singles u to) ≡ merged_singles u to
+pub singles_split : (u : TableMeta) (end to : ℕ) → end ≤ to → merged_singles u end ++ drop (end + 1 - start_in u) (merged_singles u to) ≡ merged_singles u to
 singles_split u end to h =
     let n = end + 1 - start_in u in
     let less : end + 1 - start_in u ≤ to + 1 - start_in u = omega (arith, h) in
@@ -52,9 +52,9 @@ singles_split u end to h =
 
 -- those since then that have rows are of what was loaded since then
 pub since_lent : (next end to : ℕ) (t : Table) (since : List Loaded) → IsTable next t → end ≤ to → through end t.loaded.items ++ since ≡ through to t.loaded.items
-    → with_rows (map single_delta since) ≡ with_rows (drop (end + 1 - start_in (stock_of next t)) (merged_singles (stock_of next t) to))
+    → with_rows (map single_delta since) ≡ with_rows (drop (end + 1 - start_in (meta_of next t)) (merged_singles (meta_of next t) to))
 since_lent next end to t since is h cut =
-    let u = stock_of next t in
+    let u = meta_of next t in
     let loaded = t.loaded.items in
     let has = λ (d : Delta). is_some d.files in
     let rest = drop (end + 1 - start_in u) (merged_singles u to) in
@@ -73,6 +73,6 @@ lent_first None xs ys e = e
 lent_first (Some d) xs ys e = ap (λ ds. cond (is_some d.now.files) (d.now ∷ ds) ds) e
 
 -- what makes up a range has the epochs of a table
-pub parts_epochs : (u : Stock) (o : Option Test) (to epoch : ℕ) → AllByRecursion (λ (d : Delta). d.epoch ≤ epoch) (deltas_of u) → IfSome o (λ b. (delta_of b.range).epoch ≤ epoch) → AllByRecursion (λ (d : Delta). d.epoch ≤ epoch) (parts_of u o to)
+pub parts_epochs : (u : TableMeta) (o : Option Test) (to epoch : ℕ) → AllByRecursion (λ (d : Delta). d.epoch ≤ epoch) (deltas_of u) → IfSome o (λ b. (delta_of b.range).epoch ≤ epoch) → AllByRecursion (λ (d : Delta). d.epoch ≤ epoch) (parts_of u o to)
 parts_epochs u None to epoch all before = all_singles (λ (d : Delta). d.epoch ≤ epoch) u all to
 parts_epochs u (Some b) to epoch all before = (before, all_drop (λ (d : Delta). d.epoch ≤ epoch) (b.range.to + 1 - start_in u) (merged_singles u to) (all_singles (λ (d : Delta). d.epoch ≤ epoch) u all to))

@@ -4,8 +4,8 @@ use Rattle.std.proofs.lemmas.Bool.Decides.{nat_tests}
 use Rattle.std.proofs.lemmas.List.{length-map, map-append, take-append-drop}
 use Rattle.std.specs.Prelude.{slice_get, Some}
 use Rattle.std.specs.List.{AllByRecursion, list_all}
-use Rattle.mesa_plans.specs.mesa_value.declared.Agg.{Agg}
-use Rattle.mesa_plans.specs.mesa_value.declared.Agg.TheVariants as agg
+use Rattle.mesa_pick_files.specs.mesa_value.declared.Agg.{Agg}
+use Rattle.mesa_pick_files.specs.mesa_value.declared.Agg.TheVariants as agg
 use Rattle.mesa_schema.specs.declared.rows.Row.{Row}
 use Rattle.mesa_schema.specs.Columns.{Columns, aggs_of}
 use Rattle.mesa_schema.specs.declared.columns.ValueColumn.{ValueColumn}

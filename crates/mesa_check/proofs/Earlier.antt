@@ -4,8 +4,8 @@ use Rattle.std.specs.Prelude.{flat_map, IfSome, Option, None, Some}
 use Rattle.std.specs.List.{AllByRecursion}
 use Rattle.mesa_disk.specs.Image.{Image}
 use Rattle.mesa_schema.specs.Changes.{epoch_of}
-use Rattle.mesa_image_spec.specs.Catalog.{Stock}
-use Rattle.mesa_table.specs.declared.table.Table.{Table}
+use Rattle.mesa_store_spec.specs.Catalog.{TableMeta}
+use Rattle.mesa_catalog_table.specs.declared.table.Table.{Table}
 use Rattle.mesa_check.specs.Found.{Found}
 use Rattle.mesa_check.specs.Faults.{fails, fault_of, keys_shown, merged_key, merged_keys, range_faults, view_keys}
 use Rattle.mesa_check.specs.Ranges.{Range}
@@ -50,14 +50,14 @@ nil_map : {X Y : Type 0} (f : X → Y) (xs : List X) → map f xs ≡ [] → xs 
 nil_map f [] e = refl
 nil_map f (x ∷ xs) e = absurd cc
 
-no_keys : (found : Found) (u : Stock) (r : Range) → is_merged r ≡ true → range_faults found u r ≡ [] → merged_key found u r.to r.delta ≡ []
+no_keys : (found : Found) (u : TableMeta) (r : Range) → is_merged r ≡ true → range_faults found u r ≡ [] → merged_key found u r.to r.delta ≡ []
 no_keys found u r is none =
     let all = nil_map (fault_of u r) (cond (fails found u r) (None ∷ []) [] ++ map Some (keys_shown found u r)) none in
     let keys = nil_map Some (keys_shown found u r) (both_nil (cond (fails found u r) (None ∷ []) []) (map Some (keys_shown found u r)) all).1 in
     sym (merged_in found u r is) ∙ (both_nil (merged_keys found u r) (view_keys found u.lineage r.delta) keys).0
 
 -- those so far have no fault, so it agrees
-pub earlier_agrees : (i : Image) (found : Found) (u : Stock) (tests : List Test) (n : ℕ) (o : Option Test) → n ≤ length tests → IfSome o (IsEarlier tests n) → AllByRecursion (IsRead i found u.lineage) tests → AllByRecursion (λ x. is_found_in x ≡ true) (take n tests)
+pub earlier_agrees : (i : Image) (found : Found) (u : TableMeta) (tests : List Test) (n : ℕ) (o : Option Test) → n ≤ length tests → IfSome o (IsEarlier tests n) → AllByRecursion (IsRead i found u.lineage) tests → AllByRecursion (λ x. is_found_in x ≡ true) (take n tests)
     → flat_map (λ (x : Test). range_faults found u (tested_range x)) (take n tests) ≡ [] → IfSome o (Agrees i found u)
 earlier_agrees i found u tests n None h earlier read there none = tt
 earlier_agrees i found u tests n (Some b) h earlier read there none =

@@ -17,11 +17,11 @@ use Rattle.mesa_record.specs.declared.record.ViewRef.{ViewRef}
 use Rattle.mesa_check_file.specs.Difference.{first_difference}
 use Rattle.mesa_check_file.proofs.Differences.{nowhere}
 use Rattle.mesa_check_file.proofs.Same.{equal_itself}
-use Rattle.mesa_image_spec.specs.Catalog.{Delta, Ending, Stock, start_in}
-use Rattle.mesa_image_spec.specs.Fitting.{base_deltas, delta_in}
-use Rattle.mesa_image_spec.specs.Contents.{Rows, present, rows_in}
-use Rattle.mesa_image_spec.specs.Sound.{AreGrouped, IsGrouped, IsGroupedAs, IsMerged, IsStocked, IsTotalled, all_parts}
-use Rattle.mesa_image_spec.proofs.Lists.{all_front, all_back, all_unmap}
+use Rattle.mesa_store_spec.specs.Catalog.{Delta, Ending, TableMeta, start_in}
+use Rattle.mesa_store_spec.specs.Fitting.{base_deltas, delta_in}
+use Rattle.mesa_store_spec.specs.Contents.{Rows, present, rows_in}
+use Rattle.mesa_store_spec.specs.Sound.{AreGrouped, IsGrouped, IsGroupedAs, IsMerged, HasSoundRows, IsTotalled, all_parts}
+use Rattle.mesa_store_spec.proofs.Lists.{all_front, all_back, all_unmap}
 use Rattle.mesa_check.specs.Found.{Found, all_found}
 use Rattle.mesa_check.specs.Ranges.{Base, Range, Single, base_range, checked_ranges, cumulative_range, is_range, single_ranges, totals_range}
 use Rattle.mesa_check.specs.Faults.{agrees_if_any, are_at_most, are_files_found, exceeds_totals, fails, fault_of, has_false_totals, is_found, is_totalled, is_true, is_view_found, keep_bound, key_if, merged_keys, merged_singles, range_faults, table_faults, view_key, view_keys, view_keys_in}
@@ -38,7 +38,7 @@ no_key b o e = ap (key_if b) e ∙ by b
 same_numbers : (xs ys : List ℕ) → xs ≡ ys → pointwise nat_eq xs ys ≡ true
 same_numbers xs ys e = ap (λ zs. pointwise nat_eq zs ys) e ∙ texts_ties ys ys ∙ ap is_eq (equal_itself ys)
 
-module _ (rows : Rows) (t : Stock) (stocked : IsStocked rows t) where
+module _ (rows : Rows) (t : TableMeta) (sound_rows : HasSoundRows rows t) where
   abbrev found : Found
   found = all_found rows
 
@@ -67,7 +67,7 @@ module _ (rows : Rows) (t : Stock) (stocked : IsStocked rows t) where
 
   not_exceeded : exceeds_totals found t ≡ false
   not_exceeded = and_false (list_all (is_found found t.lineage) (base_deltas t.base) && list_all (is_true found t.lineage) t.singles) (not (are_at_most (abs_totals (columns_of t.lineage) (rows_of (all_parts rows t))) t.totals))
-      (ap not (is_at_most (abs_totals (columns_of t.lineage) (rows_of (all_parts rows t))) t.totals stocked.bound))
+      (ap not (is_at_most (abs_totals (columns_of t.lineage) (rows_of (all_parts rows t))) t.totals sound_rows.bound))
 
   -- ---- keys
 
@@ -114,14 +114,14 @@ module _ (rows : Rows) (t : Stock) (stocked : IsStocked rows t) where
   cumulatives_faultless : AllByRecursion (λ (e : Ending). AreGrouped rows t.lineage e.delta) t.cumulatives → AllByRecursion IsFaultless (map (cumulative_range (start_in t)) t.cumulatives)
   cumulatives_faultless all =
       all_map IsFaultless (cumulative_range (start_in t)) t.cumulatives
-      (all_both (λ (e : Ending). AreGrouped rows t.lineage e.delta) (IsMerged rows t) (λ e. IsFaultless (cumulative_range (start_in t) e)) t.cumulatives (λ e grouped is. no_faults (cumulative_range (start_in t) e) grouped refl (no_merged_key e is)) all stocked.merged)
+      (all_both (λ (e : Ending). AreGrouped rows t.lineage e.delta) (IsMerged rows t) (λ e. IsFaultless (cumulative_range (start_in t) e)) t.cumulatives (λ e grouped is. no_faults (cumulative_range (start_in t) e) grouped refl (no_merged_key e is)) all sound_rows.merged)
 
   pub faultless : table_faults found t ≡ []
   faultless =
-      let behind = all_back (AreGrouped rows t.lineage) (base_deltas t.base) (map delta_in t.cumulatives ++ t.singles) stocked.grouped in
-      let singles = singles_faultless (start_in t) t.singles (all_back (AreGrouped rows t.lineage) (map delta_in t.cumulatives) t.singles behind) stocked.totals in
+      let behind = all_back (AreGrouped rows t.lineage) (base_deltas t.base) (map delta_in t.cumulatives ++ t.singles) sound_rows.grouped in
+      let singles = singles_faultless (start_in t) t.singles (all_back (AreGrouped rows t.lineage) (map delta_in t.cumulatives) t.singles behind) sound_rows.totals in
       nil_flat (range_faults found t) (checked_ranges t)
-      (all_append IsFaultless (base_range t.base) _ (base_faultless t.base (all_front (AreGrouped rows t.lineage) (base_deltas t.base) (map delta_in t.cumulatives ++ t.singles) stocked.grouped))
+      (all_append IsFaultless (base_range t.base) _ (base_faultless t.base (all_front (AreGrouped rows t.lineage) (base_deltas t.base) (map delta_in t.cumulatives ++ t.singles) sound_rows.grouped))
       (all_append IsFaultless (take 1 (single_ranges (start_in t) t.singles)) _ (all_one IsFaultless (single_ranges (start_in t) t.singles) singles)
       (all_append IsFaultless (map (cumulative_range (start_in t)) t.cumulatives) (drop 1 (single_ranges (start_in t) t.singles))
       (cumulatives_faultless (all_unmap (AreGrouped rows t.lineage) delta_in t.cumulatives (all_front (AreGrouped rows t.lineage) (map delta_in t.cumulatives) t.singles behind)))

@@ -9,17 +9,17 @@ use Rattle.mesa_schema.specs.Changes.{Lineage}
 use Rattle.mesa_schema.specs.declared.rows.Row.{Row}
 use Rattle.mesa_schema.specs.Folded.{rows_of}
 use Rattle.mesa_schema.proofs.Lists.{all_append, all_drop, all_map}
-use Rattle.mesa_image_spec.specs.Catalog.{Delta, Ending, empty_delta, start_in}
-use Rattle.mesa_image_spec.specs.Contents.{present}
-use Rattle.mesa_image_spec.specs.Fitting.{Shelved, base_deltas, delta_in, delta_shelved, deltas_of, stock_shelved}
-use Rattle.mesa_image_spec.proofs.Lists.{all_back, all_flat, all_front, all_take, all_unflat, all_unmap}
-use Rattle.mesa_table.specs.declared.table.Loaded.{Loaded}
-use Rattle.mesa_table.specs.declared.table.Table.{Table}
-use Rattle.mesa_table.specs.Meaning.{IsTable, ending_of, singles_from, start_of_base, stock_of, tens_from}
-use Rattle.mesa_table.specs.Named.{through}
-use Rattle.mesa_table.proofs.Named.{flat_map-map, flat_map-same, singles_through}
-use Rattle.mesa_table.proofs.Singles.{flat_map-append, singles_give}
-use Rattle.mesa_plans.proofs.Lending.{start_held}
+use Rattle.mesa_store_spec.specs.Catalog.{Delta, Ending, empty_delta, start_in}
+use Rattle.mesa_store_spec.specs.Contents.{present}
+use Rattle.mesa_store_spec.specs.Fitting.{LiveFile, base_deltas, delta_in, delta_live, deltas_of, meta_live}
+use Rattle.mesa_store_spec.proofs.Lists.{all_back, all_flat, all_front, all_take, all_unflat, all_unmap}
+use Rattle.mesa_catalog_table.specs.declared.table.Loaded.{Loaded}
+use Rattle.mesa_catalog_table.specs.declared.table.Table.{Table}
+use Rattle.mesa_catalog_table.specs.Meaning.{IsTable, ending_of, singles_from, start_of_base, meta_of, tens_from}
+use Rattle.mesa_catalog_table.specs.Named.{through}
+use Rattle.mesa_catalog_table.proofs.Named.{flat_map-map, flat_map-same, singles_through}
+use Rattle.mesa_catalog_table.proofs.Singles.{flat_map-append, singles_give}
+use Rattle.mesa_pick_files.proofs.Lending.{start_held}
 use Rattle.mesa_check.specs.Found.{Found, rows_found}
 use Rattle.mesa_check.specs.Faults.{is_found, is_true, merged_singles}
 use Rattle.mesa_check.specs.Ranges.{Range, base_range, cumulative_range, single_ranges, totals_range}
@@ -68,9 +68,9 @@ module _ (P : Delta → Type 0) where
   all_base (Some e) all = all
 
   -- holds of each range
-  pub held_all : (next : ℕ) (t : Table) → AllByRecursion P (deltas_of (stock_of next t)) → AllByRecursion (λ (r : Range). P r.delta) (held_ranges t)
+  pub held_all : (next : ℕ) (t : Table) → AllByRecursion P (deltas_of (meta_of next t)) → AllByRecursion (λ (r : Range). P r.delta) (held_ranges t)
   held_all next t all =
-      let u = stock_of next t in
+      let u = meta_of next t in
       let start = start_of_base t.base in
       let loaded = t.loaded.items in
       let c = firsts start loaded in
@@ -85,9 +85,9 @@ module _ (P : Delta → Type 0) where
       (all_append Q (map loaded_range (take c loaded)) _ first (all_append Q (map (cumulative_range start) u.cumulatives) (map loaded_range (drop c loaded)) tens others))
 
   -- and the other way round
-  pub all_held : P empty_delta → (next : ℕ) (t : Table) → AllByRecursion (λ (r : Range). P r.delta) (held_ranges t) → AllByRecursion P (deltas_of (stock_of next t))
+  pub all_held : P empty_delta → (next : ℕ) (t : Table) → AllByRecursion (λ (r : Range). P r.delta) (held_ranges t) → AllByRecursion P (deltas_of (meta_of next t))
   all_held none next t all =
-      let u = stock_of next t in
+      let u = meta_of next t in
       let start = start_of_base t.base in
       let loaded = t.loaded.items in
       let c = firsts start loaded in
@@ -104,11 +104,11 @@ module _ (P : Delta → Type 0) where
       (all_append P (map delta_in u.cumulatives) u.singles (all_tens start start t.cumulatives.items (all_front Q tens others last)) (singles_all none start next loaded whole))
 
 -- so of their files
-pub held_files : (Q : Shelved → Type 0) (next : ℕ) (t : Table) → AllByRecursion Q (stock_shelved (stock_of next t)) → AllByRecursion (λ (r : Range). AllByRecursion Q (delta_shelved t.evolving.value r.delta)) (held_ranges t)
-held_files Q next t all = held_all (λ d. AllByRecursion Q (delta_shelved t.evolving.value d)) next t (all_unflat Q (delta_shelved t.evolving.value) (deltas_of (stock_of next t)) all)
+pub held_files : (Q : LiveFile → Type 0) (next : ℕ) (t : Table) → AllByRecursion Q (meta_live (meta_of next t)) → AllByRecursion (λ (r : Range). AllByRecursion Q (delta_live t.evolving.value r.delta)) (held_ranges t)
+held_files Q next t all = held_all (λ d. AllByRecursion Q (delta_live t.evolving.value d)) next t (all_unflat Q (delta_live t.evolving.value) (deltas_of (meta_of next t)) all)
 
-pub files_held : (Q : Shelved → Type 0) (next : ℕ) (t : Table) → AllByRecursion (λ (r : Range). AllByRecursion Q (delta_shelved t.evolving.value r.delta)) (held_ranges t) → AllByRecursion Q (stock_shelved (stock_of next t))
-files_held Q next t all = all_flat Q (delta_shelved t.evolving.value) (deltas_of (stock_of next t)) (all_held (λ d. AllByRecursion Q (delta_shelved t.evolving.value d)) tt next t all)
+pub files_held : (Q : LiveFile → Type 0) (next : ℕ) (t : Table) → AllByRecursion (λ (r : Range). AllByRecursion Q (delta_live t.evolving.value r.delta)) (held_ranges t) → AllByRecursion Q (meta_live (meta_of next t))
+files_held Q next t all = all_flat Q (delta_live t.evolving.value) (deltas_of (meta_of next t)) (all_held (λ d. AllByRecursion Q (delta_live t.evolving.value d)) tt next t all)
 
 -- ---- the range that tells of the totals
 
@@ -132,16 +132,16 @@ base_tells : (o : Option Ending) → flat_map (if_passes tells_of) (base_range o
 base_tells None = refl
 base_tells (Some e) = refl
 
-pub totals_first : (next : ℕ) (t : Table) → IsTable next t → totals_range (stock_of next t) ≡ slice_get (base_range (option_map ending_of t.base) ++ flat_map (λ (l : Loaded). if_passes tells_of (loaded_range l)) t.loaded.items) 0
+pub totals_first : (next : ℕ) (t : Table) → IsTable next t → totals_range (meta_of next t) ≡ slice_get (base_range (option_map ending_of t.base) ++ flat_map (λ (l : Loaded). if_passes tells_of (loaded_range l)) t.loaded.items) 0
 totals_first next t is =
-    let u = stock_of next t in
+    let u = meta_of next t in
     let start = start_of_base t.base in
     let has = λ (r : Range). is_some r.delta.files in
     let singles : filter has (single_ranges (start_in u) u.singles) ≡ flat_map (λ (l : Loaded). if_passes tells_of (loaded_range l)) t.loaded.items =
     ap (λ s. filter has (single_ranges s u.singles)) (start_held next t) ∙ filter_flat has (single_ranges start u.singles) ∙ ranges_give (if_passes has) start next t.loaded.items is.loaded (λ v low absent. refl) in
     ap (λ rs. slice_get (base_range u.base ++ rs) 0) singles
 
-pub totals_held : (next : ℕ) (t : Table) → IsTable next t → totals_range (stock_of next t) ≡ find tells_of (held_ranges t)
+pub totals_held : (next : ℕ) (t : Table) → IsTable next t → totals_range (meta_of next t) ≡ find tells_of (held_ranges t)
 totals_held next t is =
     let others = flat_map (λ (l : Loaded). if_passes tells_of (loaded_range l)) t.loaded.items in
     totals_first next t is
@@ -228,20 +228,20 @@ module _ (found : Found) (l : Lineage) where
         | false ↦ chosen_flat g to xs
       ]
 
-  merged_flat : {X : Type 0} (g : Delta → List X) (next to : ℕ) (t : Table) → IsTable next t → g empty_delta ≡ [] → flat_map (λ (x : Loaded). cond (nat_le x.version to) (g x.delta.value) []) t.loaded.items ≡ flat_map g (merged_singles (stock_of next t) to)
+  merged_flat : {X : Type 0} (g : Delta → List X) (next to : ℕ) (t : Table) → IsTable next t → g empty_delta ≡ [] → flat_map (λ (x : Loaded). cond (nat_le x.version to) (g x.delta.value) []) t.loaded.items ≡ flat_map g (merged_singles (meta_of next t) to)
   merged_flat g next to t is none =
-      let u = stock_of next t in
+      let u = meta_of next t in
       chosen_flat g to t.loaded.items ∙ sym (singles_through g (start_of_base t.base) to next t.loaded.items none is.loaded) ∙ ap (λ s. flat_map g (take (to + 1 - s) u.singles)) (sym (start_held next t))
 
-  pub found_held : (next to : ℕ) (t : Table) → IsTable next t → list_all (found_to to) (held_ranges t) ≡ list_all (is_found found l) (merged_singles (stock_of next t) to)
+  pub found_held : (next to : ℕ) (t : Table) → IsTable next t → list_all (found_to to) (held_ranges t) ≡ list_all (is_found found l) (merged_singles (meta_of next t) to)
   found_held next to t is =
       let base = option_map ending_of t.base in
       all_flat_nil (found_to to) (held_ranges t) ∙ ap is_nil (held_give (misses (found_to to)) (λ s e. refl) t ∙ (λ i. base_out to base i ++ flat_map-same (λ (x : Loaded). misses (found_to to) (loaded_range x)) (λ (x : Loaded). cond (nat_le x.version to) (misses (is_found found l) x.delta.value) []) t.loaded.items (one_out to) i)
-      ∙ merged_flat (misses (is_found found l)) next to t is refl) ∙ sym (all_flat_nil (is_found found l) (merged_singles (stock_of next t) to))
+      ∙ merged_flat (misses (is_found found l)) next to t is refl) ∙ sym (all_flat_nil (is_found found l) (merged_singles (meta_of next t) to))
 
-  pub rows_merged : (next to : ℕ) (t : Table) → IsTable next t → flat_map (rows_where found l (is_up_to to)) (held_ranges t) ≡ rows_of (map at_present (merged_singles (stock_of next t) to))
+  pub rows_merged : (next to : ℕ) (t : Table) → IsTable next t → flat_map (rows_where found l (is_up_to to)) (held_ranges t) ≡ rows_of (map at_present (merged_singles (meta_of next t) to))
   rows_merged next to t is =
       let base = option_map ending_of t.base in
       held_give (rows_where found l (is_up_to to)) (λ s e. refl) t
       ∙ (λ i. base_none to base i ++ flat_map (λ (x : Loaded). cond (nat_le x.version to) (at_present x.delta.value) []) t.loaded.items)
-      ∙ merged_flat at_present next to t is refl ∙ sym (flat_map-map (λ part. part) at_present (merged_singles (stock_of next t) to))
+      ∙ merged_flat at_present next to t is refl ∙ sym (flat_map-map (λ part. part) at_present (merged_singles (meta_of next t) to))

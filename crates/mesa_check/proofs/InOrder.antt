@@ -3,10 +3,10 @@ use Rattle.std.proofs.Common.{◌≡◌, ◌⊎◌, inl, inr, ◌<◌, ℕ, ◌+
 use Rattle.std.proofs.lemmas.Bool.Decides.{nat_tests}
 use Rattle.std.specs.Prelude.{◌||◌, ⊤, option_map}
 use Rattle.mesa_schema.proofs.Lists.{all_so}
-use Rattle.mesa_plans.specs.mesa_span.Ranges.{Rise, ends_of_tens, start_behind}
-use Rattle.mesa_plans.proofs.mesa_span.Reachable.{reachable_in_order}
-use Rattle.mesa_image_spec.specs.Catalog.{Delta, Ending, Stock, end_in, ranges_of, start_in}
-use Rattle.mesa_image_spec.specs.Shape.{IsShaped}
+use Rattle.mesa_pick_files.specs.mesa_span.Ranges.{Rise, ends_of_tens, start_behind}
+use Rattle.mesa_pick_files.proofs.mesa_span.Reachable.{reachable_in_order}
+use Rattle.mesa_store_spec.specs.Catalog.{Delta, Ending, TableMeta, end_in, ranges_of, start_in}
+use Rattle.mesa_store_spec.specs.Shape.{IsShaped}
 use Rattle.mesa_check.specs.Laws.{RangesAreOrdered}
 use Rattle.mesa_check.specs.Ranges.{Range, are_ordered, base_range, checked_ranges, cumulative_range, is_before, single_ranges}
 
@@ -81,7 +81,7 @@ ends_behind start (e ∷ es) is rise =
     let first : e.to ≡ start + 10 * 0 + 9 = cc in
     (omega (arith, first), rise.1)
 
-table_ordered : (floor next : ℕ) (t : Stock) → IsShaped floor next t → are_ordered (checked_ranges t) ≡ true
+table_ordered : (floor next : ℕ) (t : TableMeta) → IsShaped floor next t → are_ordered (checked_ranges t) ≡ true
 table_ordered floor next t shaped = by t.base (start_in t) refl (ends_behind (start_in t) t.cumulatives shaped.reachable (reachable_in_order (ranges_of t) shaped.reachable))
   where
     by : (b : Option Ending) (start : ℕ) → start_behind (option_map end_in b) ≡ start → Rise (start + 1) (map end_in t.cumulatives)
@@ -93,4 +93,4 @@ table_ordered floor next t shaped = by t.base (start_in t) refl (ends_behind (st
         are_so None (base_range (Some b) ++ (take 1 (single_ranges start t.singles) ++ (map (cumulative_range start) t.cumulatives ++ drop 1 (single_ranges start t.singles)))) (tt, all)
 
 pub ranges_ordered : RangesAreOrdered
-ranges_ordered c is = all_so (IsShaped c.floor c.next) (λ (t : Stock). are_ordered (checked_ranges t) ≡ true) c.tables (λ t its. table_ordered c.floor c.next t its) is.tables
+ranges_ordered c is = all_so (IsShaped c.floor c.next) (λ (t : TableMeta). are_ordered (checked_ranges t) ≡ true) c.tables (λ t its. table_ordered c.floor c.next t its) is.tables

@@ -5,8 +5,8 @@ use Rattle.std.specs.List.{AllByRecursion, list_all}
 use Rattle.std.proofs.lemmas.List.{take_all, take_more}
 use Rattle.mesa_disk.specs.Story.{Story, Unmoved}
 use Rattle.mesa_schema.proofs.Lists.{all_append}
-use Rattle.mesa_tasks.specs.Opening.{Counted, one_if}
-use Rattle.mesa_table.proofs.Pushes.{pushed_more}
+use Rattle.mesa_open_files.specs.Opening.{Counted, one_if}
+use Rattle.mesa_catalog_table.proofs.Pushes.{pushed_more}
 
 -- one more
 pub flat_more : {X Y : Type 0} (f : X → List Y) (xs : List X) (i : ℕ) (x : X) → i < length xs → x ≡ get_or xs i x → flat_map f (take i xs) ++ f x ≡ flat_map f (take (i + 1) xs)

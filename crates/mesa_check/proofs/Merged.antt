@@ -8,11 +8,11 @@ use Rattle.mesa_schema.specs.Changes.{Lineage, columns_of}
 use Rattle.mesa_schema.specs.Columns.{aggs_of}
 use Rattle.mesa_schema.specs.Folded.{folded, rows_of}
 use Rattle.mesa_schema.specs.declared.rows.Row.{Row}
-use Rattle.mesa_image_spec.specs.Catalog.{Delta, Stock}
-use Rattle.mesa_image_spec.specs.Contents.{present}
-use Rattle.mesa_tasks.specs.declared.opening.Wanted.{Wanted}
-use Rattle.mesa_plans.specs.Files.{table_wanted, want_of}
-use Rattle.mesa_plans.specs.Lent.{with_rows}
+use Rattle.mesa_store_spec.specs.Catalog.{Delta, TableMeta}
+use Rattle.mesa_store_spec.specs.Contents.{present}
+use Rattle.mesa_open_files.specs.declared.opening.Wanted.{Wanted}
+use Rattle.mesa_pick_files.specs.Files.{table_wanted, want_of}
+use Rattle.mesa_pick_files.specs.Lent.{with_rows}
 use Rattle.mesa_check_file.specs.Difference.{first_difference}
 use Rattle.mesa_check_file.specs.Compared.{HaveFiles, IsLiftedTo, present_parts}
 use Rattle.mesa_check.specs.Found.{Found, rows_found}
@@ -21,10 +21,10 @@ use Rattle.mesa_check.specs.Shown.{key_list}
 use Rattle.mesa_check.proofs.Rows.{all_lifted, key_shown, no_key, same_fold, same_wanted, singles_rows, singles_there}
 use Rattle.mesa_check.proofs.Standing.{MayReplace}
 
-pub not_asked : (found : Found) (u : Stock) (to : ℕ) (d : Delta) → false ≡ is_asked found u to → key_list None ≡ merged_key found u to d
+pub not_asked : (found : Found) (u : TableMeta) (to : ℕ) (d : Delta) → false ≡ is_asked found u to → key_list None ≡ merged_key found u to d
 not_asked found u to d out = no_key (is_asked found u to) (first_difference (folded (aggs_of (columns_of u.lineage)) (map (present (rows_found found) u.lineage) (merged_singles u to))) (present (rows_found found) u.lineage d)) (sym out)
 
-module _ (i : Image) (found : Found) (u : Stock) (to : ℕ) (d : Delta) (asked : true ≡ is_asked found u to) (ps : List Delta) (may : MayReplace i found u to ps)
+module _ (i : Image) (found : Found) (u : TableMeta) (to : ℕ) (d : Delta) (asked : true ≡ is_asked found u to) (ps : List Delta) (may : MayReplace i found u to ps)
     (ws : List Wanted) (ds : List Delta) (are : map want_of ws ≡ flat_map (table_wanted u.lineage) ds) (same : with_rows ds ≡ with_rows ps) where
   abbrev l : Lineage
   l = u.lineage

@@ -6,11 +6,11 @@ use Rattle.std.specs.declared.alloc.Global.{Global}
 use Rattle.std.specs.declared.sync.Arc.{Arc}
 use Rattle.std.proofs.lemmas.List.{map-append, take-append-drop}
 use Rattle.mesa_schema.proofs.Lists.{all_append}
-use Rattle.mesa_image_spec.specs.Catalog.{Delta, Ending}
-use Rattle.mesa_image_spec.proofs.Lists.{all_back, all_front}
-use Rattle.mesa_table.specs.declared.table.Loaded.{Loaded}
-use Rattle.mesa_table.specs.declared.table.Table.{Table}
-use Rattle.mesa_table.specs.Meaning.{AreLoaded, IsTable, ending_of, start_of_base, tens_from}
+use Rattle.mesa_store_spec.specs.Catalog.{Delta, Ending}
+use Rattle.mesa_store_spec.proofs.Lists.{all_back, all_front}
+use Rattle.mesa_catalog_table.specs.declared.table.Loaded.{Loaded}
+use Rattle.mesa_catalog_table.specs.declared.table.Table.{Table}
+use Rattle.mesa_catalog_table.specs.Meaning.{AreLoaded, IsTable, ending_of, start_of_base, tens_from}
 use Rattle.mesa_check.specs.Ranges.{Range, base_range, cumulative_range}
 use Rattle.mesa_check.specs.Counted.{is_single}
 use Rattle.mesa_check.specs.Held.{firsts, held_ranges, loaded_range, range_in}

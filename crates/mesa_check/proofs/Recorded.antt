@@ -13,18 +13,18 @@ use Rattle.mesa_delta.specs.Spread.{blocks_of}
 use Rattle.mesa_record.specs.declared.record.Files.{Files}
 use Rattle.mesa_record.specs.declared.record.ViewRef.{ViewRef}
 use Rattle.mesa_schema.specs.declared.views.View.{View}
-use Rattle.mesa_image_spec.proofs.Contents.{present_now}
-use Rattle.mesa_plans.specs.Files.{own_lineage}
-use Rattle.mesa_image_spec.specs.Catalog.{Delta}
-use Rattle.mesa_image_spec.specs.Fitting.{Shelved, columns_seen, view_shelved}
-use Rattle.mesa_tasks.specs.Opening.{wanted_columns, wanted_layout}
-use Rattle.mesa_tasks.specs.declared.opening.Wanted.{Wanted}
+use Rattle.mesa_store_spec.proofs.Contents.{present_now}
+use Rattle.mesa_pick_files.specs.Files.{own_lineage}
+use Rattle.mesa_store_spec.specs.Catalog.{Delta}
+use Rattle.mesa_store_spec.specs.Fitting.{LiveFile, columns_seen, view_live}
+use Rattle.mesa_open_files.specs.Opening.{wanted_columns, wanted_layout}
+use Rattle.mesa_open_files.specs.declared.opening.Wanted.{Wanted}
 use Rattle.mesa_check_file.specs.Examined.{AreSumsIn, IsExaminedAs}
 use Rattle.mesa_check_file.specs.Sums.{counted}
 use Rattle.mesa_check_file.specs.declared.totals.Sums.{Sums}
 use Rattle.mesa_check.specs.Found.{AreFound, Found, IsFoundAs}
 use Rattle.mesa_check.specs.Faults.{agrees_if_any, is_view_found}
-use Rattle.mesa_check.specs.Tested.{AreSumsAt, AreSumsFound, HasRows, IsTestIn, IsTested, shelf_of}
+use Rattle.mesa_check.specs.Tested.{AreSumsAt, AreSumsFound, HasRows, IsTestIn, IsTested, live_file_of}
 use Rattle.mesa_check.specs.declared.testing.Test.{Test}
 
 -- two files of as many blocks with the same bytes have the same rows
@@ -32,7 +32,7 @@ abbrev pub OneFile : Type 0
 OneFile = (s : Layout) (rows others : List Row) (bytes : List ℕ) → IsTrue (is_schema s.columns) → length bytes < 2 ^ 64 → IsFile s rows bytes → IsFile s others bytes → length (blocks_of s rows) ≡ length (blocks_of s others) → rows ≡ others
 
 -- what is examined of a file is what is found of it
-pub found_once : OneFile → (i : Image) (w : Wanted) (rows : Option (List Row)) (o : Option Sums) → IsTrue (is_schema (wanted_columns w)) → w.file.now.len < 2 ^ 64 → IsExaminedAs i w o → IsFoundAs i (shelf_of w) rows → AreSumsFound w rows o
+pub found_once : OneFile → (i : Image) (w : Wanted) (rows : Option (List Row)) (o : Option Sums) → IsTrue (is_schema (wanted_columns w)) → w.file.now.len < 2 ^ 64 → IsExaminedAs i w o → IsFoundAs i (live_file_of w) rows → AreSumsFound w rows o
 found_once law i w None None schema fits examined found = tt
 found_once law i w None (Some sums) schema fits examined found = found (file_bytes (wanted_layout w) examined.0) examined.0 examined.1 examined.2 examined.3
 found_once law i w (Some rows) None schema fits examined found = examined (file_bytes (wanted_layout w) rows) rows found.0 found.1 found.2
@@ -46,7 +46,7 @@ found_once law i w (Some rows) (Some sums) schema fits examined found =
     let one : mine ≡ rows = law s mine rows (file_bytes s rows) schema few (subst (IsFile s mine) same examined.2) found.1 (sym examined.3.blocks ∙ found.2.blocks) in
     subst (λ (r : List Row). AreSumsIn w r sums) one examined.4
 
-pub has_rows : (i : Image) (w : Wanted) (o : Option Sums) → is_some o ≡ true → IsExaminedAs i w o → HasRows i (shelf_of w)
+pub has_rows : (i : Image) (w : Wanted) (o : Option Sums) → is_some o ≡ true → IsExaminedAs i w o → HasRows i (live_file_of w)
 has_rows i w None some examined = absurd cc
 has_rows i w (Some sums) some examined = (examined.0, (examined.1, examined.2, examined.3))
 
@@ -69,23 +69,23 @@ some_as_found w (Some rows) (Some sums) is = refl
 -- ---- the files of a delta
 
 module _ (told : Option Image) (l : Lineage) (epoch : ℕ) (f : Files) (totals : Option (List ℕ)) (e : ℕ) (t : Test) (at : e ≡ epoch) where
-  abbrev own_shelf : Shelved
-  own_shelf = record { columns = columns_at l e; file = f.file }
+  abbrev own_live_file : LiveFile
+  own_live_file = record { columns = columns_at l e; file = f.file }
 
-  same_shelf : own_shelf ≡ record { columns = columns_at l epoch; file = f.file }
-  same_shelf = λ k. record { columns = columns_at l (at k); file = f.file }
+  same_live_file : own_live_file ≡ record { columns = columns_at l epoch; file = f.file }
+  same_live_file = λ k. record { columns = columns_at l (at k); file = f.file }
 
-  its_file : (i : Image) (o : Option (List Row)) → IsFoundAs i (record { columns = columns_at l epoch; file = f.file }) o → IsFoundAs i own_shelf o
-  its_file i o is = subst (λ (x : Shelved). IsFoundAs i x o) (sym same_shelf) is
+  its_file : (i : Image) (o : Option (List Row)) → IsFoundAs i (record { columns = columns_at l epoch; file = f.file }) o → IsFoundAs i own_live_file o
+  its_file i o is = subst (λ (x : LiveFile). IsFoundAs i x o) (sym same_live_file) is
 
   -- all are the recorded ones
   pub files_found : (sums : Sums) → ((i : Image) (rows : Option (List Row)) → told ≡ Some i → IsFoundAs i (record { columns = columns_at l e; file = f.file }) rows → AreSumsAt l e rows (Some sums))
       → ((i : Image) → told ≡ Some i → HasRows i (record { columns = columns_at l e; file = f.file }))
-      → ((i : Image) (found : Found) → told ≡ Some i → AreFound i found (map (view_shelved l) f.views) → true ≡ list_all (is_view_found found l) f.views) → ((i : Image) → told ≡ Some i → AllByRecursion (HasRows i) (map (view_shelved l) f.views))
+      → ((i : Image) (found : Found) → told ≡ Some i → AreFound i found (map (view_live l) f.views) → true ≡ list_all (is_view_found found l) f.views) → ((i : Image) → told ≡ Some i → AllByRecursion (HasRows i) (map (view_live l) f.views))
       → t.found ≡ true → ((sums_own : List ℕ) → sums.own ≡ counted sums_own → t.totalled ≡ agrees_if_any totals sums_own) → t.present ≡ sums.present → IsTestIn told l (record { epoch = epoch; files = Some f; totals = totals }) t
   files_found sums own own_there views views_there is_found_so totalled present = record {
     tested = λ i found is are. by found (found f.file.id) refl (own i (found f.file.id) is (its_file i (found f.file.id) are.0)) (views i found is are.1);
-    there = λ i is so. (subst (HasRows i) same_shelf (own_there i is), views_there i is);
+    there = λ i is so. (subst (HasRows i) same_live_file (own_there i is), views_there i is);
   }
     where
       by : (found : Found) (o : Option (List Row)) → found f.file.id ≡ o → AreSumsAt l e o (Some sums) → true ≡ list_all (is_view_found found l) f.views → IsTested found l (record { epoch = epoch; files = Some f; totals = totals }) t
@@ -108,7 +108,7 @@ module _ (told : Option Image) (l : Lineage) (epoch : ℕ) (f : Files) (totals :
   }
 
   -- one of the views' isn't
-  pub views_lost : ((i : Image) (found : Found) → told ≡ Some i → AreFound i found (map (view_shelved l) f.views) → false ≡ list_all (is_view_found found l) f.views) → t.found ≡ false → IsTestIn told l (record { epoch = epoch; files = Some f; totals = totals }) t
+  pub views_lost : ((i : Image) (found : Found) → told ≡ Some i → AreFound i found (map (view_live l) f.views) → false ≡ list_all (is_view_found found l) f.views) → t.found ≡ false → IsTestIn told l (record { epoch = epoch; files = Some f; totals = totals }) t
   views_lost views lost = record {
     tested = λ i found is are. record {
       found = lost ∙ sym (last_out (is_some (found f.file.id))) ∙ (λ k. is_some (found f.file.id) && views i found is are.1 k);
@@ -143,12 +143,12 @@ seen_some (x ∷ xs) zero h = (x, refl)
 seen_some (x ∷ xs) (suc n) h = seen_some xs n (omega (arith, h))
 
 -- a view's file under columns that never change
-abbrev pub shelved_as : Lineage → ViewRef → Shelved
-shelved_as own v = record { columns = columns_at own 0; file = v.file }
+abbrev pub live_as : Lineage → ViewRef → LiveFile
+live_as own v = record { columns = columns_at own 0; file = v.file }
 
-pub view_shelf : (l : Lineage) (v : ViewRef) (own : Lineage) → v.view < length l.views → IfSome (slice_get l.views v.view) (λ view. own ≡ own_lineage l view)
-    → shelved_as own v ≡ view_shelved l v
-view_shelf l v own there is =
+pub view_live_file : (l : Lineage) (v : ViewRef) (own : Lineage) → v.view < length l.views → IfSome (slice_get l.views v.view) (λ view. own ≡ own_lineage l view)
+    → live_as own v ≡ view_live l v
+view_live_file l v own there is =
     let some = seen_some l.views v.view there in
     let same : own ≡ own_lineage l some.0 = subst (λ (o : Option View). IfSome o (λ view. own ≡ own_lineage l view)) some.1 is in
     λ k. record { columns = (ap (λ (m : Lineage). columns_at m 0) same ∙ ap (columns_seen (columns_of l)) (sym some.1)) k; file = v.file }

@@ -3,8 +3,8 @@ use Rattle.std.proofs.Common.{◌≡◌, ℕ, zero, suc, ◌+◌, ◌<◌, List,
 use Rattle.std.specs.Prelude.{flat_map, is_some, nat_lt, slice_get, unwrap_or, Option, None, Some, IfSome}
 use Rattle.std.specs.List.{AllByRecursion, list_all}
 use Rattle.std.proofs.lemmas.Bool.Decides.{nat_tests}
-use Rattle.mesa_plans.specs.mesa_value.declared.Agg.{Agg}
-use Rattle.mesa_plans.specs.mesa_value.declared.Agg.TheVariants as agg
+use Rattle.mesa_pick_files.specs.mesa_value.declared.Agg.{Agg}
+use Rattle.mesa_pick_files.specs.mesa_value.declared.Agg.TheVariants as agg
 use Rattle.mesa_schema.specs.declared.rows.Row.{Row}
 use Rattle.mesa_schema.specs.declared.views.View.{View}
 use Rattle.mesa_schema.specs.Changes.{Lineage, columns_at, columns_of, epoch_of, lifted}
@@ -16,19 +16,19 @@ use Rattle.mesa_batch.specs.Totals.{abs_total, sum_bound, sum_places}
 use Rattle.mesa_disk.specs.Image.{Image}
 use Rattle.mesa_record.specs.declared.record.Files.{Files}
 use Rattle.mesa_record.specs.declared.record.ViewRef.{ViewRef}
-use Rattle.mesa_image_spec.specs.Catalog.{Delta}
-use Rattle.mesa_image_spec.specs.Contents.{present, rows_if_any}
-use Rattle.mesa_image_spec.specs.Fitting.{Shelved, delta_shelved, files_shelved, view_shelved}
-use Rattle.mesa_image_spec.proofs.Lists.{all_unmap, both_true}
-use Rattle.mesa_tasks.specs.declared.opening.Wanted.{Wanted}
-use Rattle.mesa_plans.specs.Files.{Want, files_wanted, table_wanted, want_of}
-use Rattle.mesa_plans.specs.Lent.{with_rows}
+use Rattle.mesa_store_spec.specs.Catalog.{Delta}
+use Rattle.mesa_store_spec.specs.Contents.{present, rows_if_any}
+use Rattle.mesa_store_spec.specs.Fitting.{LiveFile, delta_live, files_live, view_live}
+use Rattle.mesa_store_spec.proofs.Lists.{all_unmap, both_true}
+use Rattle.mesa_open_files.specs.declared.opening.Wanted.{Wanted}
+use Rattle.mesa_pick_files.specs.Files.{Want, files_wanted, table_wanted, want_of}
+use Rattle.mesa_pick_files.specs.Lent.{with_rows}
 use Rattle.mesa_check_file.specs.Difference.{first_difference}
 use Rattle.mesa_check_file.specs.Compared.{HaveFiles, IsLiftedTo, present_parts, present_rows}
 use Rattle.mesa_check.specs.Found.{AreFound, Found, IsFoundAs, rows_found}
 use Rattle.mesa_check.specs.Faults.{are_files_found, is_found, is_view_found, keep_bound, key_if, view_key, view_keys, view_keys_in}
 use Rattle.mesa_check.specs.Shown.{key_list}
-use Rattle.mesa_check.specs.Tested.{AreThere, IsThere, shelf_of}
+use Rattle.mesa_check.specs.Tested.{AreThere, IsThere, live_file_of}
 
 -- ---- sums that keep their bound
 
@@ -62,27 +62,27 @@ keeps_bound s rows all c p = let h = keeps_sums s rows all c p in plus (abs_tota
 -- ---- files that were found
 
 module _ (i : Image) (found : Found) where
-  one_there : (x : Shelved) (o : Option (List Row)) → found x.file.id ≡ o → is_some o ≡ true → IsFoundAs i x (found x.file.id) → IsThere i found x
+  one_there : (x : LiveFile) (o : Option (List Row)) → found x.file.id ≡ o → is_some o ≡ true → IsFoundAs i x (found x.file.id) → IsThere i found x
   one_there x None e some is = absurd cc
   one_there x (Some rows) e some is =
       subst (λ (r : List Row). IsFoundAs i x (Some r)) (ap (λ (o : Option (List Row)). unwrap_or o []) (sym e)) (subst (IsFoundAs i x) e is)
 
-  views_there : (l : Lineage) (views : List ViewRef) → list_all (is_view_found found l) views ≡ true → AreFound i found (map (view_shelved l) views) → AllByRecursion (IsThere i found) (map (view_shelved l) views)
+  views_there : (l : Lineage) (views : List ViewRef) → list_all (is_view_found found l) views ≡ true → AreFound i found (map (view_live l) views) → AllByRecursion (IsThere i found) (map (view_live l) views)
   views_there l [] all are = tt
   views_there l (v ∷ views) all are =
       let parts = both_true (is_view_found found l v) (list_all (is_view_found found l) views) all in
-      (one_there (view_shelved l v) (found v.file.id) refl (both_true (is_some (slice_get l.views v.view)) (is_some (found v.file.id)) parts.0).1 are.0, views_there l views parts.1 are.1)
+      (one_there (view_live l v) (found v.file.id) refl (both_true (is_some (slice_get l.views v.view)) (is_some (found v.file.id)) parts.0).1 are.0, views_there l views parts.1 are.1)
 
-  pub are_there : (l : Lineage) (d : Delta) → is_found found l d ≡ true → AreFound i found (delta_shelved l d) → AreThere i found l d
+  pub are_there : (l : Lineage) (d : Delta) → is_found found l d ≡ true → AreFound i found (delta_live l d) → AreThere i found l d
   are_there l d so are = by d.files so are
     where
-      by : (o : Option Files) → are_files_found found l o ≡ true → AreFound i found (files_shelved l d.epoch o) → AllByRecursion (IsThere i found) (files_shelved l d.epoch o)
+      by : (o : Option Files) → are_files_found found l o ≡ true → AreFound i found (files_live l d.epoch o) → AllByRecursion (IsThere i found) (files_live l d.epoch o)
       by None so are = tt
       by (Some f) so are =
           let parts = both_true (is_some (found f.file.id)) (list_all (is_view_found found l) f.views) so in
           (one_there (record { columns = columns_at l d.epoch; file = f.file }) (found f.file.id) refl parts.0 are.0, views_there l f.views parts.1 are.1)
 
-  pub all_there : (l : Lineage) (ds : List Delta) → list_all (is_found found l) ds ≡ true → AllByRecursion (λ d. AreFound i found (delta_shelved l d)) ds → AllByRecursion (AreThere i found l) ds
+  pub all_there : (l : Lineage) (ds : List Delta) → list_all (is_found found l) ds ≡ true → AllByRecursion (λ d. AreFound i found (delta_live l d)) ds → AllByRecursion (AreThere i found l) ds
   all_there l [] so are = tt
   all_there l (d ∷ ds) so are = let parts = both_true (is_found found l d) (list_all (is_found found l) ds) so in (are_there l d parts.0 are.0, all_there l ds parts.1 are.1)
 
@@ -91,13 +91,13 @@ module _ (i : Image) (found : Found) where
   abbrev rows_at : Wanted → List Row
   rows_at w = rows_found found w.file.now.id
 
-  pub have_files : (ws : List Wanted) → AllByRecursion (λ w. IsThere i found (shelf_of w)) ws → HaveFiles i ws (map (λ (w : Wanted). rows_found found w.file.now.id) ws)
+  pub have_files : (ws : List Wanted) → AllByRecursion (λ w. IsThere i found (live_file_of w)) ws → HaveFiles i ws (map (λ (w : Wanted). rows_found found w.file.now.id) ws)
   have_files [] all = tt
   have_files (w ∷ ws) all = (all.0, have_files ws all.1)
 
 -- the file that is wanted, with its columns
-abbrev pub want_shelf : Want → Shelved
-want_shelf t = record { columns = columns_at t.lineage t.epoch; file = t.file }
+abbrev pub want_live_file : Want → LiveFile
+want_live_file t = record { columns = columns_at t.lineage t.epoch; file = t.file }
 
 module _ {X : Type 0} (f : Delta → List X) (none : (d : Delta) → d.files ≡ None → f d ≡ []) where
   rows_alone : (ds : List Delta) → flat_map f ds ≡ flat_map f (with_rows ds)
@@ -128,16 +128,16 @@ module _ (ws : List Wanted) (l : Lineage) (ds : List Delta) (are : map want_of w
   all_lifted = all_unmap (λ (t : Want). columns_of t.lineage ≡ columns_of l) want_of ws (subst (AllByRecursion (λ (t : Want). columns_of t.lineage ≡ columns_of l)) (sym are) (wanted_lineage l ds))
 
   module _ (i : Image) (found : Found) where
-    wanted_there : (ds : List Delta) → AllByRecursion (AreThere i found l) ds → AllByRecursion (λ t. IsThere i found (want_shelf t)) (flat_map (table_wanted l) ds)
+    wanted_there : (ds : List Delta) → AllByRecursion (AreThere i found l) ds → AllByRecursion (λ t. IsThere i found (want_live_file t)) (flat_map (table_wanted l) ds)
     wanted_there [] all = tt
     wanted_there (d ∷ ds) all = by d.files all.0 (wanted_there ds all.1)
       where
-        by : (o : Option Files) → AllByRecursion (IsThere i found) (files_shelved l d.epoch o) → AllByRecursion (λ t. IsThere i found (want_shelf t)) (flat_map (table_wanted l) ds) → AllByRecursion (λ t. IsThere i found (want_shelf t)) (files_wanted l d.epoch o ++ flat_map (table_wanted l) ds)
+        by : (o : Option Files) → AllByRecursion (IsThere i found) (files_live l d.epoch o) → AllByRecursion (λ t. IsThere i found (want_live_file t)) (flat_map (table_wanted l) ds) → AllByRecursion (λ t. IsThere i found (want_live_file t)) (files_wanted l d.epoch o ++ flat_map (table_wanted l) ds)
         by None its rest = rest
         by (Some f) its rest = (its.0, rest)
 
     pub singles_there : AllByRecursion (AreThere i found l) ds → HaveFiles i ws (map (λ (w : Wanted). rows_found found w.file.now.id) ws)
-    singles_there all = have_files i found ws (all_unmap (λ t. IsThere i found (want_shelf t)) want_of ws (subst (AllByRecursion (λ t. IsThere i found (want_shelf t))) (sym are) (wanted_there ds all)))
+    singles_there all = have_files i found ws (all_unmap (λ t. IsThere i found (want_live_file t)) want_of ws (subst (AllByRecursion (λ t. IsThere i found (want_live_file t))) (sym are) (wanted_there ds all)))
 
     abbrev part_of : Want → List Row
     part_of t = map (lifted t.lineage t.epoch (epoch_of t.lineage)) (rows_found found t.file.id)
@@ -204,10 +204,10 @@ no_keys found l d e = by d.files
 
 -- the files of a delta, one by one
 pub there_files : (i : Image) (found : Found) (l : Lineage) (d : Delta) (f : Files) → d.files ≡ Some f → AreThere i found l d
-    → IsThere i found (record { columns = columns_at l d.epoch; file = f.file }) × AllByRecursion (λ (v : ViewRef). IsThere i found (view_shelved l v)) f.views
+    → IsThere i found (record { columns = columns_at l d.epoch; file = f.file }) × AllByRecursion (λ (v : ViewRef). IsThere i found (view_live l v)) f.views
 there_files i found l d f is there =
-    let all = subst (λ (o : Option Files). AllByRecursion (IsThere i found) (files_shelved l d.epoch o)) is there in
-    (all.0, all_unmap (IsThere i found) (view_shelved l) f.views all.1)
+    let all = subst (λ (o : Option Files). AllByRecursion (IsThere i found) (files_live l d.epoch o)) is there in
+    (all.0, all_unmap (IsThere i found) (view_live l) f.views all.1)
 
 -- a table's rows of a delta at present
 pub present_is : (found : Found) (l : Lineage) (d : Delta) (f : Files) (epoch : ℕ) → d.files ≡ Some f → epoch ≡ d.epoch → present (rows_found found) l d ≡ map (lifted l epoch (epoch_of l)) (rows_found found f.file.id)

@@ -4,16 +4,16 @@ use Rattle.std.proofs.lemmas.Bool.Decides.{nat_tests}
 use Rattle.std.specs.Prelude.{◌||◌, cond, filter, is_some}
 use Rattle.std.specs.List.{AllByRecursion}
 use Rattle.mesa_schema.proofs.Lists.{all_append, all_so}
-use Rattle.mesa_image_spec.proofs.Lists.{all_front, all_back, all_unmap}
-use Rattle.mesa_image_spec.specs.Catalog.{Delta, Ending, Stock, start_in}
-use Rattle.mesa_image_spec.specs.Fitting.{base_deltas}
+use Rattle.mesa_store_spec.proofs.Lists.{all_front, all_back, all_unmap}
+use Rattle.mesa_store_spec.specs.Catalog.{Delta, Ending, TableMeta, start_in}
+use Rattle.mesa_store_spec.specs.Fitting.{base_deltas}
 use Rattle.mesa_check.specs.Found.{Found}
 use Rattle.mesa_check.specs.Ranges.{Range, base_range, checked_ranges, cumulative_range, is_range, single_ranges, totals_range}
 use Rattle.mesa_check.specs.Faults.{exceeds_totals, fails, fault_of, has_false_totals, is_found, is_totalled, keys_shown, merged_keys, range_faults, view_keys}
 use Rattle.mesa_check.proofs.KeyLists.{all_filtered, all_one_and_rest, both_nil, false_parts, first_all, last_false, nil_map, not_false, and_true}
 
 -- A range has no faults: it doesn't fail, and no key shows one.
-pub record IsSilent (found : Found) (t : Stock) (r : Range) : Type 0 where
+pub record IsSilent (found : Found) (t : TableMeta) (r : Range) : Type 0 where
   pub stands : fails found t r ≡ false
   pub merged : merged_keys found t r ≡ []
   pub views : view_keys found t.lineage r.delta ≡ []
@@ -22,7 +22,7 @@ none_before : {A : Type 0} (b : Bool) (x : A) → cond b (x ∷ []) [] ≡ [] �
 none_before true x e = absurd cc
 none_before false x e = refl
 
-pub silent : (found : Found) (t : Stock) (r : Range) → range_faults found t r ≡ [] → IsSilent found t r
+pub silent : (found : Found) (t : TableMeta) (r : Range) → range_faults found t r ≡ [] → IsSilent found t r
 silent found t r e =
     let all = nil_map (fault_of t r) (cond (fails found t r) (None ∷ []) [] ++ map Some (keys_shown found t r)) e in
     let parts = both_nil (cond (fails found t r) (None ∷ []) []) (map Some (keys_shown found t r)) all in
@@ -31,7 +31,7 @@ silent found t r e =
 
 -- ---- all ranges of a table
 
-module _ (P : Range → Type 0) (t : Stock) (all : AllByRecursion P (checked_ranges t)) where
+module _ (P : Range → Type 0) (t : TableMeta) (all : AllByRecursion P (checked_ranges t)) where
   abbrev singles : List Range
   singles = single_ranges (start_in t) t.singles
 
@@ -67,7 +67,7 @@ same_number n = grind (arith, nat_tests)
 pub is_itself : (o : Option Range) (r : Range) → o ≡ Some r → is_range o r ≡ true
 is_itself o r e = ap (λ p. is_range p r) e ∙ and_true (r.from == r.from) (r.to == r.to) (same_number r.from) (same_number r.to)
 
-module _ (found : Found) (t : Stock) (all : AllByRecursion (IsSilent found t) (checked_ranges t)) where
+module _ (found : Found) (t : TableMeta) (all : AllByRecursion (IsSilent found t) (checked_ranges t)) where
   parts_of : (r : Range) → IsSilent found t r → (is_found found t.lineage r.delta ≡ true) × (has_false_totals found t r ≡ false) × ((is_range (totals_range t) r && exceeds_totals found t) ≡ false)
   parts_of r s =
       let two = false_parts (not (is_found found t.lineage r.delta) || has_false_totals found t r) (is_range (totals_range t) r && exceeds_totals found t) s.stands in

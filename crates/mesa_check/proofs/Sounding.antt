@@ -23,14 +23,14 @@ use Rattle.mesa_record.specs.declared.record.Files.{Files}
 use Rattle.mesa_record.specs.declared.record.ViewRef.{ViewRef}
 use Rattle.mesa_check_file.specs.Difference.{first_difference}
 use Rattle.mesa_check_file.proofs.Differences.{same_where_none}
-use Rattle.mesa_image_spec.specs.Catalog.{Delta, Ending, Stock, start_in}
-use Rattle.mesa_image_spec.specs.Fitting.{Shelved, base_deltas, delta_in, delta_shelved, deltas_of, files_shelved, stock_shelved, view_shelved}
-use Rattle.mesa_image_spec.specs.Contents.{Rows, present, rows_in, rows_if_any}
-use Rattle.mesa_image_spec.specs.Shape.{IsShaped}
-use Rattle.mesa_image_spec.specs.Sound.{AreGrouped, IsGrouped, IsGroupedAs, IsMerged, IsStocked, IsTold, IsTotalled, all_parts}
-use Rattle.mesa_image_spec.proofs.Lists.{all_front, all_back, all_flat, all_take, all_unflat, all_unmap}
-use Rattle.mesa_image_spec.proofs.Formed.{AreFormed, all_formed, rows_formed}
-use Rattle.mesa_image_spec.proofs.Rising.{rising}
+use Rattle.mesa_store_spec.specs.Catalog.{Delta, Ending, TableMeta, start_in}
+use Rattle.mesa_store_spec.specs.Fitting.{LiveFile, base_deltas, delta_in, delta_live, deltas_of, files_live, meta_live, view_live}
+use Rattle.mesa_store_spec.specs.Contents.{Rows, present, rows_in, rows_if_any}
+use Rattle.mesa_store_spec.specs.Shape.{IsShaped}
+use Rattle.mesa_store_spec.specs.Sound.{AreGrouped, IsGrouped, IsGroupedAs, IsMerged, HasSoundRows, IsTold, IsTotalled, all_parts}
+use Rattle.mesa_store_spec.proofs.Lists.{all_front, all_back, all_flat, all_take, all_unflat, all_unmap}
+use Rattle.mesa_store_spec.proofs.Formed.{AreFormed, all_formed, rows_formed}
+use Rattle.mesa_store_spec.proofs.Rising.{rising}
 use Rattle.mesa_check.specs.Found.{Found, IsFoundAs, rows_found}
 use Rattle.mesa_check.specs.Ranges.{Range, base_range, checked_ranges, cumulative_range, single_ranges, totals_range}
 use Rattle.mesa_check.specs.Faults.{are_at_most, are_files_found, exceeds_totals, is_found, is_totalled, is_true, is_view_found, keep_bound, key_if, merged_key, merged_singles, view_key, view_keys, view_keys_in}
@@ -45,31 +45,31 @@ is_there None d e = absurd cc
 is_there (Some x) d e = refl
 
 -- the files of a delta that was found were found
-files_there : (found : Found) (l : Lineage) (epoch : ℕ) (files : Option Files) → are_files_found found l files ≡ true → AllByRecursion (λ (x : Shelved). is_some (found x.file.id) ≡ true) (files_shelved l epoch files)
+files_there : (found : Found) (l : Lineage) (epoch : ℕ) (files : Option Files) → are_files_found found l files ≡ true → AllByRecursion (λ (x : LiveFile). is_some (found x.file.id) ≡ true) (files_live l epoch files)
 files_there found l epoch None e = tt
 files_there found l epoch (Some f) e =
     let parts = true_parts (is_some (found f.file.id)) (list_all (is_view_found found l) f.views) e in (
       parts.0,
-      all_map (λ (x : Shelved). is_some (found x.file.id) ≡ true) (view_shelved l) f.views
+      all_map (λ (x : LiveFile). is_some (found x.file.id) ≡ true) (view_live l) f.views
           (all_so (λ v. is_view_found found l v ≡ true) (λ (v : ViewRef). is_some (found v.file.id) ≡ true) f.views (λ v both. (true_parts (is_some (slice_get l.views v.view)) (is_some (found v.file.id)) both).1) (passed_all (is_view_found found l) f.views parts.1)),
     )
 
 -- a file that an image has with the rows that were found
-abbrev pub IsThere : Image → Found → Shelved → Type 0
+abbrev pub IsThere : Image → Found → LiveFile → Type 0
 IsThere i found x = IsFoundAs i x (Some (rows_found found x.file.id))
 
-there : (i : Image) (found : Found) (x : Shelved) → IsFoundAs i x (found x.file.id) → is_some (found x.file.id) ≡ true → IsThere i found x
+there : (i : Image) (found : Found) (x : LiveFile) → IsFoundAs i x (found x.file.id) → is_some (found x.file.id) ≡ true → IsThere i found x
 there i found x is some = subst (IsFoundAs i x) (is_there (found x.file.id) [] some) is
 
-told : (i : Image) (found : Found) (x : Shelved) → IsThere i found x → IsTold (rows_found found) x
+told : (i : Image) (found : Found) (x : LiveFile) → IsThere i found x → IsTold (rows_found found) x
 told i found x is = record { file = is.1; true = is.2 }
 
 -- ---- rising rows
 
-present_rises : (rows : Rows) (l : Lineage) (d : Delta) → IsLineage l → AllByRecursion (IsTold rows) (delta_shelved l d) → keys_rise (present rows l d) ≡ true
+present_rises : (rows : Rows) (l : Lineage) (d : Delta) → IsLineage l → AllByRecursion (IsTold rows) (delta_live l d) → keys_rise (present rows l d) ≡ true
 present_rises rows l d is told = by d.files d.epoch told
   where
-    by : (files : Option Files) (epoch : ℕ) → AllByRecursion (IsTold rows) (files_shelved l epoch files) → keys_rise (map (lifted l epoch (epoch_of l)) (rows_if_any rows files)) ≡ true
+    by : (files : Option Files) (epoch : ℕ) → AllByRecursion (IsTold rows) (files_live l epoch files) → keys_rise (map (lifted l epoch (epoch_of l)) (rows_if_any rows files)) ≡ true
     by None epoch told = refl
     by (Some f) epoch told =
         let forms : AreRowsOf (columns_at l epoch) (rows f.file.id) = all_so (IsRow (file_layout (columns_at l epoch) f.file)) (IsRowOf (columns_at l epoch)) (rows f.file.id) (λ row good. good.form) told.0.file.good in
@@ -82,7 +82,7 @@ key_none false o e is = absurd cc
 
 -- ---- a table
 
-module _ (found : Found) (i : Image) (floor next : ℕ) (t : Stock) (shaped : IsShaped floor next t) (its : AllByRecursion (λ (x : Shelved). IsFoundAs i x (found x.file.id)) (stock_shelved t))
+module _ (found : Found) (i : Image) (floor next : ℕ) (t : TableMeta) (shaped : IsShaped floor next t) (its : AllByRecursion (λ (x : LiveFile). IsFoundAs i x (found x.file.id)) (meta_live t))
     (all : AllByRecursion (IsSilent found t) (checked_ranges t)) where
   abbrev rows : Rows
   rows = rows_found found
@@ -104,17 +104,17 @@ module _ (found : Found) (i : Image) (floor next : ℕ) (t : Stock) (shaped : Is
       all_append (λ d. is_found found t.lineage d ≡ true) (base_deltas t.base) (map delta_in t.cumulatives ++ t.singles) (base_found found t all)
       (all_append (λ d. is_found found t.lineage d ≡ true) (map delta_in t.cumulatives) t.singles (all_map (λ d. is_found found t.lineage d ≡ true) delta_in t.cumulatives (cumulatives_found found t all)) (singles_found found t all))
 
-  pub files_are : AllByRecursion (IsThere i found) (stock_shelved t)
+  pub files_are : AllByRecursion (IsThere i found) (meta_live t)
   files_are =
-      all_both (λ (x : Shelved). IsFoundAs i x (found x.file.id)) (λ (x : Shelved). is_some (found x.file.id) ≡ true) (IsThere i found) (stock_shelved t) (there i found) its
-      (all_flat (λ (x : Shelved). is_some (found x.file.id) ≡ true) (delta_shelved t.lineage) (deltas_of t)
-      (all_so (λ d. is_found found t.lineage d ≡ true) (λ d. AllByRecursion (λ (x : Shelved). is_some (found x.file.id) ≡ true) (delta_shelved t.lineage d)) (deltas_of t) (λ d e. files_there found t.lineage d.epoch d.files e) all_deltas))
+      all_both (λ (x : LiveFile). IsFoundAs i x (found x.file.id)) (λ (x : LiveFile). is_some (found x.file.id) ≡ true) (IsThere i found) (meta_live t) (there i found) its
+      (all_flat (λ (x : LiveFile). is_some (found x.file.id) ≡ true) (delta_live t.lineage) (deltas_of t)
+      (all_so (λ d. is_found found t.lineage d ≡ true) (λ d. AllByRecursion (λ (x : LiveFile). is_some (found x.file.id) ≡ true) (delta_live t.lineage d)) (deltas_of t) (λ d e. files_there found t.lineage d.epoch d.files e) all_deltas))
 
-  are_told : AllByRecursion (IsTold rows) (stock_shelved t)
-  are_told = all_so (IsThere i found) (IsTold rows) (stock_shelved t) (told i found) files_are
+  are_told : AllByRecursion (IsTold rows) (meta_live t)
+  are_told = all_so (IsThere i found) (IsTold rows) (meta_live t) (told i found) files_are
 
-  each_told : AllByRecursion (λ d. AllByRecursion (IsTold rows) (delta_shelved t.lineage d)) (deltas_of t)
-  each_told = all_unflat (IsTold rows) (delta_shelved t.lineage) (deltas_of t) are_told
+  each_told : AllByRecursion (λ d. AllByRecursion (IsTold rows) (delta_live t.lineage d)) (deltas_of t)
+  each_told = all_unflat (IsTold rows) (delta_live t.lineage) (deltas_of t) are_told
 
   formed : AreFormed rows l (deltas_of t)
   formed = all_formed rows l (deltas_of t) shaped.lineage each_told
@@ -172,14 +172,14 @@ module _ (found : Found) (i : Image) (floor next : ℕ) (t : Stock) (shaped : Is
       (all_pass (is_found found t.lineage) (merged_singles t to) (all_take (λ d. is_found found t.lineage d ≡ true) (to + 1 - start_in t) t.singles (singles_found found t all)))
       (keeps (rows_of (map f (merged_singles t to))) (taken_less f places (base_deltas t.base) t.singles (to + 1 - start_in t)))
 
-  merged_one : (e : Ending) → IsSilent found t (cumulative_range (start_in t) e) → AllByRecursion (IsTold rows) (delta_shelved l e.delta) → IsMerged rows t e
+  merged_one : (e : Ending) → IsSilent found t (cumulative_range (start_in t) e) → AllByRecursion (IsTold rows) (delta_live l e.delta) → IsMerged rows t e
   merged_one e its told =
       let none = key_none (list_all (is_found found t.lineage) (merged_singles t e.to) && keep_bound s (rows_of (map f (merged_singles t e.to)))) (first_difference (folded (aggs_of s) (map f (merged_singles t e.to))) (f e.delta)) its.merged (merged_tested e.to) in
       sym (same_where_none (folded (aggs_of s) (map f (merged_singles t e.to))) (f e.delta) (folded_rise (aggs_of s) (map f (merged_singles t e.to))) (present_rises rows l e.delta shaped.lineage told) none)
 
   pub merged : AllByRecursion (IsMerged rows t) t.cumulatives
-  merged = all_both (λ e. IsSilent found t (cumulative_range (start_in t) e)) (λ (e : Ending). AllByRecursion (IsTold rows) (delta_shelved l e.delta)) (IsMerged rows t) t.cumulatives merged_one (of_cumulatives (IsSilent found t) t all)
-      (cumulatives_of (λ d. AllByRecursion (IsTold rows) (delta_shelved t.lineage d)) each_told)
+  merged = all_both (λ e. IsSilent found t (cumulative_range (start_in t) e)) (λ (e : Ending). AllByRecursion (IsTold rows) (delta_live l e.delta)) (IsMerged rows t) t.cumulatives merged_one (of_cumulatives (IsSilent found t) t all)
+      (cumulatives_of (λ d. AllByRecursion (IsTold rows) (delta_live t.lineage d)) each_told)
 
   -- ---- rows that keep the bound
 
@@ -218,23 +218,23 @@ module _ (found : Found) (i : Image) (floor next : ℕ) (t : Stock) (shaped : Is
   view_grouped d v (Some view) there none keep rises =
       sym (same_where_none (view_rows s view (f d)) (rows v.file.id) (groups_rise s (view_key_places s view) (view_value_places s view) (f d)) rises (key_none (keep_bound s (f d)) (first_difference (view_rows s view (f d)) (rows v.file.id)) none keep))
 
-  views_grouped : (d : Delta) (epoch : ℕ) (files : Option Files) → are_files_found found l files ≡ true → view_keys_in found l d files ≡ [] → keep_bound s (f d) ≡ true → AllByRecursion (IsTold rows) (files_shelved l epoch files)
+  views_grouped : (d : Delta) (epoch : ℕ) (files : Option Files) → are_files_found found l files ≡ true → view_keys_in found l d files ≡ [] → keep_bound s (f d) ≡ true → AllByRecursion (IsTold rows) (files_live l epoch files)
       → IfSome files (λ x. AllByRecursion (IsGrouped rows l d) x.views)
   views_grouped d epoch None there none keep told = tt
   views_grouped d epoch (Some x) there none keep told =
       let views = passed_all (is_view_found found l) x.views (true_parts (is_some (found x.file.id)) (list_all (is_view_found found l) x.views) there).1 in
       let keys = flat_nil (λ (v : ViewRef). view_key found l d v (slice_get l.views v.view)) x.views none in
-      let rise : AllByRecursion (λ (v : ViewRef). keys_rise (rows v.file.id) ≡ true) x.views = all_so (λ v. IsTold rows (view_shelved l v)) (λ (v : ViewRef). keys_rise (rows v.file.id) ≡ true) x.views (λ v is. rising (rows v.file.id) is.file.rise) (all_unmap (IsTold rows) (view_shelved l) x.views told.1) in
+      let rise : AllByRecursion (λ (v : ViewRef). keys_rise (rows v.file.id) ≡ true) x.views = all_so (λ v. IsTold rows (view_live l v)) (λ (v : ViewRef). keys_rise (rows v.file.id) ≡ true) x.views (λ v is. rising (rows v.file.id) is.file.rise) (all_unmap (IsTold rows) (view_live l) x.views told.1) in
       all_both (λ (v : ViewRef). (is_view_found found l v ≡ true) × (view_key found l d v (slice_get l.views v.view) ≡ [])) (λ (v : ViewRef). keys_rise (rows v.file.id) ≡ true) (IsGrouped rows l d) x.views
       (λ v both rises. view_grouped d v (slice_get l.views v.view) (true_parts (is_some (slice_get l.views v.view)) (is_some (found v.file.id)) both.0).0 both.1 keep rises)
       (all_both (λ (v : ViewRef). is_view_found found l v ≡ true) (λ (v : ViewRef). view_key found l d v (slice_get l.views v.view) ≡ []) (λ (v : ViewRef). (is_view_found found l v ≡ true) × (view_key found l d v (slice_get l.views v.view) ≡ [])) x.views (λ v a b. (a, b)) views keys) rise
 
   grouped_all : AllByRecursion (AreGrouped rows l) (deltas_of t)
   grouped_all =
-      all_both (λ d. (is_found found l d ≡ true) × (view_keys found l d ≡ [])) (λ d. (keep_bound s (f d) ≡ true) × AllByRecursion (IsTold rows) (delta_shelved l d)) (AreGrouped rows l) (deltas_of t)
+      all_both (λ d. (is_found found l d ≡ true) × (view_keys found l d ≡ [])) (λ d. (keep_bound s (f d) ≡ true) × AllByRecursion (IsTold rows) (delta_live l d)) (AreGrouped rows l) (deltas_of t)
       (λ d a b. views_grouped d d.epoch d.files a.0 a.1 b.0 b.1)
       (all_both (λ d. is_found found l d ≡ true) (λ d. view_keys found l d ≡ []) (λ d. (is_found found l d ≡ true) × (view_keys found l d ≡ [])) (deltas_of t) (λ d a b. (a, b)) all_deltas no_keys)
-      (all_both (λ d. keep_bound s (f d) ≡ true) (λ d. AllByRecursion (IsTold rows) (delta_shelved l d)) (λ d. (keep_bound s (f d) ≡ true) × AllByRecursion (IsTold rows) (delta_shelved l d)) (deltas_of t) (λ d a b. (a, b)) all_keep each_told)
+      (all_both (λ d. keep_bound s (f d) ≡ true) (λ d. AllByRecursion (IsTold rows) (delta_live l d)) (λ d. (keep_bound s (f d) ≡ true) × AllByRecursion (IsTold rows) (delta_live l d)) (deltas_of t) (λ d a b. (a, b)) all_keep each_told)
 
   -- ---- totals
 
@@ -246,8 +246,8 @@ module _ (found : Found) (i : Image) (floor next : ℕ) (t : Stock) (shaped : Is
       by (Some recorded) e = same_text recorded (abs_totals (columns_at l d.epoch) (rows_in rows d)) (sym e)
 
   -- What holds of sound rows holds of those that were found.
-  pub stocked : IsStocked rows t
-  stocked = record {
+  pub sound_rows : HasSoundRows rows t
+  sound_rows = record {
     files = are_told;
     merged = merged;
     grouped = grouped_all;

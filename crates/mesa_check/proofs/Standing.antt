@@ -5,7 +5,7 @@ use Rattle.std.specs.List.{AllByRecursion, list_all}
 use Rattle.std.proofs.lemmas.Bool.Decides.{nat_tests}
 use Rattle.std.proofs.lemmas.List.{length-map, map-append}
 use Rattle.std.proofs.lemmas.List.Sums.{sum_by-append}
-use Rattle.mesa_plans.specs.mesa_value.declared.Agg.{Agg}
+use Rattle.mesa_pick_files.specs.mesa_value.declared.Agg.{Agg}
 use Rattle.mesa_schema.specs.declared.columns.ValueColumn.{ValueColumn}
 use Rattle.mesa_schema.specs.declared.rows.Row.{Row}
 use Rattle.mesa_schema.specs.Changes.{Lineage, columns_at, columns_of, epoch_of, lifted}
@@ -26,14 +26,14 @@ use Rattle.mesa_record.specs.declared.record.Files.{Files}
 use Rattle.mesa_check_file.specs.Difference.{first_difference}
 use Rattle.mesa_check_file.proofs.Differences.{same_where_none}
 use Rattle.mesa_batch.specs.Totals.{abs_total, sum_bound, sum_places}
-use Rattle.mesa_image_spec.specs.Catalog.{Delta, Stock, start_in}
-use Rattle.mesa_image_spec.specs.Contents.{Rows, present, rows_if_any}
-use Rattle.mesa_image_spec.specs.Fitting.{delta_shelved, files_shelved}
-use Rattle.mesa_image_spec.specs.Sound.{IsTold}
+use Rattle.mesa_store_spec.specs.Catalog.{Delta, TableMeta, start_in}
+use Rattle.mesa_store_spec.specs.Contents.{Rows, present, rows_if_any}
+use Rattle.mesa_store_spec.specs.Fitting.{delta_live, files_live}
+use Rattle.mesa_store_spec.specs.Sound.{IsTold}
 use Rattle.mesa_check_file.specs.mesa_block.Rows.{IsRow}
-use Rattle.mesa_image_spec.proofs.Formed.{all_formed, rows_formed}
-use Rattle.mesa_image_spec.proofs.Lists.{all_front, both_true}
-use Rattle.mesa_image_spec.proofs.Rising.{rising}
+use Rattle.mesa_store_spec.proofs.Formed.{all_formed, rows_formed}
+use Rattle.mesa_store_spec.proofs.Lists.{all_front, both_true}
+use Rattle.mesa_store_spec.proofs.Rising.{rising}
 use Rattle.mesa_check.specs.Found.{AreFound, Found, rows_found}
 use Rattle.mesa_check.specs.Faults.{is_asked, is_found, keep_bound, key_if, merged_key, merged_singles}
 use Rattle.mesa_check.specs.Held.{delta_of}
@@ -71,13 +71,13 @@ front_keeps s xs ys keeps = less_keeps s xs (xs ++ ys) (λ c. under (abs_total c
 
 -- ---- rows that rise, with a value for each column
 
-told : (i : Image) (found : Found) (l : Lineage) (d : Delta) → AreThere i found l d → AllByRecursion (IsTold (rows_found found)) (delta_shelved l d)
-told i found l d there = all_so (IsThere i found) (IsTold (rows_found found)) (delta_shelved l d) (λ x is. record { file = is.1; true = is.2 }) there
+told : (i : Image) (found : Found) (l : Lineage) (d : Delta) → AreThere i found l d → AllByRecursion (IsTold (rows_found found)) (delta_live l d)
+told i found l d there = all_so (IsThere i found) (IsTold (rows_found found)) (delta_live l d) (λ x is. record { file = is.1; true = is.2 }) there
 
-present_rises : (rows : Rows) (l : Lineage) (d : Delta) → IsLineage l → AllByRecursion (IsTold rows) (delta_shelved l d) → keys_rise (present rows l d) ≡ true
+present_rises : (rows : Rows) (l : Lineage) (d : Delta) → IsLineage l → AllByRecursion (IsTold rows) (delta_live l d) → keys_rise (present rows l d) ≡ true
 present_rises rows l d is told = by d.files d.epoch told
   where
-    by : (files : Option Files) (epoch : ℕ) → AllByRecursion (IsTold rows) (files_shelved l epoch files) → keys_rise (map (lifted l epoch (epoch_of l)) (rows_if_any rows files)) ≡ true
+    by : (files : Option Files) (epoch : ℕ) → AllByRecursion (IsTold rows) (files_live l epoch files) → keys_rise (map (lifted l epoch (epoch_of l)) (rows_if_any rows files)) ≡ true
     by None epoch told = refl
     by (Some f) epoch told =
         let forms : AreRowsOf (columns_at l epoch) (rows f.file.id) = all_so (IsRow (file_layout (columns_at l epoch) f.file)) (IsRowOf (columns_at l epoch)) (rows f.file.id) (λ row good. good.form) told.0.file.good in
@@ -92,12 +92,12 @@ no_difference true (Some key) e is = absurd cc
 no_difference false o e is = absurd cc
 
 -- Deltas may be folded in place of the singletons up to a version: their files are there, their rows keep the bound, and they fold to the same.
-pub record MayReplace (i : Image) (found : Found) (u : Stock) (to : ℕ) (ds : List Delta) : Type 0 where
+pub record MayReplace (i : Image) (found : Found) (u : TableMeta) (to : ℕ) (ds : List Delta) : Type 0 where
   pub there : AllByRecursion (AreThere i found u.lineage) ds
   pub bound : KeepsBound (aggs_of (columns_of u.lineage)) [] (rows_of (map (present (rows_found found) u.lineage) ds))
   pub fold : folded (aggs_of (columns_of u.lineage)) (map (present (rows_found found) u.lineage) ds) ≡ folded (aggs_of (columns_of u.lineage)) (map (present (rows_found found) u.lineage) (merged_singles u to))
 
-module _ (i : Image) (found : Found) (u : Stock) (lineage : IsLineage u.lineage) where
+module _ (i : Image) (found : Found) (u : TableMeta) (lineage : IsLineage u.lineage) where
   abbrev l : Lineage
   l = u.lineage
 
@@ -129,7 +129,7 @@ module _ (i : Image) (found : Found) (u : Stock) (lineage : IsLineage u.lineage)
         λ k. found_so k && bound_so k
 
     -- a cumulative that ends there, and the singletons since then
-    module _ (d : Delta) (there : AreThere i found u.lineage d) (same : merged_key found u end d ≡ []) (files : AllByRecursion (λ e. AreFound i found (delta_shelved u.lineage e)) (merged_singles u to)) where
+    module _ (d : Delta) (there : AreThere i found u.lineage d) (same : merged_key found u end d ≡ []) (files : AllByRecursion (λ e. AreFound i found (delta_live u.lineage e)) (merged_singles u to)) where
       all_told : AllByRecursion (AreThere i found u.lineage) (merged_singles u to)
       all_told = all_there i found l (merged_singles u to) parts.0 files
 
@@ -144,7 +144,7 @@ module _ (i : Image) (found : Found) (u : Stock) (lineage : IsLineage u.lineage)
       full : AreFull aggs (rows_of (map f (merged_singles u end)))
       full =
           are_full s (rows_of (map f (merged_singles u end))) (rows_formed (rows_found found) l (merged_singles u end) (all_formed (rows_found found) l (merged_singles u end) lineage
-          (all_so (AreThere i found l) (λ e. AllByRecursion (IsTold (rows_found found)) (delta_shelved l e)) (merged_singles u end) (λ e its. told i found l e its) first_told)))
+          (all_so (AreThere i found l) (λ e. AllByRecursion (IsTold (rows_found found)) (delta_live l e)) (merged_singles u end) (λ e its. told i found l e its) first_told)))
 
       bounded : KeepsBound aggs [] (rows_of (map f (d ∷ rest)))
       bounded c sum =
@@ -166,7 +166,7 @@ module _ (i : Image) (found : Found) (u : Stock) (lineage : IsLineage u.lineage)
       replaced = record { there = (there, all_drop (AreThere i found l) (end + 1 - start_in u) (merged_singles u to) all_told); bound = bounded; fold = refolds }
 
   -- What a cumulative is compared with may be folded in place of its range's singletons.
-  pub parts_replace : (o : Option Test) (to : ℕ) → IfSome o (λ b. b.range.to ≤ to) → IfSome o (Agrees i found u) → is_asked found u to ≡ true → AllByRecursion (λ e. AreFound i found (delta_shelved u.lineage e)) (merged_singles u to)
+  pub parts_replace : (o : Option Test) (to : ℕ) → IfSome o (λ b. b.range.to ≤ to) → IfSome o (Agrees i found u) → is_asked found u to ≡ true → AllByRecursion (λ e. AreFound i found (delta_live u.lineage e)) (merged_singles u to)
       → MayReplace i found u to (parts_of u o to)
   parts_replace None to h agrees asked files =
       let parts = both_true (list_all (is_found found l) (merged_singles u to)) (keep_bound s (rows_of (map f (merged_singles u to)))) asked in

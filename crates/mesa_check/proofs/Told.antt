@@ -9,17 +9,17 @@ use Rattle.mesa_schema.specs.declared.rows.Row.{Row}
 use Rattle.mesa_schema.specs.Folded.{rows_of}
 use Rattle.mesa_schema.proofs.Lists.{all_both, all_map, all_so}
 use Rattle.mesa_batch.specs.Totals.{abs_totals}
-use Rattle.mesa_image_spec.specs.Catalog.{Delta, Stock, empty_delta, start_in}
-use Rattle.mesa_image_spec.specs.Contents.{present}
-use Rattle.mesa_image_spec.specs.Shape.{IsWithinBound}
-use Rattle.mesa_image_spec.specs.Sound.{all_parts}
-use Rattle.mesa_image_spec.specs.Fitting.{Shelved, base_deltas, delta_in, delta_shelved, deltas_of, stock_shelved}
-use Rattle.mesa_image_spec.proofs.Lists.{all_back, all_take, all_unflat, all_unmap}
-use Rattle.mesa_table.specs.declared.table.Base.{Base as HeldBase}
-use Rattle.mesa_table.specs.declared.table.Loaded.{Loaded}
-use Rattle.mesa_table.specs.declared.table.Table.{Table}
-use Rattle.mesa_table.specs.Meaning.{IsTable, ending_of, start_of_base, stock_of}
-use Rattle.mesa_table.proofs.Named.{flat_map-map}
+use Rattle.mesa_store_spec.specs.Catalog.{Delta, TableMeta, empty_delta, start_in}
+use Rattle.mesa_store_spec.specs.Contents.{present}
+use Rattle.mesa_store_spec.specs.Shape.{IsWithinBound}
+use Rattle.mesa_store_spec.specs.Sound.{all_parts}
+use Rattle.mesa_store_spec.specs.Fitting.{LiveFile, base_deltas, delta_in, delta_live, deltas_of, meta_live}
+use Rattle.mesa_store_spec.proofs.Lists.{all_back, all_take, all_unflat, all_unmap}
+use Rattle.mesa_catalog_table.specs.declared.table.Base.{Base as HeldBase}
+use Rattle.mesa_catalog_table.specs.declared.table.Loaded.{Loaded}
+use Rattle.mesa_catalog_table.specs.declared.table.Table.{Table}
+use Rattle.mesa_catalog_table.specs.Meaning.{IsTable, ending_of, start_of_base, meta_of}
+use Rattle.mesa_catalog_table.proofs.Named.{flat_map-map}
 use Rattle.mesa_check_file.specs.Sums.{counted}
 use Rattle.mesa_check.specs.Found.{AreFound, Found, IsFoundAs, rows_found}
 use Rattle.mesa_check.specs.Faults.{exceeds_totals, fails, fault_of, has_false_totals, is_found, is_totalled, is_true, keys_shown, merged_key, merged_keys, merged_singles, range_faults, table_faults}
@@ -53,18 +53,18 @@ base_apart (Some b) v d rest h apart = let out : (b.to == v) ≡ false = grind (
     last false = refl
 
 module _ (found : Found) (next : ℕ) (t : Table) (is : IsTable next t) where
-  none_at : (v : ℕ) → start_of_base t.base ≤ v → IsAbsent v t.loaded.items → range_faults found (stock_of next t) (single v empty_delta) ≡ []
+  none_at : (v : ℕ) → start_of_base t.base ≤ v → IsAbsent v t.loaded.items → range_faults found (meta_of next t) (single v empty_delta) ≡ []
   none_at v low absent =
-      let u = stock_of next t in
+      let u = meta_of next t in
       let apart : is_range (totals_range u) (single v empty_delta) ≡ false = ap (λ o. is_range o (single v empty_delta)) (totals_first next t is) ∙ base_apart t.base v empty_delta (flat_map (λ (l : Loaded). if_passes tells_of (loaded_range l)) t.loaded.items) low (loaded_apart v empty_delta t.loaded.items absent) in
       λ i. map (fault_of u (single v empty_delta)) (cond (apart i && exceeds_totals found u) (None ∷ []) [] ++ [])
 
   -- the faults of a table are those of the ranges that it holds
-  pub faults_held : table_faults found (stock_of next t) ≡ flat_map (range_faults found (stock_of next t)) (held_ranges t)
-  faults_held = checked_held (range_faults found (stock_of next t)) next t is none_at
+  pub faults_held : table_faults found (meta_of next t) ≡ flat_map (range_faults found (meta_of next t)) (held_ranges t)
+  faults_held = checked_held (range_faults found (meta_of next t)) next t is none_at
 
 -- by their tests
-pub faults_tested : (found : Found) (u : Stock) (t : Table) (tests : List Test) → map range_in (map range_of tests) ≡ held_ranges t → flat_map (λ (x : Test). range_faults found u (tested_range x)) tests ≡ flat_map (range_faults found u) (held_ranges t)
+pub faults_tested : (found : Found) (u : TableMeta) (t : Table) (tests : List Test) → map range_in (map range_of tests) ≡ held_ranges t → flat_map (λ (x : Test). range_faults found u (tested_range x)) tests ≡ flat_map (range_faults found u) (held_ranges t)
 faults_tested found u t tests are =
     sym (flat_map-map (λ (r : Held). range_faults found u (range_in r)) range_of tests) ∙ sym (flat_map-map (range_faults found u) range_in (map range_of tests)) ∙ ap (flat_map (range_faults found u)) are
 
@@ -73,11 +73,11 @@ mapped_twice [] = refl
 mapped_twice (x ∷ tests) = ap (λ rs. tested_range x ∷ rs) (mapped_twice tests)
 
 -- the range that tells of the totals, by its test
-pub told_as : (next : ℕ) (t : Table) (tests : List Test) → map range_in (map range_of tests) ≡ held_ranges t → IsTable next t → option_map tested_range (find tells_totals tests) ≡ totals_range (stock_of next t)
+pub told_as : (next : ℕ) (t : Table) (tests : List Test) → map range_in (map range_of tests) ≡ held_ranges t → IsTable next t → option_map tested_range (find tells_totals tests) ≡ totals_range (meta_of next t)
 told_as next t tests are is = find-map tells_of tested_range tests ∙ ap (find tells_of) (mapped_twice tests ∙ are) ∙ sym (totals_held next t is)
 
 -- a cumulative's keys, and those of the others
-abbrev merged_by : Found → Stock → Range → Kind → List (List ℕ)
+abbrev merged_by : Found → TableMeta → Range → Kind → List (List ℕ)
 merged_by found u r Base = []
 merged_by found u r Single = []
 merged_by found u r Cumulative = merged_key found u r.to r.delta
@@ -87,20 +87,20 @@ is_merged_by Base = false
 is_merged_by Single = false
 is_merged_by Cumulative = true
 
-merged_at : (found : Found) (u : Stock) (r : Range) (k : Kind) → is_merged_by k ≡ true → merged_by found u r k ≡ merged_key found u r.to r.delta
+merged_at : (found : Found) (u : TableMeta) (r : Range) (k : Kind) → is_merged_by k ≡ true → merged_by found u r k ≡ merged_key found u r.to r.delta
 merged_at found u r Base e = absurd cc
 merged_at found u r Single e = absurd cc
 merged_at found u r Cumulative e = refl
 
-none_merged : (found : Found) (u : Stock) (r : Range) (k : Kind) → is_merged_by k ≡ false → merged_by found u r k ≡ []
+none_merged : (found : Found) (u : TableMeta) (r : Range) (k : Kind) → is_merged_by k ≡ false → merged_by found u r k ≡ []
 none_merged found u r Base e = refl
 none_merged found u r Single e = refl
 none_merged found u r Cumulative e = absurd cc
 
-pub merged_in : (found : Found) (u : Stock) (r : Range) → is_merged r ≡ true → merged_keys found u r ≡ merged_key found u r.to r.delta
+pub merged_in : (found : Found) (u : TableMeta) (r : Range) → is_merged r ≡ true → merged_keys found u r ≡ merged_key found u r.to r.delta
 merged_in found u r e = merged_at found u r r.kind e
 
-pub merged_out : (found : Found) (u : Stock) (r : Range) → is_merged r ≡ false → merged_keys found u r ≡ []
+pub merged_out : (found : Found) (u : TableMeta) (r : Range) → is_merged r ≡ false → merged_keys found u r ≡ []
 merged_out found u r e = none_merged found u r r.kind e
 
 -- ---- tests of all ranges
@@ -121,22 +121,22 @@ pub within_held : (next : ℕ) (t : Table) → IsHeld next t → AllByRecursion 
 within_held next t is = held_all IsWithinBound next t is.shaped.recorded
 
 -- what is found of a table's files is what the tests say
-pub all_read : (told : Option Image) (next : ℕ) (t : Table) (tests : List Test) (i : Image) (found : Found) → map range_in (map range_of tests) ≡ held_ranges t → AllByRecursion (IsTestOf told t.evolving.value) tests → told ≡ Some i → AreFound i found (stock_shelved (stock_of next t))
+pub all_read : (told : Option Image) (next : ℕ) (t : Table) (tests : List Test) (i : Image) (found : Found) → map range_in (map range_of tests) ≡ held_ranges t → AllByRecursion (IsTestOf told t.evolving.value) tests → told ≡ Some i → AreFound i found (meta_live (meta_of next t))
     → AllByRecursion (IsRead i found t.evolving.value) tests
 all_read told next t tests i found are all is files =
-    all_both (λ (x : Test). AreFound i found (delta_shelved t.evolving.value (delta_of x.range))) (IsTestOf told t.evolving.value) (IsRead i found t.evolving.value) tests (λ x its test. record { files = its; tested = test.tested i found is its })
-    (tests_all (λ (r : Range). AreFound i found (delta_shelved t.evolving.value r.delta)) t tests are (held_files (λ (x : Shelved). IsFoundAs i x (found x.file.id)) next t files)) all
+    all_both (λ (x : Test). AreFound i found (delta_live t.evolving.value (delta_of x.range))) (IsTestOf told t.evolving.value) (IsRead i found t.evolving.value) tests (λ x its test. record { files = its; tested = test.tested i found is its })
+    (tests_all (λ (r : Range). AreFound i found (delta_live t.evolving.value r.delta)) t tests are (held_files (λ (x : LiveFile). IsFoundAs i x (found x.file.id)) next t files)) all
 
 -- where all files are the recorded ones, they have rows
 pub all_have_rows : (told : Option Image) (next : ℕ) (t : Table) (tests : List Test) (i : Image) → map range_in (map range_of tests) ≡ held_ranges t → AllByRecursion (IsTestOf told t.evolving.value) tests → told ≡ Some i → AllByRecursion (λ x. is_found_in x ≡ true) tests
-    → AllByRecursion (HasRows i) (stock_shelved (stock_of next t))
+    → AllByRecursion (HasRows i) (meta_live (meta_of next t))
 all_have_rows told next t tests i are all is holds =
-    files_held (HasRows i) next t (all_tests (λ (r : Range). AllByRecursion (HasRows i) (delta_shelved t.evolving.value r.delta)) t tests are
-    (all_both (IsTestOf told t.evolving.value) (λ x. is_found_in x ≡ true) (λ (x : Test). AllByRecursion (HasRows i) (delta_shelved t.evolving.value (delta_of x.range))) tests (λ x test so. test.there i is so) all holds))
+    files_held (HasRows i) next t (all_tests (λ (r : Range). AllByRecursion (HasRows i) (delta_live t.evolving.value r.delta)) t tests are
+    (all_both (IsTestOf told t.evolving.value) (λ x. is_found_in x ≡ true) (λ (x : Test). AllByRecursion (HasRows i) (delta_live t.evolving.value (delta_of x.range))) tests (λ x test so. test.there i is so) all holds))
 
 -- ---- what no key shows
 
-pub stands_as : (found : Found) (u : Stock) (x : Test) (over : Bool) → IsTested found u.lineage (delta_of x.range) x → over ≡ tells_excess found u (tested_range x) → stands_of x over ≡ fails found u (tested_range x)
+pub stands_as : (found : Found) (u : TableMeta) (x : Test) (over : Bool) → IsTested found u.lineage (delta_of x.range) x → over ≡ tells_excess found u (tested_range x) → stands_of x over ≡ fails found u (tested_range x)
 stands_as found u x over tested is = by x.found refl
   where
     by : (b : Bool) → x.found ≡ b → stands_of x over ≡ fails found u (tested_range x)
@@ -159,10 +159,10 @@ first_map f [] = refl
 first_map f (x ∷ xs) = refl
 
 -- the first fault of a range
-pub fault_stands : (found : Found) (u : Stock) (r : Range) → fails found u r ≡ true → slice_get (range_faults found u r) 0 ≡ Some (fault_of u r None)
+pub fault_stands : (found : Found) (u : TableMeta) (r : Range) → fails found u r ≡ true → slice_get (range_faults found u r) 0 ≡ Some (fault_of u r None)
 fault_stands found u r e = ap (λ b. slice_get (map (fault_of u r) (cond b (None ∷ []) [] ++ map Some (keys_shown found u r))) 0) e
 
-pub fault_shown : (found : Found) (u : Stock) (r : Range) → fails found u r ≡ false → slice_get (range_faults found u r) 0 ≡ option_map (fault_of u r) (option_map Some (slice_get (keys_shown found u r) 0))
+pub fault_shown : (found : Found) (u : TableMeta) (r : Range) → fails found u r ≡ false → slice_get (range_faults found u r) 0 ≡ option_map (fault_of u r) (option_map Some (slice_get (keys_shown found u r) 0))
 fault_shown found u r e =
     ap (λ b. slice_get (map (fault_of u r) (cond b (None ∷ []) [] ++ map Some (keys_shown found u r))) 0) e
     ∙ first_map (fault_of u r) (map Some (keys_shown found u r)) ∙ ap (option_map (fault_of u r)) (first_map Some (keys_shown found u r))
@@ -229,11 +229,11 @@ module _ (i : Image) (found : Found) (next : ℕ) (t : Table) (tests : List Test
   abbrev l : Lineage
   l = t.evolving.value
 
-  abbrev u : Stock
-  u = stock_of next t
+  abbrev u : TableMeta
+  u = meta_of next t
 
   -- all that are asked are sure
-  pub sure_tested : list_all is_sure tests ≡ (list_all (is_found found t.evolving.value) (base_deltas (stock_of next t).base) && list_all (is_true found t.evolving.value) (stock_of next t).singles)
+  pub sure_tested : list_all is_sure tests ≡ (list_all (is_found found t.evolving.value) (base_deltas (meta_of next t).base) && list_all (is_true found t.evolving.value) (meta_of next t).singles)
   sure_tested =
       all_same (IsRead i found l) is_sure (λ (x : Test). sure_of found l (tested_range x)) tests (λ x read. sure_as found l x read.tested) all
       ∙ all_mapped (λ (r : Held). sure_of found l (range_in r)) range_of tests ∙ all_mapped (sure_of found l) range_in (map range_of tests) ∙ ap (list_all (sure_of found l)) are ∙ sure_held found l next t
@@ -243,28 +243,28 @@ module _ (i : Image) (found : Found) (next : ℕ) (t : Table) (tests : List Test
       all_both (λ x. is_sure x ≡ true) (IsRead i found l) (λ (x : Test). is_counted (tested_range x) ≡ true → x.present ≡ counted (abs_totals (columns_of l) (rows_where found l is_counted (tested_range x)))) tests
       (λ x sure read counts. rows_sum found l x read.tested (sure_found x sure counts) counts) (passed_all is_sure tests holds) all
 
-  pub rows_sure : flat_map (λ (x : Test). rows_where found t.evolving.value is_counted (tested_range x)) tests ≡ rows_of (all_parts (rows_found found) (stock_of next t))
+  pub rows_sure : flat_map (λ (x : Test). rows_where found t.evolving.value is_counted (tested_range x)) tests ≡ rows_of (all_parts (rows_found found) (meta_of next t))
   rows_sure = rows_tested (rows_where found l is_counted) t tests are ∙ rows_held found l next t
 
   module _ (is : IsTable next t) (to : ℕ) where
-    pub found_tested : list_all (λ (x : Test). not (is_up_to to (tested_range x)) || is_found found t.evolving.value (delta_of x.range)) tests ≡ list_all (is_found found t.evolving.value) (merged_singles (stock_of next t) to)
+    pub found_tested : list_all (λ (x : Test). not (is_up_to to (tested_range x)) || is_found found t.evolving.value (delta_of x.range)) tests ≡ list_all (is_found found t.evolving.value) (merged_singles (meta_of next t) to)
     found_tested = all_mapped (λ (r : Held). found_to found l to (range_in r)) range_of tests ∙ all_mapped (found_to found l to) range_in (map range_of tests) ∙ ap (list_all (found_to found l to)) are ∙ found_held found l next to t is
 
-    pub rows_single : flat_map (λ (x : Test). rows_where found t.evolving.value (is_up_to to) (tested_range x)) tests ≡ rows_of (map (present (rows_found found) t.evolving.value) (merged_singles (stock_of next t) to))
+    pub rows_single : flat_map (λ (x : Test). rows_where found t.evolving.value (is_up_to to) (tested_range x)) tests ≡ rows_of (map (present (rows_found found) t.evolving.value) (merged_singles (meta_of next t) to))
     rows_single = rows_tested (rows_where found l (is_up_to to)) t tests are ∙ rows_merged found l next to t is
 
 -- ---- files of a table
 
 -- what was found of the ranges' files was found of the table's
-pub stock_read : (i : Image) (found : Found) (next : ℕ) (t : Table) (tests : List Test) → map range_in (map range_of tests) ≡ held_ranges t → AllByRecursion (IsRead i found t.evolving.value) tests → AreFound i found (stock_shelved (stock_of next t))
-stock_read i found next t tests are all =
-    let Q = λ (x : Shelved). IsFoundAs i x (found x.file.id) in
-    files_held Q next t (all_tests (λ (r : Range). AllByRecursion Q (delta_shelved t.evolving.value r.delta)) t tests are
-    (all_so (IsRead i found t.evolving.value) (λ (x : Test). AreFound i found (delta_shelved t.evolving.value (delta_of x.range))) tests (λ x read. read.files) all))
+pub meta_read : (i : Image) (found : Found) (next : ℕ) (t : Table) (tests : List Test) → map range_in (map range_of tests) ≡ held_ranges t → AllByRecursion (IsRead i found t.evolving.value) tests → AreFound i found (meta_live (meta_of next t))
+meta_read i found next t tests are all =
+    let Q = λ (x : LiveFile). IsFoundAs i x (found x.file.id) in
+    files_held Q next t (all_tests (λ (r : Range). AllByRecursion Q (delta_live t.evolving.value r.delta)) t tests are
+    (all_so (IsRead i found t.evolving.value) (λ (x : Test). AreFound i found (delta_live t.evolving.value (delta_of x.range))) tests (λ x read. read.files) all))
 
 -- and so of its singletons'
-pub singles_found : (i : Image) (found : Found) (u : Stock) (to : ℕ) → AreFound i found (stock_shelved u) → AllByRecursion (λ d. AreFound i found (delta_shelved u.lineage d)) (merged_singles u to)
+pub singles_found : (i : Image) (found : Found) (u : TableMeta) (to : ℕ) → AreFound i found (meta_live u) → AllByRecursion (λ d. AreFound i found (delta_live u.lineage d)) (merged_singles u to)
 singles_found i found u to files =
-    let P = λ (d : Delta). AreFound i found (delta_shelved u.lineage d) in
-    let deltas = all_unflat (λ (x : Shelved). IsFoundAs i x (found x.file.id)) (delta_shelved u.lineage) (deltas_of u) files in
+    let P = λ (d : Delta). AreFound i found (delta_live u.lineage d) in
+    let deltas = all_unflat (λ (x : LiveFile). IsFoundAs i x (found x.file.id)) (delta_live u.lineage) (deltas_of u) files in
     all_take P (to + 1 - start_in u) u.singles (all_back P (map delta_in u.cumulatives) u.singles (all_back P (base_deltas u.base) (map delta_in u.cumulatives ++ u.singles) deltas))

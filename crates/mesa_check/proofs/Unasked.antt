@@ -11,11 +11,11 @@ use Rattle.mesa_schema.specs.Changes.{Lineage, columns_of}
 use Rattle.mesa_schema.specs.Columns.{Columns, aggs_of}
 use Rattle.mesa_schema.proofs.Lists.{all_so}
 use Rattle.mesa_batch.specs.Totals.{abs_total, sum_bound, sum_places}
-use Rattle.mesa_image_spec.specs.Contents.{present}
-use Rattle.mesa_image_spec.proofs.Lists.{both_true}
-use Rattle.mesa_table.specs.declared.table.Table.{Table}
-use Rattle.mesa_table.specs.Meaning.{IsTable, stock_of}
-use Rattle.mesa_table.proofs.Singles.{flat_map-append}
+use Rattle.mesa_store_spec.specs.Contents.{present}
+use Rattle.mesa_store_spec.proofs.Lists.{both_true}
+use Rattle.mesa_catalog_table.specs.declared.table.Table.{Table}
+use Rattle.mesa_catalog_table.specs.Meaning.{IsTable, meta_of}
+use Rattle.mesa_catalog_table.proofs.Singles.{flat_map-append}
 use Rattle.mesa_check.specs.Found.{Found, rows_found}
 use Rattle.mesa_check.specs.Faults.{is_asked, is_found, keep_bound}
 use Rattle.mesa_check.specs.Counted.{is_single, rows_where}
@@ -203,16 +203,16 @@ module _ (i : Image) (found : Found) (next : ℕ) (t : Table) (tests : List Test
   abbrev l : Lineage
   l = t.evolving.value
 
-  asked_as : (to : ℕ) → is_asked found (stock_of next t) to ≡ (list_all (λ (x : Test). not (is_up_to to (tested_range x)) || is_found found t.evolving.value (delta_of x.range)) tests
+  asked_as : (to : ℕ) → is_asked found (meta_of next t) to ≡ (list_all (λ (x : Test). not (is_up_to to (tested_range x)) || is_found found t.evolving.value (delta_of x.range)) tests
       && keep_bound (columns_of t.evolving.value) (flat_map (λ (x : Test). rows_where found t.evolving.value (is_up_to to) (tested_range x)) tests))
   asked_as to = λ k. sym (found_tested i found next t tests are all table to) k && keep_bound (columns_of l) (sym (rows_single i found next t tests are all table to) k)
 
-  pub always_asked : AllKeep found t.evolving.value tests → IsAskedBelow found (stock_of next t) None
+  pub always_asked : AllKeep found t.evolving.value tests → IsAskedBelow found (meta_of next t) None
   always_asked keep to = asked_as to ∙ asked_of found l to tests keep
 
   pub asked_up_to : (n : ℕ) (x : Test) → n < length tests → x ≡ get_or tests n x → AllKeep found t.evolving.value (take n tests)
       → (not (is_single (tested_range x)) || (is_found found t.evolving.value (delta_of x.range) && keep_bound (columns_of t.evolving.value) (flat_map (λ (y : Test). rows_where found t.evolving.value is_single (tested_range y)) (take n tests) ++ present (rows_found found) t.evolving.value (delta_of x.range)))) ≡ false
-      → IsAskedBelow found (stock_of next t) (Some x.range.to)
+      → IsAskedBelow found (meta_of next t) (Some x.range.to)
   asked_up_to n x h is keep out to =
       let rows = flat_map (λ (y : Test). rows_where found l is_single (tested_range y)) (take n tests) ++ present (rows_found found) l (delta_of x.range) in
       let ends = ends_here (is_single (tested_range x)) (is_found found l (delta_of x.range)) (keep_bound (columns_of l) rows) out in

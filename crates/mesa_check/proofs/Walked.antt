@@ -4,13 +4,13 @@ use Rattle.std.specs.List.{AllByRecursion}
 use Rattle.std.specs.Prelude.{flat_map, option_map, replicate, ◌==◌}
 use Rattle.std.proofs.lemmas.Bool.Decides.{nat_tests}
 use Rattle.std.proofs.lemmas.List.{append-nil, take-append-drop}
-use Rattle.mesa_image_spec.specs.Catalog.{Delta, Ending, empty_delta, start_in}
-use Rattle.mesa_table.specs.declared.table.Loaded.{Loaded}
-use Rattle.mesa_table.specs.declared.table.Table.{Table}
-use Rattle.mesa_table.specs.Meaning.{AreLoaded, IsTable, ending_of, singles_from, start_of_base, stock_of, tens_from}
-use Rattle.mesa_table.proofs.Named.{flat_map-map}
-use Rattle.mesa_table.proofs.Singles.{flat_map-append}
-use Rattle.mesa_plans.proofs.Lending.{start_held}
+use Rattle.mesa_store_spec.specs.Catalog.{Delta, Ending, empty_delta, start_in}
+use Rattle.mesa_catalog_table.specs.declared.table.Loaded.{Loaded}
+use Rattle.mesa_catalog_table.specs.declared.table.Table.{Table}
+use Rattle.mesa_catalog_table.specs.Meaning.{AreLoaded, IsTable, ending_of, singles_from, start_of_base, meta_of, tens_from}
+use Rattle.mesa_catalog_table.proofs.Named.{flat_map-map}
+use Rattle.mesa_catalog_table.proofs.Singles.{flat_map-append}
+use Rattle.mesa_pick_files.proofs.Lending.{start_held}
 use Rattle.mesa_check.specs.Ranges.{Range, base_range, checked_ranges, cumulative_range, single_ranges}
 use Rattle.mesa_check.specs.Ranges.{Single}
 use Rattle.mesa_check.specs.Held.{firsts, held_ranges, loaded_range}
@@ -112,9 +112,9 @@ four f ws bs cs ds =
     flat_map-append f ws (bs ++ (cs ++ ds)) ∙ ap (λ xs. flat_map f ws ++ xs) (flat_map-append f bs (cs ++ ds) ∙ ap (λ xs. flat_map f bs ++ xs) (flat_map-append f cs ds))
 
 -- The checked ranges of a table give what its held ones do.
-pub checked_held : {X : Type 0} (f : Range → List X) (next : ℕ) (t : Table) → IsTable next t → GivesNone f (start_of_base t.base) t.loaded.items → flat_map f (checked_ranges (stock_of next t)) ≡ flat_map f (held_ranges t)
+pub checked_held : {X : Type 0} (f : Range → List X) (next : ℕ) (t : Table) → IsTable next t → GivesNone f (start_of_base t.base) t.loaded.items → flat_map f (checked_ranges (meta_of next t)) ≡ flat_map f (held_ranges t)
 checked_held f next t is none =
-    let u = stock_of next t in
+    let u = meta_of next t in
     let start = start_of_base t.base in
     let loaded = t.loaded.items in
     let c = firsts start loaded in

@@ -2,7 +2,7 @@
 use Rattle.std.specs.Prelude.{List, [], Bool, true, false, if◌then◌else◌, is_some}
 use Rattle.mesa_schema.specs.Changes.{Lineage}
 use Rattle.mesa_schema.specs.declared.rows.Row.{Row}
-use Rattle.mesa_image_spec.specs.Contents.{present}
+use Rattle.mesa_store_spec.specs.Contents.{present}
 use Rattle.mesa_check.specs.Found.{Found, rows_found}
 use Rattle.mesa_check.specs.Ranges.{Range}
 use Rattle.mesa_check.specs.Ranges.{Base, Single, Cumulative}

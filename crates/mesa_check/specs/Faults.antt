@@ -12,10 +12,10 @@ use Rattle.mesa_batch.specs.Totals.{abs_totals, sum_bound}
 use Rattle.mesa_record.specs.declared.record.Files.{Files}
 use Rattle.mesa_record.specs.declared.record.ViewRef.{ViewRef}
 use Rattle.mesa_check_file.specs.Difference.{first_difference}
-use Rattle.mesa_image_spec.specs.Catalog.{Catalog, Delta, Stock, start_in}
-use Rattle.mesa_image_spec.specs.Fitting.{base_deltas}
-use Rattle.mesa_image_spec.specs.Contents.{present, rows_in}
-use Rattle.mesa_image_spec.specs.Sound.{all_parts}
+use Rattle.mesa_store_spec.specs.Catalog.{Catalog, Delta, TableMeta, start_in}
+use Rattle.mesa_store_spec.specs.Fitting.{base_deltas}
+use Rattle.mesa_store_spec.specs.Contents.{present, rows_in}
+use Rattle.mesa_store_spec.specs.Sound.{all_parts}
 use Rattle.mesa_check.specs.Found.{Found, rows_found}
 use Rattle.mesa_check.specs.Ranges.{Range, checked_ranges, is_range, totals_range}
 use Rattle.mesa_check.specs.Ranges.{Base, Single, Cumulative}
@@ -61,7 +61,7 @@ are_at_most (x ∷ xs) [] = false
 are_at_most (x ∷ xs) (y ∷ ys) = nat_le x y && are_at_most xs ys
 
 -- The absolute values of the rows of the base and of all singletons, at present, add up to more than the table's totals. It is asked where their files are the recorded ones and the singletons' totals true.
-abbrev pub exceeds_totals : Found → Stock → Bool
+abbrev pub exceeds_totals : Found → TableMeta → Bool
 exceeds_totals found t =
     list_all (is_found found t.lineage) (base_deltas t.base) && list_all (is_true found t.lineage) t.singles
     && not (are_at_most (abs_totals (columns_of t.lineage) (rows_of (all_parts (rows_found found) t))) t.totals)
@@ -73,11 +73,11 @@ keep_bound s rows = list_all (λ total. nat_lt total sum_bound) (abs_totals s ro
 -- ---- the faults of a range
 
 -- totals are recorded with singletons alone
-abbrev pub has_false_totals : Found → Stock → Range → Bool
+abbrev pub has_false_totals : Found → TableMeta → Range → Bool
 has_false_totals found t r = elim (r.kind) [ Base ↦ false | Single ↦ not (is_totalled found t.lineage r.delta) | Cumulative ↦ false ]
 
 -- A range has a fault that no single key shows: a file of it isn't the recorded one, its totals aren't those of its rows, or it tells of the table's totals and the rows exceed them.
-abbrev pub fails : Found → Stock → Range → Bool
+abbrev pub fails : Found → TableMeta → Range → Bool
 fails found t r = not (is_found found t.lineage r.delta) || has_false_totals found t r || (is_range (totals_range t) r && exceeds_totals found t)
 
 -- a key where it is asked for
@@ -87,20 +87,20 @@ key_if true None = []
 key_if false key = []
 
 -- the singletons of a cumulative's range
-abbrev pub merged_singles : Stock → ℕ → List Delta
+abbrev pub merged_singles : TableMeta → ℕ → List Delta
 merged_singles t to = take (to + 1 - start_in t) t.singles
 
 -- It is asked whether the cumulative that ends at a version differs: where the files of its range's singletons are the recorded ones, and their rows keep the bound.
-abbrev pub is_asked : Found → Stock → ℕ → Bool
+abbrev pub is_asked : Found → TableMeta → ℕ → Bool
 is_asked found t to = list_all (is_found found t.lineage) (merged_singles t to) && keep_bound (columns_of t.lineage) (rows_of (map (present (rows_found found) t.lineage) (merged_singles t to)))
 
 -- where that is asked, the least key at which a cumulative differs from the fold of its range's singletons, both at present
-abbrev pub merged_key : Found → Stock → ℕ → Delta → List (List ℕ)
+abbrev pub merged_key : Found → TableMeta → ℕ → Delta → List (List ℕ)
 merged_key found t to d =
     key_if (is_asked found t to)
     (first_difference (folded (aggs_of (columns_of t.lineage)) (map (present (rows_found found) t.lineage) (merged_singles t to))) (present (rows_found found) t.lineage d))
 
-abbrev pub merged_keys : Found → Stock → Range → List (List ℕ)
+abbrev pub merged_keys : Found → TableMeta → Range → List (List ℕ)
 merged_keys found t r = elim (r.kind) [ Base ↦ [] | Single ↦ [] | Cumulative ↦ merged_key found t r.to r.delta ]
 
 abbrev pub view_key : Found → Lineage → Delta → ViewRef → Option View → List (List ℕ)
@@ -116,20 +116,20 @@ abbrev pub view_keys : Found → Lineage → Delta → List (List ℕ)
 view_keys found l d = view_keys_in found l d d.files
 
 -- the keys that show faults of a range: where a cumulative differs, and then where view files do
-abbrev pub keys_shown : Found → Stock → Range → List (List ℕ)
+abbrev pub keys_shown : Found → TableMeta → Range → List (List ℕ)
 keys_shown found t r = merged_keys found t r ++ view_keys found t.lineage r.delta
 
-abbrev pub fault_of : Stock → Range → Option (List ℕ) → Fault
+abbrev pub fault_of : TableMeta → Range → Option (List ℕ) → Fault
 fault_of t r key = record { table = t.name; from = r.from; to = r.to; key = key }
 
 -- The faults of a range in their order: first what no single key shows.
-abbrev pub range_faults : Found → Stock → Range → List Fault
+abbrev pub range_faults : Found → TableMeta → Range → List Fault
 range_faults found t r = map (fault_of t r) ((if fails found t r then None ∷ [] else []) ++ map Some (keys_shown found t r))
 
 -- ---- the first fault
 
 -- the faults of a table, range by range
-abbrev pub table_faults : Found → Stock → List Fault
+abbrev pub table_faults : Found → TableMeta → List Fault
 table_faults found t = flat_map (range_faults found t) (checked_ranges t)
 
 -- the faults of a store, table by table

@@ -1,11 +1,11 @@
 -- The ranges of a table as it is held: a version that brought it nothing has none.
 use denote.Bor.{Bor}
 use Rattle.std.specs.Prelude.{ℕ, ◌^◌, ◌<◌, List, [], ◌∷◌, ◌++◌, map, take, drop, ◌==◌, if◌then◌else◌, Option, Some, None, option_map}
-use Rattle.mesa_image_spec.specs.Catalog.{Delta, empty_delta}
-use Rattle.mesa_table.specs.declared.table.Loaded.{Loaded}
-use Rattle.mesa_table.specs.declared.table.Table.{Table}
-use Rattle.mesa_image_spec.specs.Shape.{IsShaped}
-use Rattle.mesa_table.specs.Meaning.{IsTable, ending_of, start_of_base, stock_of, tens_from}
+use Rattle.mesa_store_spec.specs.Catalog.{Delta, empty_delta}
+use Rattle.mesa_catalog_table.specs.declared.table.Loaded.{Loaded}
+use Rattle.mesa_catalog_table.specs.declared.table.Table.{Table}
+use Rattle.mesa_store_spec.specs.Shape.{IsShaped}
+use Rattle.mesa_catalog_table.specs.Meaning.{IsTable, ending_of, start_of_base, meta_of, tens_from}
 use Rattle.mesa_check.specs.Ranges.{Kind, Range, base_range, cumulative_range}
 use Rattle.mesa_check.specs.Ranges.{Base, Single, Cumulative}
 use Rattle.mesa_check.specs.declared.range.Kind.{Kind as HeldKind}
@@ -51,4 +51,4 @@ pub record IsHeld (next : ℕ) (t : Table) : Type 0 where
   pub table : IsTable next t
   pub few : next < 2 ^ 32
   pub floor : ℕ
-  pub shaped : IsShaped floor next (stock_of next t)
+  pub shaped : IsShaped floor next (meta_of next t)

@@ -1,6 +1,6 @@
 -- The ranges of versions that a table's deltas cover, in the order in which they are checked.
 use Rattle.std.specs.Prelude.{ℕ, ◌+◌, List, [], ◌∷◌, ◌++◌, map, filter, take, drop, Bool, true, false, is_some, nat_lt, slice_get, ◌==◌, ◌||◌, ◌&&◌, Option, Some, None}
-use Rattle.mesa_image_spec.specs.Catalog.{Delta, Ending, Stock, start_in}
+use Rattle.mesa_store_spec.specs.Catalog.{Delta, Ending, TableMeta, start_in}
 
 -- what a range is: the base, a singleton, or a cumulative
 pub data Kind : Type 0 where
@@ -30,13 +30,13 @@ abbrev pub cumulative_range : ℕ → Ending → Range
 cumulative_range start e = record { kind = Cumulative; from = start; to = e.to; delta = e.delta }
 
 -- The ranges of a table by their starts, and those of one start by their ends: the base, the first singleton, the cumulatives, which start with it, and the other singletons.
-abbrev pub checked_ranges : Stock → List Range
+abbrev pub checked_ranges : TableMeta → List Range
 checked_ranges t =
     base_range t.base
     ++ (take 1 (single_ranges (start_in t) t.singles) ++ (map (cumulative_range (start_in t)) t.cumulatives ++ drop 1 (single_ranges (start_in t) t.singles)))
 
 -- The range that tells of a table's totals: the base, or where there is none the first singleton with rows.
-abbrev pub totals_range : Stock → Option Range
+abbrev pub totals_range : TableMeta → Option Range
 totals_range t = slice_get (base_range t.base ++ filter (λ (r : Range). is_some r.delta.files) (single_ranges (start_in t) t.singles)) 0
 
 -- the range of these versions

@@ -1,6 +1,6 @@
 -- Which faults of a range are told, by the tests of a table's ranges.
 use Rattle.std.specs.Prelude.{ℕ, List, [], ◌∷◌, Bool, true, false, not, ◌&&◌, ◌||◌, Option, Some, None}
-use Rattle.mesa_image_spec.specs.Catalog.{Stock}
+use Rattle.mesa_store_spec.specs.Catalog.{TableMeta}
 use Rattle.mesa_check.specs.Found.{Found}
 use Rattle.mesa_check.specs.Faults.{Fault, exceeds_totals}
 use Rattle.mesa_check.specs.Ranges.{Range, is_range, totals_range}
@@ -11,7 +11,7 @@ use Rattle.mesa_check.specs.declared.faults.Shown.{Shown}
 use Rattle.mesa_check.specs.declared.testing.Test.{Test}
 
 -- the fault of a table that is told
-abbrev pub shown_fault : Stock → Shown → Fault
+abbrev pub shown_fault : TableMeta → Shown → Fault
 shown_fault t s = record { table = t.name; from = s.from; to = s.to; key = s.key }
 
 abbrev pub key_list : Option (List ℕ) → List (List ℕ)
@@ -29,7 +29,7 @@ abbrev pub tells_totals : Test → Bool
 tells_totals t = tells_of (range_in t.range)
 
 -- a range tells of the table's totals, and the rows exceed them
-abbrev pub tells_excess : Found → Stock → Range → Bool
+abbrev pub tells_excess : Found → TableMeta → Range → Bool
 tells_excess found t r = is_range (totals_range t) r && exceeds_totals found t
 
 -- a base whose files are the recorded ones, and a singleton whose totals are true too

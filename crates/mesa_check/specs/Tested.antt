@@ -5,11 +5,11 @@ use Rattle.mesa_disk.specs.Image.{Image}
 use Rattle.mesa_schema.specs.Changes.{Lineage, columns_of}
 use Rattle.mesa_schema.specs.declared.rows.Row.{Row}
 use Rattle.mesa_batch.specs.Totals.{abs_totals}
-use Rattle.mesa_image_spec.specs.Catalog.{Delta}
-use Rattle.mesa_image_spec.specs.Contents.{present}
-use Rattle.mesa_image_spec.specs.Fitting.{Shelved, delta_shelved}
-use Rattle.mesa_tasks.specs.Opening.{wanted_columns}
-use Rattle.mesa_tasks.specs.declared.opening.Wanted.{Wanted}
+use Rattle.mesa_store_spec.specs.Catalog.{Delta}
+use Rattle.mesa_store_spec.specs.Contents.{present}
+use Rattle.mesa_store_spec.specs.Fitting.{LiveFile, delta_live}
+use Rattle.mesa_open_files.specs.Opening.{wanted_columns}
+use Rattle.mesa_open_files.specs.declared.opening.Wanted.{Wanted}
 use Rattle.mesa_check_file.specs.Sums.{AreSumsOf, counted}
 use Rattle.mesa_check_file.specs.declared.totals.Sums.{Sums}
 use Rattle.mesa_check.specs.Found.{AreFound, Found, IsFoundAs, rows_found}
@@ -21,11 +21,11 @@ use Rattle.mesa_check.specs.declared.testing.Test.{Test}
 -- ---- one file
 
 -- a wanted file as a catalogue names it
-abbrev pub shelf_of : Wanted → Shelved
-shelf_of w = record { columns = wanted_columns w; file = w.file.now }
+abbrev pub live_file_of : Wanted → LiveFile
+live_file_of w = record { columns = wanted_columns w; file = w.file.now }
 
 -- An image has the file.
-abbrev pub HasRows : Image → Shelved → Type 0
+abbrev pub HasRows : Image → LiveFile → Type 0
 HasRows i x = (rows : List Row) × IsFoundAs i x (Some rows)
 
 -- the sums of a file are those of its rows, which are of this epoch; there are none where the file isn't there
@@ -48,8 +48,8 @@ pub record IsTested (are : Found) (l : Lineage) (d : Delta) (t : Test) : Type 0 
 
 -- Whatever a read gives of the files, the test says it; and where it says that they are the recorded ones, they have rows.
 pub record IsTestIn (told : Option Image) (l : Lineage) (d : Delta) (t : Test) : Type 0 where
-  pub tested : (i : Image) (found : Found) → told ≡ Some i → AreFound i found (delta_shelved l d) → IsTested found l d t
-  pub there : (i : Image) → told ≡ Some i → t.found ≡ true → AllByRecursion (HasRows i) (delta_shelved l d)
+  pub tested : (i : Image) (found : Found) → told ≡ Some i → AreFound i found (delta_live l d) → IsTested found l d t
+  pub there : (i : Image) → told ≡ Some i → t.found ≡ true → AllByRecursion (HasRows i) (delta_live l d)
 
 -- it does so of its own range
 abbrev pub IsTestOf : Option Image → Lineage → Test → Type 0
@@ -57,16 +57,16 @@ IsTestOf told l t = IsTestIn told l (delta_of t.range) t
 
 -- what was found of a range's files is what its test says
 pub record IsRead (i : Image) (found : Found) (l : Lineage) (t : Test) : Type 0 where
-  pub files : AreFound i found (delta_shelved l (delta_of t.range))
+  pub files : AreFound i found (delta_live l (delta_of t.range))
   pub tested : IsTested found l (delta_of t.range) t
 
 abbrev pub range_of : Test → Held
 range_of t = t.range
 
 -- an image has a file with the rows that were found
-abbrev pub IsThere : Image → Found → Shelved → Type 0
+abbrev pub IsThere : Image → Found → LiveFile → Type 0
 IsThere i found x = IsFoundAs i x (Some (rows_found found x.file.id))
 
 -- it has each file of a delta so
 abbrev pub AreThere : Image → Found → Lineage → Delta → Type 0
-AreThere i found l d = AllByRecursion (IsThere i found) (delta_shelved l d)
+AreThere i found l d = AllByRecursion (IsThere i found) (delta_live l d)

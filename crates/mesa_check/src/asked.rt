@@ -3,10 +3,10 @@ ghost use Rattle.std.specs.Prelude.{◌≡◌, ◌++◌, ◌&&◌, ◌||◌, not
 ghost use Rattle.std.specs.List.{AllByRecursion};
 ghost use Rattle.mesa_disk.specs.Image.{Image};
 ghost use Rattle.mesa_batch.specs.Totals.{abs_totals};
-ghost use Rattle.mesa_image_spec.specs.Contents.{present as present_of};
+ghost use Rattle.mesa_store_spec.specs.Contents.{present as present_of};
 ghost use Rattle.mesa_schema.specs.Changes.{Lineage, columns_of};
 ghost use Rattle.mesa_schema.specs.declared.rows.Row.{Row as AnyRow};
-ghost use Rattle.mesa_table.specs.Meaning.{stock_of};
+ghost use Rattle.mesa_catalog_table.specs.Meaning.{meta_of};
 ghost use Rattle.mesa_check_file.specs.Sums.{counted as counted_of};
 ghost use Rattle.mesa_check.specs.Found.{Found, rows_found};
 ghost use Rattle.mesa_check.specs.Faults.{is_found, keep_bound as keeps_bound};
@@ -18,7 +18,7 @@ ghost use Rattle.mesa_check.specs.Tested.{IsRead, IsTested, range_of};
 use crate::range::{Held, Kind};
 use crate::testing::Test;
 use crate::totals::{added, keep_bound, no_sums};
-use mesa_table::Table;
+use mesa_catalog_table::Table;
 use std::alloc::{AllocError, Global};
 
 /// The version below which cumulatives are compared: the first up to which the files of singletons aren't all the recorded ones, or their rows at present don't keep the bound. None where there is no such version.
@@ -28,7 +28,7 @@ pub(crate) fn asked_below(
     tests: &[Test],
 ) -> Result<Option<u32>, AllocError>
     requires { map range_in (map range_of tests.now) ≡ held_ranges table.now }
-    ensures { IfOk result (λ end. (next : ℕ) (i : Image) (found : Found) → IsHeld next table.now → AllByRecursion (IsRead i found table.now.evolving.value) tests.now → IsAskedBelow found (stock_of next table.now) end) }
+    ensures { IfOk result (λ end. (next : ℕ) (i : Image) (found : Found) → IsHeld next table.now → AllByRecursion (IsRead i found table.now.evolving.value) tests.now → IsAskedBelow found (meta_of next table.now) end) }
 {
     let mut sums = no_sums(alloc, table.evolving.present())?;
     'singles: for one in tests {

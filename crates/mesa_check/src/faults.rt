@@ -4,11 +4,11 @@ ghost use Rattle.std.specs.List.{AllByRecursion, list_all};
 ghost use Rattle.mesa_disk.specs.Image.{Image};
 ghost use Rattle.mesa_disk.specs.Story.{Unmoved};
 ghost use Rattle.mesa_batch.specs.Totals.{sum_bound};
-ghost use Rattle.mesa_image_spec.specs.Fitting.{stock_shelved};
-ghost use Rattle.mesa_plans.specs.Lent.{now_if_any};
+ghost use Rattle.mesa_store_spec.specs.Fitting.{meta_live};
+ghost use Rattle.mesa_pick_files.specs.Lent.{now_if_any};
 ghost use Rattle.mesa_schema.specs.Changes.{epoch_of};
-ghost use Rattle.mesa_table.specs.Meaning.{stock_of};
-ghost use Rattle.mesa_tasks.specs.Opening.{Counted};
+ghost use Rattle.mesa_catalog_table.specs.Meaning.{meta_of};
+ghost use Rattle.mesa_open_files.specs.Opening.{Counted};
 ghost use Rattle.mesa_check_file.specs.Examined.{is_read_failure};
 ghost use Rattle.mesa_check.specs.Found.{AreFound, Found};
 ghost use Rattle.mesa_check.specs.Faults.{exceeds_totals as exceeds_them, fault_of, keys_shown, range_faults, table_faults};
@@ -28,7 +28,7 @@ use crate::totals::{add_up, are_at_most};
 use mesa_check_file::CheckError;
 use mesa_disk::{Disk, Made};
 use mesa_key::KeyBytes;
-use mesa_table::Table;
+use mesa_catalog_table::Table;
 use std::alloc::{AllocError, Global};
 
 /// A table's fault: its range of versions, and the key that shows it, if a single one does.
@@ -46,9 +46,9 @@ pub(crate) fn table_fault<M: Made, D: Disk<M>>(
     table: &Table,
 ) -> Result<Option<Shown>, CheckError>
     requires { (next : ℕ) × IsHeld next table.now }
-    ensures first { IfOk result (λ o. (next : ℕ) (i : Image) (found : Found) → IsHeld next table.now → (D.story disk.old).told ≡ Some i → AreFound i found (stock_shelved (stock_of next table.now))
-        → slice_get (table_faults found (stock_of next table.now)) 0 ≡ option_map (shown_fault (stock_of next table.now)) o) }
-    ensures there { IfOk result (λ o. (next : ℕ) (i : Image) → IsHeld next table.now → (D.story disk.old).told ≡ Some i → o ≡ None → AllByRecursion (HasRows i) (stock_shelved (stock_of next table.now))) }
+    ensures first { IfOk result (λ o. (next : ℕ) (i : Image) (found : Found) → IsHeld next table.now → (D.story disk.old).told ≡ Some i → AreFound i found (meta_live (meta_of next table.now))
+        → slice_get (table_faults found (meta_of next table.now)) 0 ≡ option_map (shown_fault (meta_of next table.now)) o) }
+    ensures there { IfOk result (λ o. (next : ℕ) (i : Image) → IsHeld next table.now → (D.story disk.old).told ≡ Some i → o ≡ None → AllByRecursion (HasRows i) (meta_live (meta_of next table.now))) }
     ensures unmoved { Unmoved (D.story disk.old) (D.story disk.new) }
     ensures counted { Counted (D.story disk.old) (D.story disk.new) (is_read_failure result) }
 {
@@ -62,7 +62,7 @@ pub(crate) fn table_fault<M: Made, D: Disk<M>>(
 fn exceeds_totals(alloc: Global, table: &Table, tests: &[Test]) -> Result<bool, AllocError>
     requires tests { map range_in (map range_of tests.now) ≡ ranges_held table.now }
     requires totals { AllByRecursion (λ total. total < sum_bound) table.now.totals }
-    ensures { IfOk result (λ b. (next : ℕ) (i : Image) (found : Found) → IsHeld next table.now → AllByRecursion (IsRead i found table.now.evolving.value) tests.now → b ≡ exceeds_them found (stock_of next table.now)) }
+    ensures { IfOk result (λ b. (next : ℕ) (i : Image) (found : Found) → IsHeld next table.now → AllByRecursion (IsRead i found table.now.evolving.value) tests.now → b ≡ exceeds_them found (meta_of next table.now)) }
 {
     if !are_true(tests) {
         return Ok(false);
@@ -99,8 +99,8 @@ fn first_fault<M: Made, D: Disk<M>>(
     requires held { (next : ℕ) × IsHeld next table.now }
     requires ranges { map range_in (map range_of tests.now) ≡ ranges_held table.now }
     requires epochs { AllByRecursion (λ t. (delta_of (range_of t)).epoch ≤ epoch_of table.now.evolving.value) tests.now }
-    ensures first { IfOk result (λ o. (next : ℕ) (i : Image) (found : Found) → IsHeld next table.now → (D.story disk.old).told ≡ Some i → AllByRecursion (IsRead i found table.now.evolving.value) tests.now → exceeds ≡ exceeds_them found (stock_of next table.now)
-        → slice_get (flat_map (λ t. range_faults found (stock_of next table.now) (tested_range t)) tests.now) 0 ≡ option_map (shown_fault (stock_of next table.now)) o) }
+    ensures first { IfOk result (λ o. (next : ℕ) (i : Image) (found : Found) → IsHeld next table.now → (D.story disk.old).told ≡ Some i → AllByRecursion (IsRead i found table.now.evolving.value) tests.now → exceeds ≡ exceeds_them found (meta_of next table.now)
+        → slice_get (flat_map (λ t. range_faults found (meta_of next table.now) (tested_range t)) tests.now) 0 ≡ option_map (shown_fault (meta_of next table.now)) o) }
     ensures there { IfOk result (λ o. o ≡ None → AllByRecursion (λ t. is_found_in t ≡ true) tests.now) }
     ensures unmoved { Unmoved (D.story disk.old) (D.story disk.new) }
     ensures counted { Counted (D.story disk.old) (D.story disk.new) (is_read_failure result) }
@@ -180,10 +180,10 @@ fn range_fault<M: Made, D: Disk<M>>(
     requires epoch { (delta_of one.now.range).epoch ≤ epoch_of table.now.evolving.value }
     requires order { IfSome (now_if_any before) (λ b. is_merged (range_in one.now.range) ≡ true → b.range.to ≤ one.now.range.to) }
     requires epoch_before { IfSome (now_if_any before) (λ b. (delta_of b.range).epoch ≤ epoch_of table.now.evolving.value) }
-    ensures first { IfOk result (λ o. (next : ℕ) (i : Image) (found : Found) → IsHeld next table.now → (D.story disk.old).told ≡ Some i → AreFound i found (stock_shelved (stock_of next table.now))
-        → IsAskedBelow found (stock_of next table.now) asked → IfSome (now_if_any before.entry) (Agrees i found (stock_of next table.now))
-        → IsRead i found table.now.evolving.value one.now → over ≡ tells_excess found (stock_of next table.now) (range_in one.now.range)
-        → slice_get (range_faults found (stock_of next table.now) (range_in one.now.range)) 0 ≡ option_map (fault_of (stock_of next table.now) (range_in one.now.range)) o) }
+    ensures first { IfOk result (λ o. (next : ℕ) (i : Image) (found : Found) → IsHeld next table.now → (D.story disk.old).told ≡ Some i → AreFound i found (meta_live (meta_of next table.now))
+        → IsAskedBelow found (meta_of next table.now) asked → IfSome (now_if_any before.entry) (Agrees i found (meta_of next table.now))
+        → IsRead i found table.now.evolving.value one.now → over ≡ tells_excess found (meta_of next table.now) (range_in one.now.range)
+        → slice_get (range_faults found (meta_of next table.now) (range_in one.now.range)) 0 ≡ option_map (fault_of (meta_of next table.now) (range_in one.now.range)) o) }
     ensures there { IfOk result (λ o. o ≡ None → one.now.found ≡ true) }
     ensures unmoved { Unmoved (D.story disk.old) (D.story disk.new) }
     ensures counted { Counted (D.story disk.old) (D.story disk.new) (is_read_failure result) }
@@ -227,9 +227,9 @@ fn key_shown<M: Made, D: Disk<M>>(
     requires epoch { (delta_of one.now.range).epoch ≤ epoch_of table.now.evolving.value }
     requires order { IfSome (now_if_any before) (λ b. is_merged (range_in one.now.range) ≡ true → b.range.to ≤ one.now.range.to) }
     requires epoch_before { IfSome (now_if_any before) (λ b. (delta_of b.range).epoch ≤ epoch_of table.now.evolving.value) }
-    ensures key { IfOk result (λ o. (next : ℕ) (i : Image) (found : Found) → IsHeld next table.now → (D.story disk.old).told ≡ Some i → AreFound i found (stock_shelved (stock_of next table.now))
-        → IsAskedBelow found (stock_of next table.now) asked → IfSome (now_if_any before.entry) (Agrees i found (stock_of next table.now))
-        → IsRead i found table.now.evolving.value one.now → one.now.found ≡ true → slice_get (keys_shown found (stock_of next table.now) (range_in one.now.range)) 0 ≡ o) }
+    ensures key { IfOk result (λ o. (next : ℕ) (i : Image) (found : Found) → IsHeld next table.now → (D.story disk.old).told ≡ Some i → AreFound i found (meta_live (meta_of next table.now))
+        → IsAskedBelow found (meta_of next table.now) asked → IfSome (now_if_any before.entry) (Agrees i found (meta_of next table.now))
+        → IsRead i found table.now.evolving.value one.now → one.now.found ≡ true → slice_get (keys_shown found (meta_of next table.now) (range_in one.now.range)) 0 ≡ o) }
     ensures unmoved { Unmoved (D.story disk.old) (D.story disk.new) }
     ensures counted { Counted (D.story disk.old) (D.story disk.new) (is_read_failure result) }
 {

@@ -3,21 +3,21 @@ ghost use Rattle.std.specs.Prelude.{◌≡◌, ◌<◌, ◌^◌, ℕ, List, map,
 ghost use Rattle.std.specs.List.{AllByRecursion, list_all};
 ghost use Rattle.mesa_disk.specs.Image.{Image};
 ghost use Rattle.mesa_disk.specs.Story.{Unmoved};
-ghost use Rattle.mesa_image_spec.specs.Fitting.{view_shelved};
+ghost use Rattle.mesa_store_spec.specs.Fitting.{view_live};
 ghost use Rattle.mesa_schema.specs.declared.rows.Row.{Row as AnyRow};
-ghost use Rattle.mesa_tasks.specs.Opening.{Counted, HasEpoch};
+ghost use Rattle.mesa_open_files.specs.Opening.{Counted, HasEpoch};
 ghost use Rattle.mesa_check_file.specs.Examined.{is_read_failure};
 ghost use Rattle.mesa_check.specs.Found.{AreFound, Found, IsFoundAs};
 ghost use Rattle.mesa_check.specs.Faults.{is_view_found as is_found_view};
-ghost use Rattle.mesa_check.specs.Tested.{AreSumsFound, HasRows, shelf_of};
+ghost use Rattle.mesa_check.specs.Tested.{AreSumsFound, HasRows, live_file_of};
 
 use mesa_check_file::{CheckError, Sums, examine};
 use mesa_delta::one_file;
 use mesa_disk::{Disk, FileRef, Made};
-use mesa_plans::own_columns;
+use mesa_pick_files::own_columns;
 use mesa_record::ViewRef;
 use mesa_schema::Evolving;
-use mesa_tasks::Wanted;
+use mesa_open_files::Wanted;
 use std::alloc::Global;
 use std::sync::Arc;
 
@@ -28,9 +28,9 @@ pub(crate) fn test_file<M: Made, D: Disk<M>>(
     wanted: &Wanted,
 ) -> Result<Option<Sums>, CheckError>
     requires { HasEpoch wanted.now }
-    ensures sums { IfOk result (λ o. (i : Image) (rows : Option (List AnyRow)) → (D.story disk.old).told ≡ Some i → IsFoundAs i (shelf_of wanted.now) rows → AreSumsFound wanted.now rows o) }
-    ensures some { IfOk result (λ o. (i : Image) (rows : Option (List AnyRow)) → (D.story disk.old).told ≡ Some i → IsFoundAs i (shelf_of wanted.now) rows → is_some o ≡ is_some rows) }
-    ensures there { IfOk result (λ o. (i : Image) → (D.story disk.old).told ≡ Some i → is_some o ≡ true → HasRows i (shelf_of wanted.now)) }
+    ensures sums { IfOk result (λ o. (i : Image) (rows : Option (List AnyRow)) → (D.story disk.old).told ≡ Some i → IsFoundAs i (live_file_of wanted.now) rows → AreSumsFound wanted.now rows o) }
+    ensures some { IfOk result (λ o. (i : Image) (rows : Option (List AnyRow)) → (D.story disk.old).told ≡ Some i → IsFoundAs i (live_file_of wanted.now) rows → is_some o ≡ is_some rows) }
+    ensures there { IfOk result (λ o. (i : Image) → (D.story disk.old).told ≡ Some i → is_some o ≡ true → HasRows i (live_file_of wanted.now)) }
     ensures unmoved { Unmoved (D.story disk.old) (D.story disk.new) }
     ensures counted { Counted (D.story disk.old) (D.story disk.new) (is_read_failure result) }
 {
@@ -56,8 +56,8 @@ pub(crate) fn are_views_found<M: Made, D: Disk<M>>(
     evolving: &Arc<Evolving>,
     views: &[ViewRef],
 ) -> Result<bool, CheckError>
-    ensures found { IfOk result (λ b. (i : Image) (found : Found) → (D.story disk.old).told ≡ Some i → AreFound i found (map (view_shelved evolving.now.value) views.now) → b ≡ list_all (is_found_view found evolving.now.value) views.now) }
-    ensures there { IfOk result (λ b. (i : Image) → (D.story disk.old).told ≡ Some i → b ≡ true → AllByRecursion (HasRows i) (map (view_shelved evolving.now.value) views.now)) }
+    ensures found { IfOk result (λ b. (i : Image) (found : Found) → (D.story disk.old).told ≡ Some i → AreFound i found (map (view_live evolving.now.value) views.now) → b ≡ list_all (is_found_view found evolving.now.value) views.now) }
+    ensures there { IfOk result (λ b. (i : Image) → (D.story disk.old).told ≡ Some i → b ≡ true → AllByRecursion (HasRows i) (map (view_live evolving.now.value) views.now)) }
     ensures unmoved { Unmoved (D.story disk.old) (D.story disk.new) }
     ensures counted { Counted (D.story disk.old) (D.story disk.new) (is_read_failure result) }
 {
@@ -75,8 +75,8 @@ fn is_view_found<M: Made, D: Disk<M>>(
     evolving: &Arc<Evolving>,
     view: &ViewRef,
 ) -> Result<bool, CheckError>
-    ensures found { IfOk result (λ b. (i : Image) (found : Found) → (D.story disk.old).told ≡ Some i → IsFoundAs i (view_shelved evolving.now.value view.now) (found view.now.file.id) → b ≡ is_found_view found evolving.now.value view.now) }
-    ensures there { IfOk result (λ b. (i : Image) → (D.story disk.old).told ≡ Some i → b ≡ true → HasRows i (view_shelved evolving.now.value view.now)) }
+    ensures found { IfOk result (λ b. (i : Image) (found : Found) → (D.story disk.old).told ≡ Some i → IsFoundAs i (view_live evolving.now.value view.now) (found view.now.file.id) → b ≡ is_found_view found evolving.now.value view.now) }
+    ensures there { IfOk result (λ b. (i : Image) → (D.story disk.old).told ≡ Some i → b ≡ true → HasRows i (view_live evolving.now.value view.now)) }
     ensures unmoved { Unmoved (D.story disk.old) (D.story disk.new) }
     ensures counted { Counted (D.story disk.old) (D.story disk.new) (is_read_failure result) }
 {

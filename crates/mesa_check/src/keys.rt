@@ -3,12 +3,12 @@ ghost use Rattle.std.specs.Prelude.{◌≡◌, ◌≤◌, ℕ, slice_get, true, 
 ghost use Rattle.mesa_disk.specs.Image.{Image};
 ghost use Rattle.mesa_disk.specs.Story.{Unmoved};
 ghost use Rattle.mesa_schema.specs.Changes.{columns_of, epoch_of};
-ghost use Rattle.mesa_image_spec.specs.Catalog.{Delta as AnyDelta};
-ghost use Rattle.mesa_image_spec.specs.Contents.{present as present_of};
-ghost use Rattle.mesa_image_spec.specs.Fitting.{stock_shelved, view_shelved};
-ghost use Rattle.mesa_table.specs.Meaning.{stock_of};
-ghost use Rattle.mesa_plans.specs.Lent.{now_if_any};
-ghost use Rattle.mesa_tasks.specs.Opening.{Counted, HasEpoch};
+ghost use Rattle.mesa_store_spec.specs.Catalog.{Delta as AnyDelta};
+ghost use Rattle.mesa_store_spec.specs.Contents.{present as present_of};
+ghost use Rattle.mesa_store_spec.specs.Fitting.{meta_live, view_live};
+ghost use Rattle.mesa_catalog_table.specs.Meaning.{meta_of};
+ghost use Rattle.mesa_pick_files.specs.Lent.{now_if_any};
+ghost use Rattle.mesa_open_files.specs.Opening.{Counted, HasEpoch};
 ghost use Rattle.mesa_check_file.specs.Examined.{is_read_failure};
 ghost use Rattle.mesa_check_file.specs.Compared.{present_rows};
 ghost use Rattle.mesa_check.specs.Found.{AreFound, Found, rows_found};
@@ -16,7 +16,7 @@ ghost use Rattle.mesa_check.specs.Faults.{keep_bound as keeps_bound, merged_key 
 ghost use Rattle.mesa_check.specs.Held.{IsHeld, delta_of};
 ghost use Rattle.mesa_check.specs.Parts.{Agrees, IsAskedBelow};
 ghost use Rattle.mesa_check.specs.Shown.{key_list};
-ghost use Rattle.mesa_check.specs.Tested.{AreThere, IsRead, IsThere, shelf_of};
+ghost use Rattle.mesa_check.specs.Tested.{AreThere, IsRead, IsThere, live_file_of};
 
 use crate::asked::is_below;
 use crate::parts::parts;
@@ -26,11 +26,11 @@ use crate::totals::keep_bound;
 use mesa_check_file::{CheckError, cumulative_difference, view_difference};
 use mesa_disk::{Disk, Made};
 use mesa_key::KeyBytes;
-use mesa_plans::{own_columns, table_files};
+use mesa_pick_files::{own_columns, table_files};
 use mesa_record::{Files, ViewRef};
 use mesa_schema::Evolving;
-use mesa_table::Table;
-use mesa_tasks::Wanted;
+use mesa_catalog_table::Table;
+use mesa_open_files::Wanted;
 use std::alloc::Global;
 use std::sync::Arc;
 
@@ -47,9 +47,9 @@ pub(crate) fn merged_key<M: Made, D: Disk<M>>(
     requires epoch { (delta_of one.now.range).epoch ≤ epoch_of table.now.evolving.value }
     requires order { IfSome (now_if_any before) (λ b. b.range.to ≤ one.now.range.to) }
     requires epoch_before { IfSome (now_if_any before) (λ b. (delta_of b.range).epoch ≤ epoch_of table.now.evolving.value) }
-    ensures key { IfOk result (λ o. (next : ℕ) (i : Image) (found : Found) → IsHeld next table.now → (D.story disk.old).told ≡ Some i → AreFound i found (stock_shelved (stock_of next table.now))
-        → IsAskedBelow found (stock_of next table.now) asked → IfSome (now_if_any before.entry) (Agrees i found (stock_of next table.now))
-        → IsRead i found table.now.evolving.value one.now → one.now.found ≡ true → key_list o ≡ key_merged found (stock_of next table.now) one.now.range.to (delta_of one.now.range)) }
+    ensures key { IfOk result (λ o. (next : ℕ) (i : Image) (found : Found) → IsHeld next table.now → (D.story disk.old).told ≡ Some i → AreFound i found (meta_live (meta_of next table.now))
+        → IsAskedBelow found (meta_of next table.now) asked → IfSome (now_if_any before.entry) (Agrees i found (meta_of next table.now))
+        → IsRead i found table.now.evolving.value one.now → one.now.found ≡ true → key_list o ≡ key_merged found (meta_of next table.now) one.now.range.to (delta_of one.now.range)) }
     ensures unmoved { Unmoved (D.story disk.old) (D.story disk.new) }
     ensures counted { Counted (D.story disk.old) (D.story disk.new) (is_read_failure result) }
 {
@@ -128,7 +128,7 @@ fn one_view_key<M: Made, D: Disk<M>>(
     view: &ViewRef,
 ) -> Result<Option<KeyBytes>, CheckError>
     requires { HasEpoch table.now }
-    ensures key { IfOk result (λ o. (i : Image) (found : Found) (d : AnyDelta) → (D.story disk.old).told ≡ Some i → IsThere i found (shelf_of table.now) → IsThere i found (view_shelved table.now.evolving.now.value view.now)
+    ensures key { IfOk result (λ o. (i : Image) (found : Found) (d : AnyDelta) → (D.story disk.old).told ≡ Some i → IsThere i found (live_file_of table.now) → IsThere i found (view_live table.now.evolving.now.value view.now)
         → present_of (rows_found found) table.now.evolving.now.value d ≡ present_rows table.now (rows_found found table.now.file.now.id) → keeps_bound (columns_of table.now.evolving.now.value) (present_of (rows_found found) table.now.evolving.now.value d) ≡ true
         → key_list o ≡ key_seen found table.now.evolving.now.value d view.now (slice_get table.now.evolving.now.value.views view.now.view)) }
     ensures unmoved { Unmoved (D.story disk.old) (D.story disk.new) }

@@ -1,23 +1,23 @@
 // What a cumulative is compared with.
 ghost use Rattle.std.specs.Prelude.{◌≡◌, ◌++◌, ◌≤◌, ℕ, IfSome};
 ghost use Rattle.std.specs.List.{AllByRecursion};
-ghost use Rattle.mesa_image_spec.specs.Fitting.{deltas_of};
-ghost use Rattle.mesa_table.specs.Meaning.{AreLoaded, IsTable, stock_of};
-ghost use Rattle.mesa_table.specs.Named.{through};
-ghost use Rattle.mesa_plans.specs.Lent.{AreOfEpochs, lent_in, now_if_any, with_rows};
+ghost use Rattle.mesa_store_spec.specs.Fitting.{deltas_of};
+ghost use Rattle.mesa_catalog_table.specs.Meaning.{AreLoaded, IsTable, meta_of};
+ghost use Rattle.mesa_catalog_table.specs.Named.{through};
+ghost use Rattle.mesa_pick_files.specs.Lent.{AreOfEpochs, lent_in, now_if_any, with_rows};
 ghost use Rattle.mesa_check.specs.Held.{delta_of};
 ghost use Rattle.mesa_check.specs.Parts.{parts_of};
 
 use crate::testing::Test;
-use mesa_plans::{Deltas, singles_to};
-use mesa_table::{Loaded, Table};
+use mesa_pick_files::{Deltas, singles_to};
+use mesa_catalog_table::{Loaded, Table};
 
 /// The deltas whose fold the cumulative that ends at a version is to have: the singletons of its range; or the cumulative before it, where one is told, and the singletons since then. Takes no memory.
 pub(crate) fn parts<'a>(table: &'a Table, before: Option<&Test<'a>>, to: u32) -> Deltas<'a>
     requires table { (next : ℕ) × IsTable next table.now }
     requires order { IfSome (now_if_any before) (λ b. b.range.to ≤ to) }
-    ensures range { (next : ℕ) → IsTable next table.now → with_rows (lent_in result) ≡ with_rows (parts_of (stock_of next table.now) (now_if_any before.entry) to) }
-    ensures epochs { (next epoch : ℕ) → IsTable next table.now → AllByRecursion (λ d. d.epoch ≤ epoch) (deltas_of (stock_of next table.now)) → IfSome (now_if_any before.entry) (λ b. (delta_of b.range).epoch ≤ epoch) → AreOfEpochs epoch (lent_in result) }
+    ensures range { (next : ℕ) → IsTable next table.now → with_rows (lent_in result) ≡ with_rows (parts_of (meta_of next table.now) (now_if_any before.entry) to) }
+    ensures epochs { (next epoch : ℕ) → IsTable next table.now → AllByRecursion (λ d. d.epoch ≤ epoch) (deltas_of (meta_of next table.now)) → IfSome (now_if_any before.entry) (λ b. (delta_of b.range).epoch ≤ epoch) → AreOfEpochs epoch (lent_in result) }
 {
     match before {
         Some(before) => Deltas {

@@ -1,11 +1,11 @@
 // The ranges of a table, in the order in which they are checked.
 ghost use Rattle.std.specs.Prelude.{◌≡◌, ◌+◌, ◌*◌, ◌++◌, ◌<◌, ◌≤◌, ◌^◌, ℕ, length, map, option_map, IfOk, OnOk};
-ghost use Rattle.mesa_table.specs.Meaning.{IsTable, delta_or_empty, ending_of, start_of_base, tens_from};
+ghost use Rattle.mesa_catalog_table.specs.Meaning.{IsTable, delta_or_empty, ending_of, start_of_base, tens_from};
 ghost use Rattle.mesa_check.specs.Ranges.{base_range, cumulative_range};
 ghost use Rattle.mesa_check.specs.Held.{firsts, held_ranges as ranges_held, lent_delta, loaded_range, range_in};
 
 use crate::range::{Held, Kind};
-use mesa_table::{Base, Delta, Loaded, Table};
+use mesa_catalog_table::{Base, Delta, Loaded, Table};
 use std::alloc::{AllocError, Global};
 use std::sync::Arc;
 

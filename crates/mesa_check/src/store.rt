@@ -3,15 +3,15 @@ ghost use Rattle.std.specs.Prelude.{◌≡◌, ℕ, IfOk, None, Some};
 ghost use Rattle.std.specs.List.{AllByRecursion};
 ghost use Rattle.mesa_disk.specs.Image.{Image};
 ghost use Rattle.mesa_disk.specs.Story.{Unmoved};
-ghost use Rattle.mesa_image_spec.specs.Fitting.{shelved};
-ghost use Rattle.mesa_image_spec.specs.Shape.{IsCatalog};
+ghost use Rattle.mesa_store_spec.specs.Fitting.{live_files};
+ghost use Rattle.mesa_store_spec.specs.Shape.{IsCatalog};
 ghost use Rattle.mesa_recover.specs.Opened.{IsOpened};
-ghost use Rattle.mesa_tasks.specs.Opening.{Counted};
+ghost use Rattle.mesa_open_files.specs.Opening.{Counted};
 ghost use Rattle.mesa_check_file.specs.Examined.{is_read_failure};
 ghost use Rattle.mesa_check.specs.Found.{AreFound, Found};
 ghost use Rattle.mesa_check.specs.Faults.{first_fault};
 ghost use Rattle.mesa_check.specs.Verdict.{IsFirstFault, fault_told};
-ghost use Rattle.mesa_table.specs.Meaning.{stock_of};
+ghost use Rattle.mesa_catalog_table.specs.Meaning.{meta_of};
 ghost use Rattle.mesa_check.specs.Shown.{shown_fault};
 ghost use Rattle.mesa_check.specs.Tested.{HasRows};
 
@@ -20,10 +20,10 @@ use crate::{Verdict, sound_where_no_fault};
 use mesa_catalog::Catalog;
 use mesa_check_file::CheckError;
 use mesa_disk::{Disk, Made};
-use mesa_image_spec::{catalogs_are_shaped, catalogs_own_ids};
+use mesa_store_spec::{catalogs_are_shaped, catalogs_own_ids};
 use mesa_list::TryCopy;
 use mesa_recover::Opened;
-use mesa_table::Table;
+use mesa_catalog_table::Table;
 use std::alloc::{AllocError, Global};
 
 /// Whether a store that was read is sound, and else its first fault. Each file that the catalogue names is read once, and once more for each comparison that it is in: a singleton's with one cumulative, a cumulative's with its singletons and with the next cumulative, and a table's file with each of its views'. A block of each file that is open is held, and of a view's file the groups of its table's rows. Nothing is written.
@@ -50,12 +50,12 @@ fn check_tables<M: Made, D: Disk<M>>(
     catalog: &Catalog,
 ) -> Result<Verdict, CheckError>
     requires { IsCatalog catalog.now.catalogue }
-    ensures first { IfOk result (λ v. (i : Image) (found : Found) → (D.story disk.old).told ≡ Some i → AreFound i found (shelved catalog.now.catalogue) → first_fault found catalog.now.catalogue ≡ fault_told v) }
-    ensures there { IfOk result (λ v. fault_told v ≡ None → (i : Image) → (D.story disk.old).told ≡ Some i → AllByRecursion (HasRows i) (shelved catalog.now.catalogue)) }
+    ensures first { IfOk result (λ v. (i : Image) (found : Found) → (D.story disk.old).told ≡ Some i → AreFound i found (live_files catalog.now.catalogue) → first_fault found catalog.now.catalogue ≡ fault_told v) }
+    ensures there { IfOk result (λ v. fault_told v ≡ None → (i : Image) → (D.story disk.old).told ≡ Some i → AllByRecursion (HasRows i) (live_files catalog.now.catalogue)) }
     ensures unmoved { Unmoved (D.story disk.old) (D.story disk.new) }
     ensures counted { Counted (D.story disk.old) (D.story disk.new) (is_read_failure result) }
 {
-    'stocks: for number in 0..catalog.tables() {
+    'metas: for number in 0..catalog.tables() {
         let table = catalog.table(number);
         if let Some(shown) = table_fault(alloc, disk, table)? {
             return Ok(unsound(table, shown)?);
@@ -66,7 +66,7 @@ fn check_tables<M: Made, D: Disk<M>>(
 
 // What is told of a table's fault.
 fn unsound(table: &Table, shown: Shown) -> Result<Verdict, AllocError>
-    ensures { IfOk result (λ v. (next : ℕ) → fault_told v ≡ Some (shown_fault (stock_of next table.now) shown)) }
+    ensures { IfOk result (λ v. (next : ℕ) → fault_told v ≡ Some (shown_fault (meta_of next table.now) shown)) }
 {
     let name = table.name.copy()?;
     Ok(Verdict::Unsound {

@@ -3,9 +3,9 @@ ghost use Rattle.std.specs.Prelude.{◌≡◌, ◌≤◌, map, false, IfOk, None
 ghost use Rattle.std.specs.List.{AllByRecursion};
 ghost use Rattle.mesa_disk.specs.Image.{Image};
 ghost use Rattle.mesa_disk.specs.Story.{Unmoved};
-ghost use Rattle.mesa_image_spec.specs.Shape.{IsWithinBound};
+ghost use Rattle.mesa_store_spec.specs.Shape.{IsWithinBound};
 ghost use Rattle.mesa_schema.specs.Changes.{epoch_of};
-ghost use Rattle.mesa_tasks.specs.Opening.{Counted};
+ghost use Rattle.mesa_open_files.specs.Opening.{Counted};
 ghost use Rattle.mesa_check_file.specs.Examined.{is_read_failure};
 ghost use Rattle.mesa_check.specs.Held.{delta_of};
 ghost use Rattle.mesa_check.specs.Tested.{IsTestOf, range_of};
@@ -18,7 +18,7 @@ use mesa_disk::{Disk, Made};
 use mesa_list::Items;
 use mesa_record::Files;
 use mesa_schema::Evolving;
-use mesa_tasks::Wanted;
+use mesa_open_files::Wanted;
 use std::alloc::{AllocError, Global};
 use std::sync::Arc;
 

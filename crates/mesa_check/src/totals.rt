@@ -11,14 +11,14 @@ ghost use Rattle.mesa_check.specs.Faults.{agrees_if_any, are_at_most as at_most}
 ghost use Rattle.mesa_check.specs.Counted.{is_counted, rows_where};
 ghost use Rattle.mesa_check.specs.Held.{range_in};
 ghost use Rattle.mesa_check.specs.declared.testing.Test.{Test as Tested};
-ghost use Rattle.mesa_plans.specs.Lent.{now_if_any};
+ghost use Rattle.mesa_pick_files.specs.Lent.{now_if_any};
 
 use crate::range::{Held, Kind};
 use crate::testing::Test;
 use mesa_batch::OVER_BOUND;
 use mesa_list::Items;
 use mesa_schema::{Schema, Totals};
-use mesa_table::no_totals;
+use mesa_catalog_table::no_totals;
 use std::alloc::{AllocError, Global};
 
 /// Those of no rows.

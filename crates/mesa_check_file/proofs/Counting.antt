@@ -1,7 +1,7 @@
 -- Counts of faults of one input and of several.
 use Rattle.std.proofs.Common.{◌≡◌, ℕ, ◌≤◌, List, [], ◌∷◌, refl, sym, ◌∙◌, subst, arith, inl, inr}
 use Rattle.std.specs.Prelude.{Result, Ok, Err, IfErr}
-use Rattle.mesa_tasks.specs.mesa_io.Causes.{HasFaultCause, Rose}
+use Rattle.mesa_open_files.specs.mesa_io.Causes.{HasFaultCause, Rose}
 use Rattle.mesa_merge.specs.Faults.{HaveFaultCause, NoneFell, SomeRose}
 
 pub none_fell : (counts : List ℕ) → NoneFell counts counts

@@ -2,16 +2,16 @@
 use Rattle.std.proofs.Common.{◌≡◌, ℕ, ◌+◌, ◌<◌, ◌≤◌, List, [], ◌∷◌, Bool, false, refl, ◌∙◌, subst, arith, inl, inr}
 use Rattle.std.specs.Prelude.{Option, None, Result, Ok, Err, IfOk, IfErr}
 use Rattle.std.specs.List.{AllByRecursion}
-use Rattle.mesa_tasks.specs.mesa_io.Causes.{Rose}
-use Rattle.mesa_tasks.specs.mesa_file.declared.damage.Damage.{Damage}
+use Rattle.mesa_open_files.specs.mesa_io.Causes.{Rose}
+use Rattle.mesa_open_files.specs.mesa_file.declared.damage.Damage.{Damage}
 use Rattle.mesa_disk.specs.Story.{Story, Unmoved}
 use Rattle.mesa_delta.specs.declared.error.FileError.{FileError}
 use Rattle.mesa_delta.specs.declared.error.FileError.TheVariants.{Damaged, Memory, Read}
 use Rattle.mesa_delta.specs.declared.input.Input.{Input}
 use Rattle.mesa_scan.specs.Cursors.{reader_in}
 use Rattle.mesa_merge.specs.Faults.{HaveFaultCause, SomeRose, faults_of}
-use Rattle.mesa_tasks.specs.GivingBack.{GivesBack}
-use Rattle.mesa_tasks.specs.Opening.{Counted, one_if}
+use Rattle.mesa_open_files.specs.GivingBack.{GivesBack}
+use Rattle.mesa_open_files.specs.Opening.{Counted, one_if}
 use Rattle.mesa_check_file.specs.Examined.{is_read_failure}
 use Rattle.mesa_check_file.specs.Compared.{answer_of}
 

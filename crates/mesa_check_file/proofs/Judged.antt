@@ -10,10 +10,10 @@ use Rattle.mesa_schema.specs.Changes.{Lineage, columns_at, columns_of, epoch_of,
 use Rattle.mesa_schema.specs.Columns.{Columns}
 use Rattle.mesa_schema.specs.Lifting.{Lifts, lifted_with}
 use Rattle.mesa_schema.specs.Rows.{AreRowsOf}
-use Rattle.mesa_tasks.specs.mesa_batch.Totals.{abs_totals}
+use Rattle.mesa_open_files.specs.mesa_batch.Totals.{abs_totals}
 use Rattle.mesa_block.specs.Layout.{Layout}
 use Rattle.mesa_block.specs.Rows.{IsRow}
-use Rattle.mesa_tasks.specs.mesa_file.declared.file_ref.FileRef.{FileRef}
+use Rattle.mesa_open_files.specs.mesa_file.declared.file_ref.FileRef.{FileRef}
 use Rattle.mesa_disk.specs.Image.{Image, file_of}
 use Rattle.mesa_delta.specs.File.{IsFile, file_bytes, file_tail}
 use Rattle.mesa_delta.specs.Indexed.{Indexed, IsIndex, IsIndexOf, tail_length}
@@ -27,8 +27,8 @@ use Rattle.mesa_delta.proofs.Placed.{IsTailOf, places_long, tail_is, tail_of_fil
 use Rattle.mesa_delta.proofs.Tailing.{tail_long}
 use Rattle.mesa_scan.specs.Cursors.{IsAllOf, IsSameInput, lift_by, reader_in}
 use Rattle.mesa_scan.proofs.Lifted.{lifts_all}
-use Rattle.mesa_tasks.specs.Opening.{HasBytes, IsOpened, wanted_columns, wanted_layout}
-use Rattle.mesa_tasks.specs.declared.opening.Wanted.{Wanted}
+use Rattle.mesa_open_files.specs.Opening.{HasBytes, IsOpened, wanted_columns, wanted_layout}
+use Rattle.mesa_open_files.specs.declared.opening.Wanted.{Wanted}
 use Rattle.mesa_check_file.specs.Examined.{AreJudged, IsExaminedAs}
 use Rattle.mesa_check_file.specs.Sums.{counted}
 use Rattle.mesa_check_file.specs.Tallies.{IsToldOf}

@@ -6,14 +6,14 @@ use Rattle.mesa_schema.specs.declared.rows.Row.{Row}
 use Rattle.mesa_schema.specs.Changes.{columns_of, epoch_of, lifted}
 use Rattle.mesa_schema.specs.Columns.{Columns}
 use Rattle.mesa_disk.specs.Image.{Image}
-use Rattle.mesa_tasks.specs.mesa_file.declared.damage.Damage.{Damage}
+use Rattle.mesa_open_files.specs.mesa_file.declared.damage.Damage.{Damage}
 use Rattle.mesa_delta.specs.File.{IsFile, file_bytes}
 use Rattle.mesa_delta.specs.Reading.{index_of}
 use Rattle.mesa_delta.specs.declared.input.Input.{Input}
 use Rattle.mesa_scan.specs.Cursors.{IsInput, lift_by, reader_in}
 use Rattle.mesa_merge.specs.Inputs.{AreAlike, AreTold, IsTold, known_of, knowns_of, lifted_parts}
-use Rattle.mesa_tasks.specs.Opening.{HaveOpened, IsDamageOf, IsOpened, wanted_columns, wanted_layout}
-use Rattle.mesa_tasks.specs.declared.opening.Wanted.{Wanted}
+use Rattle.mesa_open_files.specs.Opening.{HaveOpened, IsDamageOf, IsOpened, wanted_columns, wanted_layout}
+use Rattle.mesa_open_files.specs.declared.opening.Wanted.{Wanted}
 use Rattle.mesa_check_file.proofs.Judged.{indexed_by}
 use Rattle.mesa_check_file.specs.Compared.{HasFile, HaveFiles, IsLiftedTo, present_parts, present_rows}
 

@@ -1,7 +1,7 @@
 -- A file's rows one by one.
 use Rattle.std.proofs.Common.{◌≡◌, ℕ, ◌≤◌, List, [], ◌∷◌, ◌++◌, subst, ◌∙◌}
 use Rattle.std.specs.Prelude.{Option, Err}
-use Rattle.mesa_tasks.specs.mesa_io.Causes.{HasFaultCause, Rose}
+use Rattle.mesa_open_files.specs.mesa_io.Causes.{HasFaultCause, Rose}
 use Rattle.mesa_schema.specs.declared.rows.Row.{Row}
 use Rattle.mesa_schema.specs.Columns.{Columns}
 use Rattle.mesa_schema.specs.Rows.{AreRowsOf, IsRowOf}

@@ -5,7 +5,7 @@ use Rattle.std.proofs.Math.Seq.{drop-cons}
 use Rattle.mesa_value.specs.declared.Agg.{Agg}
 use Rattle.mesa_value.specs.declared.Agg.TheVariants as agg
 use Rattle.mesa_schema.specs.declared.columns.ValueColumn.{ValueColumn}
-use Rattle.mesa_tasks.specs.mesa_batch.Totals.{is_sum, sum_places}
+use Rattle.mesa_open_files.specs.mesa_batch.Totals.{is_sum, sum_places}
 use Rattle.mesa_check_file.specs.Sums.{counted}
 
 -- the first column's place, where it is a sum, before the others'

@@ -7,7 +7,7 @@ use Rattle.mesa_schema.specs.declared.rows.Row.{Row}
 use Rattle.mesa_schema.specs.declared.lifting.Lift.{Lift}
 use Rattle.mesa_schema.specs.Columns.{Columns, aggs_of}
 use Rattle.mesa_schema.specs.Lifting.{lifted_with}
-use Rattle.mesa_tasks.specs.mesa_batch.Totals.{abs_total}
+use Rattle.mesa_open_files.specs.mesa_batch.Totals.{abs_total}
 use Rattle.mesa_value.specs.declared.Agg.{Agg}
 use Rattle.mesa_delta.specs.Summary.{all_noted}
 use Rattle.mesa_delta.specs.Totals.{added}

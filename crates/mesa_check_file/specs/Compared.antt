@@ -9,8 +9,8 @@ use Rattle.mesa_delta.specs.File.{IsFile, file_bytes}
 use Rattle.mesa_delta.specs.Summary.{IsReferenceOf}
 use Rattle.mesa_delta.specs.declared.error.FileError.{FileError}
 use Rattle.mesa_delta.specs.declared.error.FileError.TheVariants as file_error
-use Rattle.mesa_tasks.specs.Opening.{wanted_layout}
-use Rattle.mesa_tasks.specs.declared.opening.Wanted.{Wanted}
+use Rattle.mesa_open_files.specs.Opening.{wanted_layout}
+use Rattle.mesa_open_files.specs.declared.opening.Wanted.{Wanted}
 use Rattle.mesa_check_file.specs.Difference.{first_difference, next_of}
 use Rattle.mesa_check_file.specs.declared.error.CheckError.{CheckError}
 use Rattle.mesa_check_file.specs.declared.error.CheckError.TheVariants as check_error

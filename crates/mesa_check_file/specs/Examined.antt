@@ -4,13 +4,13 @@ use Rattle.mesa_schema.specs.declared.rows.Row.{Row}
 use Rattle.mesa_schema.specs.Columns.{Columns}
 use Rattle.mesa_schema.specs.Lifting.{lifted_with}
 use Rattle.mesa_schema.specs.declared.lifting.Lift.{Lift}
-use Rattle.mesa_tasks.specs.mesa_batch.Totals.{abs_totals}
-use Rattle.mesa_tasks.specs.mesa_file.declared.file_ref.FileRef.{FileRef}
+use Rattle.mesa_open_files.specs.mesa_batch.Totals.{abs_totals}
+use Rattle.mesa_open_files.specs.mesa_file.declared.file_ref.FileRef.{FileRef}
 use Rattle.mesa_disk.specs.Image.{Image, file_of}
 use Rattle.mesa_delta.specs.File.{IsFile, file_bytes}
 use Rattle.mesa_delta.specs.Summary.{IsReferenceOf}
-use Rattle.mesa_tasks.specs.Opening.{wanted_layout}
-use Rattle.mesa_tasks.specs.declared.opening.Wanted.{Wanted}
+use Rattle.mesa_open_files.specs.Opening.{wanted_layout}
+use Rattle.mesa_open_files.specs.declared.opening.Wanted.{Wanted}
 use Rattle.mesa_check_file.specs.Sums.{AreSumsOf, counted}
 use Rattle.mesa_check_file.specs.Tallies.{IsToldOf}
 use Rattle.mesa_check_file.specs.declared.error.CheckError.{CheckError}

@@ -2,7 +2,7 @@
 use Rattle.std.specs.Prelude.{◌≡◌, ℕ, ◌-◌, ◌<◌, ◌^◌, min, List, length, get_or, map}
 use Rattle.mesa_schema.specs.declared.rows.Row.{Row}
 use Rattle.mesa_schema.specs.Changes.{Lineage, columns_at, columns_of, epoch_of, lifted}
-use Rattle.mesa_tasks.specs.mesa_batch.Totals.{abs_total, abs_totals}
+use Rattle.mesa_open_files.specs.mesa_batch.Totals.{abs_total, abs_totals}
 use Rattle.mesa_check_file.specs.declared.totals.Sums.{Sums}
 
 -- a total of 2^128 or more stands as 2^128 - 1, which is more than any total that is recorded

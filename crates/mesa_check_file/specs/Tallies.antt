@@ -4,7 +4,7 @@ use Rattle.mesa_schema.specs.declared.rows.Row.{Row}
 use Rattle.mesa_schema.specs.Columns.{Columns, aggs_of}
 use Rattle.mesa_schema.specs.Lifting.{lifted_with}
 use Rattle.mesa_schema.specs.declared.lifting.Lift.{Lift}
-use Rattle.mesa_tasks.specs.mesa_file.declared.file_ref.FileRef.{FileRef}
+use Rattle.mesa_open_files.specs.mesa_file.declared.file_ref.FileRef.{FileRef}
 use Rattle.mesa_delta.specs.Tail.{first_key}
 use Rattle.mesa_delta.specs.Summary.{aggregates as aggregates_of, last_key}
 use Rattle.mesa_check_file.specs.Sums.{AreTotals}

@@ -8,12 +8,12 @@ ghost use Rattle.mesa_schema.specs.declared.rows.Row.{Row as AnyRow};
 ghost use Rattle.mesa_schema.specs.Changes.{columns_of};
 ghost use Rattle.mesa_schema.specs.Columns.{Columns, aggs_of};
 ghost use Rattle.mesa_schema.specs.Folded.{folded, rows_of};
-ghost use Rattle.mesa_tasks.specs.mesa_batch.Bound.{KeepsBound};
+ghost use Rattle.mesa_open_files.specs.mesa_batch.Bound.{KeepsBound};
 ghost use Rattle.mesa_delta.specs.Reading.{IsIndexed, index_of};
 ghost use Rattle.mesa_scan.specs.Cursors.{IsInput, lift_by, reader_in};
 ghost use Rattle.mesa_merge.specs.Inputs.{AreInputs, AreTold, knowns_of, lifted_parts};
 ghost use Rattle.mesa_merge.specs.Merged.{HasMerged, inputs_of};
-ghost use Rattle.mesa_tasks.specs.Opening.{Counted, HasEpoch};
+ghost use Rattle.mesa_open_files.specs.Opening.{Counted, HasEpoch};
 ghost use Rattle.mesa_check_file.specs.Difference.{first_difference};
 ghost use Rattle.mesa_check_file.specs.Examined.{is_read_failure};
 ghost use Rattle.mesa_check_file.specs.Compared.{HasFile, HasFileIfAny, HaveFiles, IsLiftedTo, present_if_any, present_parts, present_rows};
@@ -25,7 +25,7 @@ use mesa_delta::Input;
 use mesa_disk::{Disk, Made};
 use mesa_key::KeyBytes;
 use mesa_merge::Merge;
-use mesa_tasks::{Met, Opened, Unopened, Wanted, open_all, open_one, retire_all, retire_input};
+use mesa_open_files::{Met, Opened, Unopened, Wanted, open_all, open_one, retire_all, retire_input};
 use std::alloc::Global;
 
 /// The first key at which the rows of a cumulative's own file, or none where it has no file, differ from the fold of the files of its range's singletons, all at present. Each file is read once, and of each one block is held.

@@ -1,7 +1,7 @@
 // Whether a file is the recorded one.
 ghost use Rattle.std.specs.Prelude.{◌≡◌, [], ℕ, List, IfOk, IfErr, OnOk, Some};
-ghost use Rattle.mesa_tasks.specs.mesa_io.Causes.{HasFaultCause};
-ghost use Rattle.mesa_tasks.specs.mesa_file.declared.damage.Damage.{Damage as AnyDamage};
+ghost use Rattle.mesa_open_files.specs.mesa_io.Causes.{HasFaultCause};
+ghost use Rattle.mesa_open_files.specs.mesa_file.declared.damage.Damage.{Damage as AnyDamage};
 ghost use Rattle.mesa_schema.specs.declared.rows.Row.{Row as AnyRow};
 ghost use Rattle.mesa_schema.specs.Changes.{columns_of, epoch_of};
 ghost use Rattle.mesa_schema.specs.Lifting.{Lifts};
@@ -10,7 +10,7 @@ ghost use Rattle.mesa_disk.specs.Story.{Unmoved};
 ghost use Rattle.mesa_delta.specs.Reading.{IsIndexed, index_of};
 ghost use Rattle.mesa_delta.specs.declared.error.FileError.TheVariants as file_error;
 ghost use Rattle.mesa_scan.specs.Cursors.{IsAllOf, IsInput, IsSameInput, reader_in};
-ghost use Rattle.mesa_tasks.specs.Opening.{Counted, HasEpoch, wanted_columns};
+ghost use Rattle.mesa_open_files.specs.Opening.{Counted, HasEpoch, wanted_columns};
 ghost use Rattle.mesa_check_file.specs.Examined.{AreJudged, IsExaminedAs, is_read_failure};
 ghost use Rattle.mesa_check_file.specs.Tallies.{Tallies};
 
@@ -24,7 +24,7 @@ use mesa_delta::{FileError, Input};
 use mesa_disk::{Disk, FileReader, FileRef, Made};
 use mesa_list::TryCopy;
 use mesa_schema::{Evolving, Lift, Row, Schema};
-use mesa_tasks::{Met, Wanted, open_one, retire_input};
+use mesa_open_files::{Met, Wanted, open_one, retire_input};
 use std::alloc::{AllocError, Global};
 use std::sync::Arc;
 

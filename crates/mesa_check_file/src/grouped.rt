@@ -1,7 +1,7 @@
 // A view's file compared with the rows of a table's file, grouped.
 ghost use Rattle.std.specs.Prelude.{◌≡◌, ◌∷◌, [], ◌<◌, ℕ, List, length, map, slice_get, IfErr, IfOk, IfSome, IsTrue, None, Some};
-ghost use Rattle.mesa_tasks.specs.mesa_io.Causes.{HasFaultCause};
-ghost use Rattle.mesa_tasks.specs.mesa_file.declared.damage.Damage.{Damage as AnyDamage};
+ghost use Rattle.mesa_open_files.specs.mesa_io.Causes.{HasFaultCause};
+ghost use Rattle.mesa_open_files.specs.mesa_file.declared.damage.Damage.{Damage as AnyDamage};
 ghost use Rattle.mesa_schema.specs.declared.rows.Row.{Row as AnyRow};
 ghost use Rattle.mesa_schema.specs.Changes.{columns_of};
 ghost use Rattle.mesa_schema.specs.Rows.{keys_rise};

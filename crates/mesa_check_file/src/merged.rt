@@ -1,11 +1,11 @@
 // The rows that a merge gives compared with those of a file, or with none.
 ghost use Rattle.std.specs.Prelude.{◌≡◌, [], ◌∷◌, ℕ, List, map, IfErr, IfOk, Some};
-ghost use Rattle.mesa_tasks.specs.mesa_file.declared.damage.Damage.{Damage as AnyDamage};
+ghost use Rattle.mesa_open_files.specs.mesa_file.declared.damage.Damage.{Damage as AnyDamage};
 ghost use Rattle.mesa_schema.specs.declared.rows.Row.{Row as AnyRow};
 ghost use Rattle.mesa_schema.specs.Changes.{columns_of};
 ghost use Rattle.mesa_schema.specs.Columns.{Columns, aggs_of};
 ghost use Rattle.mesa_schema.specs.Folded.{folded, rows_of};
-ghost use Rattle.mesa_tasks.specs.mesa_batch.Bound.{KeepsBound};
+ghost use Rattle.mesa_open_files.specs.mesa_batch.Bound.{KeepsBound};
 ghost use Rattle.mesa_delta.specs.Reading.{IsIndexed, index_of};
 ghost use Rattle.mesa_delta.specs.declared.error.FileError.TheVariants as file_error;
 ghost use Rattle.mesa_scan.specs.Cursors.{IsInput, IsSameInput, lift_by, reader_in};

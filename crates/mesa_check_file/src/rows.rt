@@ -2,8 +2,8 @@
 ghost use Rattle.std.specs.Prelude.{◌≡◌, [], ◌∷◌, ◌++◌, ℕ, List, IfOk, IfErr, IfSome, IfNone, None, Some};
 ghost use Rattle.std.specs.Bool.{then_some};
 ghost use Rattle.mesa_scan.specs.Cursors.{HasGiven, IsAllOf, IsInput, IsSameInput, low_of, reader_in};
-ghost use Rattle.mesa_tasks.specs.mesa_io.Causes.{HasFaultCause};
-ghost use Rattle.mesa_tasks.specs.mesa_file.declared.damage.Damage.{Damage as AnyDamage};
+ghost use Rattle.mesa_open_files.specs.mesa_io.Causes.{HasFaultCause};
+ghost use Rattle.mesa_open_files.specs.mesa_file.declared.damage.Damage.{Damage as AnyDamage};
 ghost use Rattle.mesa_schema.specs.declared.rows.Row.{Row as AnyRow};
 ghost use Rattle.mesa_schema.specs.Changes.{columns_of};
 ghost use Rattle.mesa_schema.specs.Rows.{IsRowOf};

@@ -9,7 +9,7 @@ ghost use Rattle.mesa_schema.specs.Views.{view_rows};
 ghost use Rattle.mesa_view.specs.mesa_answer.Answering.{KeepsSums};
 ghost use Rattle.mesa_delta.specs.Reading.{IsIndexed, index_of};
 ghost use Rattle.mesa_scan.specs.Cursors.{IsInput, lift_by, reader_in};
-ghost use Rattle.mesa_tasks.specs.Opening.{Counted, HasEpoch};
+ghost use Rattle.mesa_open_files.specs.Opening.{Counted, HasEpoch};
 ghost use Rattle.mesa_check_file.specs.Difference.{first_difference};
 ghost use Rattle.mesa_check_file.specs.Examined.{is_read_failure};
 ghost use Rattle.mesa_check_file.specs.Compared.{HasFile, present_rows};
@@ -20,7 +20,7 @@ use crate::CheckError;
 use mesa_delta::Input;
 use mesa_disk::{Disk, Made};
 use mesa_key::KeyBytes;
-use mesa_tasks::{Met, Wanted, open_one, retire_input};
+use mesa_open_files::{Met, Wanted, open_one, retire_input};
 use std::alloc::Global;
 
 /// The first group key at which the rows of a view's own file differ from those of its table's file, at present and grouped by the view of this number. Both files are read once; beside the groups one block of each is held.

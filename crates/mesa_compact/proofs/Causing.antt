@@ -1,7 +1,7 @@
 -- Why no file was written, told on.
 use Rattle.std.proofs.Common.{◌≡◌, ℕ, ◌<◌, ◌≤◌, List, [], ◌∷◌, ◌++◌, refl, sym, ◌∙◌, ap, subst, arith, inl, inr}
 use Rattle.std.specs.Prelude.{Result, Ok, Err}
-use Rattle.mesa_tasks.specs.mesa_io.Causes.{HasFaultCause, Rose}
+use Rattle.mesa_open_files.specs.mesa_io.Causes.{HasFaultCause, Rose}
 use Rattle.mesa_disk.specs.declared.failures.DraftError.{DraftError}
 use Rattle.mesa_disk.specs.declared.failures.DraftError.TheVariants as draft
 use Rattle.mesa_file.specs.declared.damage.Damage.{Damage}
@@ -9,9 +9,9 @@ use Rattle.mesa_delta.specs.declared.error.FileError.{FileError}
 use Rattle.mesa_delta.specs.declared.error.FileError.TheVariants.{Damaged, Memory, Read}
 use Rattle.mesa_delta.specs.declared.error.WriteError.{WriteError}
 use Rattle.mesa_delta.specs.declared.error.WriteError.TheVariants as write
-use Rattle.mesa_tasks.specs.declared.merging.CompactError.{CompactError}
-use Rattle.mesa_tasks.specs.declared.merging.CompactError.TheVariants.{Draft, File}
-use Rattle.mesa_tasks.specs.Errors.{compact_failure}
+use Rattle.mesa_open_files.specs.declared.merging.CompactError.{CompactError}
+use Rattle.mesa_open_files.specs.declared.merging.CompactError.TheVariants.{Draft, File}
+use Rattle.mesa_open_files.specs.Errors.{compact_failure}
 use Rattle.mesa_merge.specs.Faults.{HaveFaultCause, NoneFell, SomeRose}
 use Rattle.mesa_merge.proofs.Inputs.{SameEnd, none_fell}
 use Rattle.mesa_compact.specs.Writing.{HasCauses, IsDraftFault, IsReadFault, damaged_by}

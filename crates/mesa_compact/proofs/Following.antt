@@ -20,8 +20,8 @@ use Rattle.mesa_schema.specs.Folded.{row_combined, combined_from, folded, rows_o
 use Rattle.mesa_schema.specs.Rows.{AreRowsOf, IsRowOf, keys_rise}
 use Rattle.mesa_batch.specs.Totals.{abs_total, sum_bound}
 use Rattle.mesa_batch.specs.Bound.{FoldsTotals, KeepsBound}
-use Rattle.mesa_tasks.specs.mesa_block.Rows.{IsRow, Rise}
-use Rattle.mesa_tasks.specs.mesa_block.Spelling.{key_of}
+use Rattle.mesa_open_files.specs.mesa_block.Rows.{IsRow, Rise}
+use Rattle.mesa_open_files.specs.mesa_block.Spelling.{key_of}
 use Rattle.mesa_delta.specs.Summary.{all_noted, aggregates, new_layout, values_of, AllCombine}
 use Rattle.mesa_merge.proofs.Bounds.{abs_fronts, full_all}
 use Rattle.mesa_merge.proofs.Combining.{aggs_count}

@@ -8,11 +8,11 @@ use Rattle.mesa_schema.specs.Columns.{Columns, aggs_of, chosen}
 use Rattle.mesa_schema.specs.Folded.{regrouped}
 use Rattle.mesa_schema.specs.Views.{view_columns, view_key_places, view_rows, view_value_places}
 use Rattle.mesa_schema.specs.Rows.{AreRowsOf}
-use Rattle.mesa_tasks.specs.mesa_filter.Query.{are_places}
+use Rattle.mesa_open_files.specs.mesa_filter.Query.{are_places}
 use Rattle.mesa_answer.specs.Answering.{KeepsSums}
 use Rattle.mesa_answer.proofs.Bounds.{sums_grouped}
-use Rattle.mesa_tasks.specs.mesa_block.Rows.{Rise}
-use Rattle.mesa_tasks.specs.mesa_block.Spelling.{key_of}
+use Rattle.mesa_open_files.specs.mesa_block.Rows.{Rise}
+use Rattle.mesa_open_files.specs.mesa_block.Spelling.{key_of}
 use Rattle.mesa_answer.specs.Gathering.{Wanted, first_groups}
 use Rattle.mesa_answer.proofs.Steps.{all_groups}
 use Rattle.mesa_view.specs.SumDamage.{view_groups}

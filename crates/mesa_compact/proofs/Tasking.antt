@@ -1,12 +1,12 @@
 -- A task that was merged.
 use Rattle.std.specs.Prelude.{Result, Err, flat_map, Bool, true, false, ◌==◌}
-use Rattle.mesa_tasks.specs.GivingBack.{own_inputs, spare_inputs}
+use Rattle.mesa_open_files.specs.GivingBack.{own_inputs, spare_inputs}
 use Rattle.mesa_file.specs.declared.damage.Damage.{Damage}
 use Rattle.mesa_merge.specs.Faults.{faults_of}
 use Rattle.mesa_merge.proofs.Inputs.{SameEnd}
-use Rattle.mesa_tasks.specs.declared.merging.CompactError.{CompactError}
+use Rattle.mesa_open_files.specs.declared.merging.CompactError.{CompactError}
 use Rattle.mesa_merge.specs.Sums.{sum_damage}
-use Rattle.mesa_tasks.specs.declared.merging.TaskView.{TaskView}
+use Rattle.mesa_open_files.specs.declared.merging.TaskView.{TaskView}
 use Rattle.mesa_compact.specs.Damaged.{AreMerged, BeginMerged, IsGroupsTotalOf, IsNewestOf, LeavesAmong, RowLeaves, ViewLeaves}
 use Rattle.mesa_compact.specs.Tasks.{IsFilesDamage, IsViewDamage}
 use Rattle.mesa_compact.specs.Writing.{HasCauses}
@@ -20,13 +20,13 @@ use Rattle.mesa_delta.specs.declared.input.Input.{Input}
 use Rattle.mesa_schema.specs.Columns.{aggs_of}
 use Rattle.mesa_schema.specs.Folded.{folded}
 use Rattle.mesa_merge.specs.Inputs.{AreTold, Known, known_of, knowns_of, lifted_in, lifted_parts}
-use Rattle.mesa_tasks.specs.Inputs.{AreInputsOf, IsMergeOf, present_parts}
-use Rattle.mesa_tasks.specs.Inputs.{AreTold as AreToldInputs}
-use Rattle.mesa_tasks.specs.Made.{IsMadeFile}
-use Rattle.mesa_tasks.specs.Tasks.{AreMergedViews, IsMerged}
-use Rattle.mesa_tasks.specs.declared.made.MadeFiles.{MadeFiles}
-use Rattle.mesa_tasks.specs.declared.merging.Spare.{Spare}
-use Rattle.mesa_tasks.specs.declared.merging.Task.{Task}
+use Rattle.mesa_open_files.specs.Inputs.{AreInputsOf, IsMergeOf, present_parts}
+use Rattle.mesa_open_files.specs.Inputs.{AreTold as AreToldInputs}
+use Rattle.mesa_open_files.specs.Made.{IsMadeFile}
+use Rattle.mesa_open_files.specs.Tasks.{AreMergedViews, IsMerged}
+use Rattle.mesa_open_files.specs.declared.made.MadeFiles.{MadeFiles}
+use Rattle.mesa_open_files.specs.declared.merging.Spare.{Spare}
+use Rattle.mesa_open_files.specs.declared.merging.Task.{Task}
 
 -- a list that isn't empty
 pub some_of : {A : Type 0} (xs : List A) (empty : Bool) → empty ≡ (length xs == 0) → empty ≡ false → 0 < length xs

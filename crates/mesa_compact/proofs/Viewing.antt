@@ -11,19 +11,19 @@ use Rattle.mesa_schema.specs.Columns.{Columns}
 use Rattle.mesa_schema.specs.Changes.{Lineage, columns_of}
 use Rattle.mesa_schema.specs.Views.{view_columns, view_rows}
 use Rattle.mesa_delta.specs.declared.input.Input.{Input}
-use Rattle.mesa_tasks.specs.mesa_scan.Cursors.{IsInput, reader_in}
+use Rattle.mesa_open_files.specs.mesa_scan.Cursors.{IsInput, reader_in}
 use Rattle.mesa_merge.specs.Faults.{faults_of}
 use Rattle.mesa_merge.specs.Inputs.{Known, known_of, knowns_of}
 use Rattle.mesa_merge.specs.Inputs.{AreInputs as AreMergeable}
-use Rattle.mesa_tasks.specs.GivingBack.{own_inputs}
-use Rattle.mesa_tasks.specs.Inputs.{AreInputsTo, AreInputsOf, IsMergeOf}
-use Rattle.mesa_tasks.specs.Made.{IsMadeFile}
-use Rattle.mesa_tasks.specs.Serials.{Drafts, after_drafts, next_serials}
-use Rattle.mesa_tasks.specs.Tasks.{AreMergedViews, AreTaskViews, HasOwn, IsMergedView, MergeOnlyTo}
-use Rattle.mesa_tasks.specs.declared.made.MadeFile.{MadeFile}
-use Rattle.mesa_tasks.specs.declared.made.MadeView.{MadeView}
-use Rattle.mesa_tasks.specs.declared.merging.CompactError.{CompactError}
-use Rattle.mesa_tasks.specs.declared.merging.TaskView.{TaskView}
+use Rattle.mesa_open_files.specs.GivingBack.{own_inputs}
+use Rattle.mesa_open_files.specs.Inputs.{AreInputsTo, AreInputsOf, IsMergeOf}
+use Rattle.mesa_open_files.specs.Made.{IsMadeFile}
+use Rattle.mesa_open_files.specs.Serials.{Drafts, after_drafts, next_serials}
+use Rattle.mesa_open_files.specs.Tasks.{AreMergedViews, AreTaskViews, HasOwn, IsMergedView, MergeOnlyTo}
+use Rattle.mesa_open_files.specs.declared.made.MadeFile.{MadeFile}
+use Rattle.mesa_open_files.specs.declared.made.MadeView.{MadeView}
+use Rattle.mesa_open_files.specs.declared.merging.CompactError.{CompactError}
+use Rattle.mesa_open_files.specs.declared.merging.TaskView.{TaskView}
 use Rattle.mesa_answer.specs.declared.groups.Groups.{Groups}
 use Rattle.mesa_compact.specs.Bounded.{AreBounded, AreOwnBounded}
 use Rattle.mesa_compact.specs.Grouping.{wanted_in}

@@ -19,8 +19,8 @@ use Rattle.mesa_answer.specs.Answering.{KeepsSums}
 use Rattle.mesa_compact.specs.Bounded.{AreBounded}
 use Rattle.mesa_compact.proofs.Following.{folded_bound}
 use Rattle.mesa_schema.specs.Rows.{AreRowsOf}
-use Rattle.mesa_tasks.specs.Inputs.{IsMergeOf, present_parts}
-use Rattle.mesa_tasks.specs.Inputs.{AreTold as AreToldInputs}
+use Rattle.mesa_open_files.specs.Inputs.{IsMergeOf, present_parts}
+use Rattle.mesa_open_files.specs.Inputs.{AreTold as AreToldInputs}
 
 -- ---- some rows
 

@@ -10,8 +10,8 @@ use Rattle.mesa_schema.specs.Views.{view_columns}
 use Rattle.mesa_batch.specs.Bound.{KeepsBound}
 use Rattle.mesa_delta.specs.declared.input.Input.{Input}
 use Rattle.mesa_merge.specs.Inputs.{AreTold, Known, knowns_of, lifted_parts}
-use Rattle.mesa_tasks.specs.declared.merging.Task.{Task}
-use Rattle.mesa_tasks.specs.declared.merging.TaskView.{TaskView}
+use Rattle.mesa_open_files.specs.declared.merging.Task.{Task}
+use Rattle.mesa_open_files.specs.declared.merging.TaskView.{TaskView}
 
 -- The bytes of inputs are told, each is the file of its index, and in each sum column the absolute values of all their rows, lifted to these columns, add up to at most 2^127 - 1.
 pub record AreBounded (s : Columns) (knowns : List Known) : Type 0 where

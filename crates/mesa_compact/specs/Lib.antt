@@ -1,8 +1,8 @@
 pub use Rattle.mesa_answer.specs as mesa_answer
-pub use Rattle.mesa_tasks.specs.mesa_block as mesa_block
-pub use Rattle.mesa_tasks.specs.mesa_io as mesa_io
+pub use Rattle.mesa_open_files.specs.mesa_block as mesa_block
+pub use Rattle.mesa_open_files.specs.mesa_io as mesa_io
 pub use Rattle.mesa_merge.specs as mesa_merge
-pub use Rattle.mesa_tasks.specs.mesa_scan as mesa_scan
+pub use Rattle.mesa_open_files.specs.mesa_scan as mesa_scan
 pub mod Writing
 pub mod Damaged
 pub mod Regrouped

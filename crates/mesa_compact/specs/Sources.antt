@@ -3,13 +3,13 @@ use Rattle.std.specs.Prelude.{◌≡◌, ℕ, ◌<◌, List, Vec, length, slice_
 use Rattle.std.specs.declared.alloc.Global.{Global}
 use Rattle.mesa_schema.specs.declared.views.View.{View}
 use Rattle.mesa_schema.specs.Columns.{Columns}
-use Rattle.mesa_tasks.specs.mesa_filter.Query.{are_places}
+use Rattle.mesa_open_files.specs.mesa_filter.Query.{are_places}
 use Rattle.mesa_delta.specs.declared.input.Input.{Input}
 use Rattle.mesa_answer.specs.Gathering.{Wanted}
 use Rattle.mesa_answer.specs.Regrouping.{PlacesSeen, places_seen}
 use Rattle.mesa_answer.specs.declared.groups.Groups.{Groups}
 use Rattle.mesa_view.specs.SumDamage.{view_groups}
-use Rattle.mesa_tasks.specs.declared.merging.TaskView.{TaskView}
+use Rattle.mesa_open_files.specs.declared.merging.TaskView.{TaskView}
 use Rattle.mesa_compact.specs.Grouping.{wanted_in}
 
 -- These are the places of a view's columns, for each of a table's views.

@@ -3,13 +3,13 @@ use Rattle.std.specs.Prelude.{◌≡◌, ◌⊎◌, ℕ, ◌+◌, List, map, sli
 use Rattle.mesa_file.specs.declared.damage.Damage.{Damage}
 use Rattle.mesa_delta.specs.declared.input.Input.{Input}
 use Rattle.mesa_merge.specs.Inputs.{Known, knowns_of}
-use Rattle.mesa_tasks.specs.GivingBack.{own_inputs}
-use Rattle.mesa_tasks.specs.Serials.{Drafts, after_drafts, drawn}
-use Rattle.mesa_tasks.specs.declared.made.MadeFiles.{MadeFiles}
-use Rattle.mesa_tasks.specs.declared.made.MadeView.{MadeView}
-use Rattle.mesa_tasks.specs.declared.merging.Spare.{Spare}
-use Rattle.mesa_tasks.specs.declared.merging.Task.{Task}
-use Rattle.mesa_tasks.specs.declared.merging.TaskView.{TaskView}
+use Rattle.mesa_open_files.specs.GivingBack.{own_inputs}
+use Rattle.mesa_open_files.specs.Serials.{Drafts, after_drafts, drawn}
+use Rattle.mesa_open_files.specs.declared.made.MadeFiles.{MadeFiles}
+use Rattle.mesa_open_files.specs.declared.made.MadeView.{MadeView}
+use Rattle.mesa_open_files.specs.declared.merging.Spare.{Spare}
+use Rattle.mesa_open_files.specs.declared.merging.Task.{Task}
+use Rattle.mesa_open_files.specs.declared.merging.TaskView.{TaskView}
 use Rattle.mesa_compact.specs.Damaged.{IsGroupsTotalOf, IsMergeDamage}
 
 -- What is known of a view of a task: its number, and its own files.

@@ -1,11 +1,11 @@
 -- What comes of a file that is written from a merge.
 use Rattle.std.specs.Prelude.{◌≡◌, ℕ, List, Result, IfErr}
-use Rattle.mesa_tasks.specs.mesa_io.Causes.{HasFaultCause}
+use Rattle.mesa_open_files.specs.mesa_io.Causes.{HasFaultCause}
 use Rattle.mesa_file.specs.declared.damage.Damage.{Damage}
 use Rattle.mesa_delta.specs.declared.error.FileError.TheVariants as file
 use Rattle.mesa_merge.specs.Faults.{HaveFaultCause}
-use Rattle.mesa_tasks.specs.declared.merging.CompactError.{CompactError}
-use Rattle.mesa_tasks.specs.declared.merging.CompactError.TheVariants as compact
+use Rattle.mesa_open_files.specs.declared.merging.CompactError.{CompactError}
+use Rattle.mesa_open_files.specs.declared.merging.CompactError.TheVariants as compact
 
 -- a fault of a draft or of the bench
 abbrev pub IsDraftFault : CompactError → Type 0

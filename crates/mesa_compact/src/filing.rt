@@ -1,16 +1,16 @@
 // One file: begun through a new draft, finished, or given up.
 ghost use Rattle.std.specs.Prelude.{◌≡◌, ◌<◌, ◌≤◌, ℕ, List, [], length, IfOk};
-ghost use Rattle.mesa_tasks.specs.mesa_io.Causes.{Rose};
+ghost use Rattle.mesa_open_files.specs.mesa_io.Causes.{Rose};
 ghost use Rattle.mesa_schema.specs.declared.rows.Row.{Row as AnyRow};
 ghost use Rattle.mesa_delta.specs.Writing.{HasTaken, columns_of, draft_of, id_of};
-ghost use Rattle.mesa_tasks.specs.Made.{IsMadeFile};
+ghost use Rattle.mesa_open_files.specs.Made.{IsMadeFile};
 ghost use Rattle.mesa_compact.specs.Writing.{HasCauses};
 
 use mesa_delta::{DeltaWriter, FileError};
 use mesa_disk::{Bench, DraftError, Made};
 use mesa_file::FileId;
 use mesa_schema::Schema;
-use mesa_tasks::{CompactError, MadeFile};
+use mesa_open_files::{CompactError, MadeFile};
 use std::alloc::Global;
 
 /// A file of no rows yet, through a new draft under this id.

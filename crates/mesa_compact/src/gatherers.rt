@@ -11,7 +11,7 @@ ghost use Rattle.mesa_compact.specs.Sources.{ArePlaces, AreSeen, AreSources, Has
 use mesa_answer::{Groups, Regrouping};
 use mesa_disk::FileReader;
 use mesa_schema::{Evolving, Schema};
-use mesa_tasks::TaskView;
+use mesa_open_files::TaskView;
 use std::alloc::{AllocError, Global};
 
 /// The places of each view's columns among its table's.

@@ -10,7 +10,7 @@ ghost use Rattle.mesa_delta.specs.Writing.{HasTaken, columns_of, draft_of, id_of
 ghost use Rattle.mesa_answer.specs.Answering.{KeepsSums};
 ghost use Rattle.mesa_answer.specs.Gathered.{HasPut, wanted_of};
 ghost use Rattle.mesa_merge.specs.Sums.{sum_damage};
-ghost use Rattle.mesa_tasks.specs.Made.{IsMadeFile};
+ghost use Rattle.mesa_open_files.specs.Made.{IsMadeFile};
 ghost use Rattle.mesa_view.specs.SumDamage.{view_groups};
 ghost use Rattle.mesa_compact.specs.Damaged.{LeavesAmong, TotalLeaves};
 ghost use Rattle.mesa_compact.specs.Writing.{HasCauses, damaged_by};
@@ -22,7 +22,7 @@ use mesa_delta::{DeltaWriter, FileError};
 use mesa_disk::{Bench, Draft, Made};
 use mesa_file::FileId;
 use mesa_schema::{Row, Schema, groups_rise};
-use mesa_tasks::{CompactError, MadeFile};
+use mesa_open_files::{CompactError, MadeFile};
 use std::alloc::Global;
 
 // The file of a view's groups, through a new draft under this id.

@@ -8,7 +8,7 @@ ghost use Rattle.mesa_schema.specs.Folded.{folded, rows_of};
 ghost use Rattle.mesa_batch.specs.Bound.{KeepsBound};
 ghost use Rattle.mesa_delta.specs.Writing.{HasTaken, columns_of, draft_of, id_of};
 ghost use Rattle.mesa_answer.specs.Answering.{KeepsSums};
-ghost use Rattle.mesa_tasks.specs.mesa_scan.Cursors.{IsInput};
+ghost use Rattle.mesa_open_files.specs.mesa_scan.Cursors.{IsInput};
 ghost use Rattle.mesa_merge.specs.Faults.{faults_of};
 ghost use Rattle.mesa_merge.specs.Inputs.{AreAll, AreTold, knowns_of, lifted_parts};
 ghost use Rattle.mesa_merge.specs.Merged.{HasMerged, inputs_of};
@@ -26,7 +26,7 @@ use mesa_file::FileId;
 use mesa_batch::folds_totals;
 use mesa_merge::Merge;
 use mesa_schema::folds_by_key;
-use mesa_tasks::CompactError;
+use mesa_open_files::CompactError;
 
 // Gives a writer all rows of a merge, and puts them into the groups. A total that leaves its type is told of the newest file that holds the key with which it leaves. A file has fewer rows than a number of 64 bits can count.
 pub(crate) fn pour<M: Made, T: Draft<M>, R: FileReader>(

@@ -5,11 +5,11 @@ ghost use Rattle.mesa_schema.specs.declared.rows.Row.{Row as AnyRow};
 ghost use Rattle.mesa_schema.specs.Changes.{Lineage, columns_of};
 ghost use Rattle.mesa_merge.specs.Faults.{faults_of};
 ghost use Rattle.mesa_merge.specs.Inputs.{knowns_of};
-ghost use Rattle.mesa_tasks.specs.GivingBack.{own_inputs, task_inputs};
-ghost use Rattle.mesa_tasks.specs.Inputs.{AreInputsOf, IsMergeOf};
-ghost use Rattle.mesa_tasks.specs.Made.{IsMadeFile};
-ghost use Rattle.mesa_tasks.specs.Serials.{after_drafts};
-ghost use Rattle.mesa_tasks.specs.Tasks.{AreMergedViews, AreTaskViews, IsMerged, IsTask};
+ghost use Rattle.mesa_open_files.specs.GivingBack.{own_inputs, task_inputs};
+ghost use Rattle.mesa_open_files.specs.Inputs.{AreInputsOf, IsMergeOf};
+ghost use Rattle.mesa_open_files.specs.Made.{IsMadeFile};
+ghost use Rattle.mesa_open_files.specs.Serials.{after_drafts};
+ghost use Rattle.mesa_open_files.specs.Tasks.{AreMergedViews, AreTaskViews, IsMerged, IsTask};
 ghost use Rattle.mesa_compact.specs.Bounded.{AreBounded, AreViewsBounded, IsBounded};
 ghost use Rattle.mesa_compact.specs.Tasks.{AreNumbered, IsFilesDamage, IsSameTask, IsTaskDamage, known_views};
 ghost use Rattle.mesa_compact.specs.Writing.{HasCauses, damaged_by};
@@ -20,7 +20,7 @@ use crate::views::view_files;
 use mesa_delta::{FileError, Input};
 use mesa_disk::{Bench, FileReader, Made};
 use mesa_schema::Evolving;
-use mesa_tasks::{CompactError, MadeFiles, NewDelta, Serials, Task, TaskView};
+use mesa_open_files::{CompactError, MadeFiles, NewDelta, Serials, Task, TaskView};
 use std::alloc::Global;
 
 /// Merges a task's range into one delta, through new drafts. A view whose own files are there is merged of them; any other is grouped from the table's rows as they are merged.

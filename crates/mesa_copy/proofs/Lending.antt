@@ -11,9 +11,9 @@ use Rattle.mesa_compact.specs.mesa_answer.Answering.{grouped_columns}
 use Rattle.mesa_file.specs.declared.damage.Damage.{Damage}
 use Rattle.mesa_compact.specs.mesa_merge.Faults.{faults_of}
 use Rattle.mesa_compact.specs.mesa_merge.Inputs.{known_of, knowns_of}
-use Rattle.mesa_tasks.specs.Made.{Content}
-use Rattle.mesa_tasks.specs.Recasts.{recast_content}
-use Rattle.mesa_tasks.specs.declared.merging.CompactError.{CompactError}
+use Rattle.mesa_open_files.specs.Made.{Content}
+use Rattle.mesa_open_files.specs.Recasts.{recast_content}
+use Rattle.mesa_open_files.specs.declared.merging.CompactError.{CompactError}
 use Rattle.mesa_compact.specs.Regrouped.{IsRegroupDamage}
 use Rattle.mesa_compact.specs.Writing.{HasCauses}
 use Rattle.mesa_copy.specs.Renewals.{IsRenewal, columns_in}

@@ -2,10 +2,10 @@
 use Rattle.std.proofs.Common.{◌≡◌, ℕ, zero, suc, ◌+◌, List, [], ◌∷◌, ◌++◌, map, flat_map, refl, sym, ◌∙◌, ap, arith, append_assoc, append-nil}
 use Rattle.std.proofs.lemmas.List.{map-append}
 use Rattle.std.proofs.lemmas.List.Concat.{flat_map-append}
-use Rattle.mesa_tasks.specs.Recasts.{range_file, recast_ids}
-use Rattle.mesa_tasks.specs.Serials.{AreNext, Drafts, after_drafts, drawn, next_ids, next_serials}
-use Rattle.mesa_tasks.specs.declared.made.MadeFile.{MadeFile}
-use Rattle.mesa_tasks.specs.declared.recasting.RecastedRange.{RecastedRange}
+use Rattle.mesa_open_files.specs.Recasts.{range_file, recast_ids}
+use Rattle.mesa_open_files.specs.Serials.{AreNext, Drafts, after_drafts, drawn, next_ids, next_serials}
+use Rattle.mesa_open_files.specs.declared.made.MadeFile.{MadeFile}
+use Rattle.mesa_open_files.specs.declared.recasting.RecastedRange.{RecastedRange}
 
 after_more : (n m k : ℕ) (d : Drafts) → k ≡ n + m → after_drafts m (after_drafts n d) ≡ after_drafts k d
 after_more n zero k d e = let same : n ≡ k = omega (arith, e) in ap (λ x. after_drafts x d) same

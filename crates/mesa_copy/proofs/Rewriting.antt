@@ -3,9 +3,9 @@ use Rattle.std.proofs.Common.{ℕ, zero, suc, ◌<◌, ◌≤◌, List, [], ◌�
 use Rattle.std.specs.Prelude.{Option}
 use Rattle.mesa_schema.specs.Columns.{Columns}
 use Rattle.mesa_schema.specs.Recasts.{Recast}
-use Rattle.mesa_tasks.specs.Recasts.{AreRewritten, IsRangeRewritten}
-use Rattle.mesa_tasks.specs.declared.recasting.RecastRange.{RecastRange}
-use Rattle.mesa_tasks.specs.declared.recasting.RecastedRange.{RecastedRange}
+use Rattle.mesa_open_files.specs.Recasts.{AreRewritten, IsRangeRewritten}
+use Rattle.mesa_open_files.specs.declared.recasting.RecastRange.{RecastRange}
+use Rattle.mesa_open_files.specs.declared.recasting.RecastedRange.{RecastedRange}
 
 module _ {M R : Type 0} (bytes : M → Option (List ℕ)) (id_of : M → ℕ) (read : R → Option (List ℕ)) (s : Columns) (r : Recast) where
   -- no more are made than there are

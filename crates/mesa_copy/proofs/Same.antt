@@ -9,13 +9,13 @@ use Rattle.mesa_delta.specs.declared.input.Input.{Input}
 use Rattle.mesa_compact.specs.mesa_merge.Inputs.{AreTold, Known, known_of, knowns_of, lifted_parts}
 use Rattle.mesa_compact.specs.Bounded.{AreBounded}
 use Rattle.mesa_compact.proofs.Tasking.{known_parts, told_inputs}
-use Rattle.mesa_tasks.specs.Inputs.{IsMergeOf}
-use Rattle.mesa_tasks.specs.Inputs.{AreTold as AreToldInputs}
-use Rattle.mesa_tasks.specs.Made.{Content}
-use Rattle.mesa_tasks.specs.Recasts.{AreRewritten, HasRangeFile, IsRangeRewritten, own, recast_content}
-use Rattle.mesa_tasks.specs.declared.made.MadeFile.{MadeFile}
-use Rattle.mesa_tasks.specs.declared.recasting.RecastRange.{RecastRange}
-use Rattle.mesa_tasks.specs.declared.recasting.RecastedRange.{RecastedRange}
+use Rattle.mesa_open_files.specs.Inputs.{IsMergeOf}
+use Rattle.mesa_open_files.specs.Inputs.{AreTold as AreToldInputs}
+use Rattle.mesa_open_files.specs.Made.{Content}
+use Rattle.mesa_open_files.specs.Recasts.{AreRewritten, HasRangeFile, IsRangeRewritten, own, recast_content}
+use Rattle.mesa_open_files.specs.declared.made.MadeFile.{MadeFile}
+use Rattle.mesa_open_files.specs.declared.recasting.RecastRange.{RecastRange}
+use Rattle.mesa_open_files.specs.declared.recasting.RecastedRange.{RecastedRange}
 use Rattle.mesa_copy.specs.Copying.{AreRangesBounded, KnownRange, known_range, known_ranges}
 
 -- ---- the merge of inputs, by what is known of them

@@ -3,9 +3,9 @@ ghost use Rattle.std.specs.Prelude.{◌≡◌, ◌++◌, ℕ, List, flat_map, le
 ghost use Rattle.mesa_file.specs.declared.damage.Damage.{Damage as AnyDamage};
 ghost use Rattle.mesa_schema.specs.Recasts.{Recast as Asked};
 ghost use Rattle.mesa_compact.specs.mesa_merge.Faults.{faults_of};
-ghost use Rattle.mesa_tasks.specs.Recasts.{AreRangesOf, AreRewritten, own, recast_ids};
-ghost use Rattle.mesa_tasks.specs.Serials.{AreNext, after_drafts};
-ghost use Rattle.mesa_tasks.specs.declared.recasting.RecastedRange.{RecastedRange as AnyRange};
+ghost use Rattle.mesa_open_files.specs.Recasts.{AreRangesOf, AreRewritten, own, recast_ids};
+ghost use Rattle.mesa_open_files.specs.Serials.{AreNext, after_drafts};
+ghost use Rattle.mesa_open_files.specs.declared.recasting.RecastedRange.{RecastedRange as AnyRange};
 ghost use Rattle.mesa_compact.specs.Writing.{HasCauses, damaged_by};
 ghost use Rattle.mesa_copy.specs.Copying.{AreRangesBounded, IsRangesDamage, known_ranges};
 ghost use Rattle.mesa_copy.specs.Renewals.{IsRenewal, columns_in};
@@ -14,7 +14,7 @@ use crate::range::rewrite_range;
 use crate::renewal::Renewal;
 use mesa_delta::FileError;
 use mesa_disk::{Bench, FileReader, Made};
-use mesa_tasks::{CompactError, RecastRange, RecastedRange, Serials};
+use mesa_open_files::{CompactError, RecastRange, RecastedRange, Serials};
 use std::alloc::Global;
 
 /// Rewrites the ranges behind those that are made, in their order. After an error those that were rewritten before it are made too.

@@ -1,14 +1,14 @@
 // What a recast makes of its table's columns, worked out once for all ranges.
 ghost use Rattle.std.specs.Prelude.{◌≡◌, IfOk, Ok};
 ghost use Rattle.mesa_schema.specs.Recasts.{recast_checked};
-ghost use Rattle.mesa_tasks.specs.Recasts.{recast_in, recast_table};
+ghost use Rattle.mesa_open_files.specs.Recasts.{recast_in, recast_table};
 ghost use Rattle.mesa_copy.specs.Renewals.{IsRenewal};
 
 use mesa_disk::FileReader;
 use mesa_filter::chosen_places;
 use mesa_list::TryCopy;
 use mesa_schema::Evolving;
-use mesa_tasks::Recast;
+use mesa_open_files::Recast;
 use std::alloc::{AllocError, Global};
 use std::sync::Arc;
 

@@ -12,10 +12,10 @@ use Rattle.mesa_recast_turns.specs.mesa_compact.Tasks.{KnownView, known_view}
 use Rattle.mesa_delta.specs.declared.input.Input.{Input}
 use Rattle.mesa_recast_turns.specs.mesa_merge.Inputs.{Known, knowns_of}
 use Rattle.mesa_core.specs.Works.{known_task}
-use Rattle.mesa_tasks.specs.Inputs.{AreInputsOf}
-use Rattle.mesa_tasks.specs.Tasks.{IsTask}
-use Rattle.mesa_tasks.specs.declared.merging.Task.{Task}
-use Rattle.mesa_tasks.specs.declared.merging.TaskView.{TaskView}
+use Rattle.mesa_open_files.specs.Inputs.{AreInputsOf}
+use Rattle.mesa_open_files.specs.Tasks.{IsTask}
+use Rattle.mesa_open_files.specs.declared.merging.Task.{Task}
+use Rattle.mesa_open_files.specs.declared.merging.TaskView.{TaskView}
 use Rattle.mesa_core.specs.Known.{IsKnownOf, unread_from}
 use Rattle.mesa_core.proofs.Known.{cons_none, first_same, rest_same}
 

@@ -17,12 +17,12 @@ use Rattle.mesa_model.specs.Versions.{store_from, table_from}
 use Rattle.mesa_model.specs.Warehouse.{Store, Table, Warehouse, no_table, table_at, with_table, with_tables}
 use Rattle.mesa_recast_turns.specs.mesa_history_spec.Replay.{go, runs}
 use Rattle.mesa_recast_turns.specs.mesa_history_spec.Run.{Run}
-use Rattle.mesa_engine.proofs.mesa_image_spec.ShapedTables.{length_set}
+use Rattle.mesa_engine.proofs.mesa_store_spec.ShapedTables.{length_set}
 use Rattle.mesa_history_laws.proofs.Lineages.{change_default, lineage_viewed}
 use Rattle.mesa_history_laws.proofs.Moves.{Moves, viewed}
 use Rattle.mesa_history_laws.proofs.Turns.{go_moves}
-use Rattle.mesa_recast_turns.specs.mesa_publishing.Grown.{HasBecome}
-use Rattle.mesa_recast_turns.proofs.mesa_publishing.Becoming.{become_changed, become_not, become_recast, become_viewed}
+use Rattle.mesa_recast_turns.specs.mesa_file_records.Grown.{HasBecome}
+use Rattle.mesa_recast_turns.proofs.mesa_file_records.Becoming.{become_changed, become_not, become_recast, become_viewed}
 use Rattle.mesa_core.specs.Known.{lineage_in}
 
 -- ---- lists

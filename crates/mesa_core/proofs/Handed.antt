@@ -15,8 +15,8 @@ use Rattle.mesa_model.specs.declared.entries.Entry.{Entry}
 use Rattle.mesa_model.specs.declared.entries.Kind.TheVariants as kind
 use Rattle.mesa_model.specs.Query.{Answer}
 use Rattle.mesa_recast_turns.specs.mesa_query.Files.{inputs_in, owns_in}
-use Rattle.mesa_recast_turns.specs.mesa_plans.Told.{AreOfRelation, parts_known, parts_under}
-use Rattle.mesa_recast_turns.specs.mesa_plans.Told.{Tells as TellsOf}
+use Rattle.mesa_recast_turns.specs.mesa_pick_files.Told.{AreOfRelation, parts_known, parts_under}
+use Rattle.mesa_recast_turns.specs.mesa_pick_files.Told.{Tells as TellsOf}
 use Rattle.mesa_recast_turns.specs.mesa_query.Relation.{page_over, parts_pinned, parts_ungrouped, rows_ungrouped}
 use Rattle.mesa_recast_turns.specs.mesa_schema.declared.rows.Row.{Row}
 use Rattle.mesa_recast_turns.specs.mesa_schema.Columns.{Columns}
@@ -25,11 +25,11 @@ use Rattle.mesa_script.specs.Rows.{rendered}
 use Rattle.mesa_script.specs.declared.rendered.Rendered.{Rendered}
 use Rattle.mesa_core.specs.Pins.{HasAnswered, IsOpenQuery, TakesQuery, heading_in, known_pin}
 use Rattle.mesa_recast_turns.specs.mesa_history_spec.Rows.{Rows, no_rows}
-use Rattle.mesa_tasks.specs.Errors.{HasDiffered}
-use Rattle.mesa_tasks.specs.GivingBack.{SomeFailed, pinned_inputs}
-use Rattle.mesa_tasks.specs.Pins.{IsPinned, IsPinnedInput, rows_pinned}
-use Rattle.mesa_tasks.specs.declared.querying.Pinned.{Pinned}
-use Rattle.mesa_tasks.specs.declared.querying.PinnedInput.{PinnedInput}
+use Rattle.mesa_open_files.specs.Errors.{HasDiffered}
+use Rattle.mesa_open_files.specs.GivingBack.{SomeFailed, pinned_inputs}
+use Rattle.mesa_open_files.specs.Pins.{IsPinned, IsPinnedInput, rows_pinned}
+use Rattle.mesa_open_files.specs.declared.querying.Pinned.{Pinned}
+use Rattle.mesa_open_files.specs.declared.querying.PinnedInput.{PinnedInput}
 use Rattle.mesa_recast_turns.specs.mesa_invariant_spec.Queries.{IsOpen, closing_fault, closing_outcome}
 use Rattle.mesa_recast_turns.specs.mesa_invariant_spec.Turns.{IsSeen, IsTurn, Shown, Takes}
 use Rattle.mesa_recast_turns.specs.mesa_invariant_spec.Undamaged.{is_damaged}

@@ -9,8 +9,8 @@ use Rattle.mesa_recast_turns.specs.mesa_schema.Folded.{folded}
 use Rattle.mesa_delta.specs.Reading.{IsIndexed}
 use Rattle.mesa_delta.specs.declared.input.Input.{Input}
 use Rattle.mesa_recast_turns.specs.mesa_merge.Inputs.{Known, known_of, knowns_of}
-use Rattle.mesa_tasks.specs.Inputs.{AreTold, IsMergeOf, present_parts}
-use Rattle.mesa_tasks.specs.Tasks.{MergeOnlyTo}
+use Rattle.mesa_open_files.specs.Inputs.{AreTold, IsMergeOf, present_parts}
+use Rattle.mesa_open_files.specs.Tasks.{MergeOnlyTo}
 
 -- ---- lists
 

@@ -14,15 +14,15 @@ use Rattle.mesa_engine.proofs.mesa_history_spec.Claims.{begins_hold, runs_hold}
 use Rattle.mesa_history_laws.proofs.Begun.{claims_keep_begun}
 use Rattle.mesa_engine.proofs.mesa_history_spec.More.{runs-append}
 use Rattle.mesa_engine.specs.mesa_span.declared.works.Work.{Work}
-use Rattle.mesa_engine.specs.mesa_image_spec.Moves.{last_of, first_of}
+use Rattle.mesa_engine.specs.mesa_store_spec.Moves.{last_of, first_of}
 use Rattle.mesa_history_laws.proofs.Ranges.{ranges_hold}
 use Rattle.mesa_engine.specs.Vault.{Origin}
-use Rattle.mesa_recast_turns.specs.mesa_publishing.Finished.{GroupOnly, HasRange, sources_in}
-use Rattle.mesa_recast_turns.specs.mesa_publishing.Recasts.{HasItsRange, HasItsRanges}
-use Rattle.mesa_tasks.specs.Recasts.{recast_table}
-use Rattle.mesa_tasks.specs.declared.merging.Task.{Task}
-use Rattle.mesa_tasks.specs.declared.recasting.Recast.{Recast}
-use Rattle.mesa_tasks.specs.declared.recasting.RecastRange.{RecastRange}
+use Rattle.mesa_recast_turns.specs.mesa_file_records.Finished.{GroupOnly, HasRange, sources_in}
+use Rattle.mesa_recast_turns.specs.mesa_file_records.Recasts.{HasItsRange, HasItsRanges}
+use Rattle.mesa_open_files.specs.Recasts.{recast_table}
+use Rattle.mesa_open_files.specs.declared.merging.Task.{Task}
+use Rattle.mesa_open_files.specs.declared.recasting.Recast.{Recast}
+use Rattle.mesa_open_files.specs.declared.recasting.RecastRange.{RecastRange}
 use Rattle.mesa_recast_turns.specs.mesa_invariant_spec.Invariant.{run_at}
 use Rattle.mesa_engine.specs.Written.{written_at}
 

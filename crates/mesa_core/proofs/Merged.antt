@@ -10,8 +10,8 @@ use Rattle.mesa_recast_turns.specs.mesa_history_spec.Law.{begun_at}
 use Rattle.mesa_recast_turns.specs.mesa_history_spec.Machine.{Claim}
 use Rattle.mesa_recast_turns.specs.mesa_history_spec.Replay.{runs}
 use Rattle.mesa_recast_turns.specs.mesa_history_spec.Run.{Run, State, begins}
-use Rattle.mesa_engine.specs.mesa_image_spec.Catalog.{Catalog, stock_at}
-use Rattle.mesa_engine.specs.mesa_image_spec.Moves.{last_of}
+use Rattle.mesa_engine.specs.mesa_store_spec.Catalog.{Catalog, meta_at}
+use Rattle.mesa_engine.specs.mesa_store_spec.Moves.{last_of}
 use Rattle.mesa_engine.specs.Vault.{Origin}
 use Rattle.mesa_model.specs.declared.commands.Script.{Script}
 use Rattle.mesa_model.specs.declared.entries.Entry.{Entry}
@@ -19,15 +19,15 @@ use Rattle.mesa_recast_turns.specs.mesa_schema.Changes.{Lineage}
 use Rattle.mesa_recast_turns.specs.mesa_schema.Lineages.{IsLineage}
 use Rattle.mesa_core.specs.Works.{HasMerged, IsUnmerged, WasGranted, known_task}
 use Rattle.mesa_recast_turns.specs.mesa_history_spec.Rows.{Rows, no_rows}
-use Rattle.mesa_recast_turns.specs.mesa_publishing.Finished.{HasRange, IsFinished}
-use Rattle.mesa_recast_turns.specs.mesa_publishing.Grown.{GrowsWhereItBegins, HasBecome}
-use Rattle.mesa_tasks.specs.GivingBack.{SomeFailed, task_inputs}
+use Rattle.mesa_recast_turns.specs.mesa_file_records.Finished.{HasRange, IsFinished}
+use Rattle.mesa_recast_turns.specs.mesa_file_records.Grown.{GrowsWhereItBegins, HasBecome}
+use Rattle.mesa_open_files.specs.GivingBack.{SomeFailed, task_inputs}
 use Rattle.mesa_engine.specs.mesa_span.declared.works.Work.{Work}
-use Rattle.mesa_tasks.specs.Tasks.{IsMerged, IsTask, claim_in}
-use Rattle.mesa_tasks.specs.declared.merging.CompactError.{CompactError}
-use Rattle.mesa_tasks.specs.declared.merging.CompactError.TheVariants as compact
-use Rattle.mesa_tasks.specs.declared.merging.NewDelta.{NewDelta}
-use Rattle.mesa_tasks.specs.declared.merging.Task.{Task}
+use Rattle.mesa_open_files.specs.Tasks.{IsMerged, IsTask, claim_in}
+use Rattle.mesa_open_files.specs.declared.merging.CompactError.{CompactError}
+use Rattle.mesa_open_files.specs.declared.merging.CompactError.TheVariants as compact
+use Rattle.mesa_open_files.specs.declared.merging.NewDelta.{NewDelta}
+use Rattle.mesa_open_files.specs.declared.merging.Task.{Task}
 use Rattle.mesa_recast_turns.specs.mesa_invariant_spec.Causes.{is_read_fault, outcome_of}
 use Rattle.mesa_recast_turns.specs.mesa_invariant_spec.Turns.{AnswersDraft, Shown}
 use Rattle.mesa_recast_turns.specs.mesa_invariant_spec.Undamaged.{is_damaged}
@@ -51,7 +51,7 @@ module _ {M R : Type 0} (made : M → Option (List ℕ)) (id_of : M → ℕ) (re
       → GrowsWhereItBegins → HasRanges (start no_rows)
       → ((w : Rows) (past : List Entry) → begun_at (run_at script (start w) past).state.warehouse t.table ≡ begun_at (run_at script (start no_rows) past).state.warehouse t.table)
       → is_live (run_at script (start no_rows) h).state.machine.leases t.table t.lease ≡ true
-      → (was : Lineage) × IsFinished made id_of read was (stock_at c t.table).lineage t d × ((w : Rows) → sound w → HasRange read was t (written_at script (start w) (origin w) h t.table))
+      → (was : Lineage) × IsFinished made id_of read was (meta_at c t.table).lineage t d × ((w : Rows) → sound w → HasRange read was t (written_at script (start w) (origin w) h t.table))
   finished_as is granted merged merges leases ranges tables grows counted same_past live =
       let past = granted.past in
       let later = granted.later in
@@ -60,15 +60,15 @@ module _ {M R : Type 0} (made : M → Option (List ℕ)) (id_of : M → ℕ) (re
       let before = lineage_in (store_after script start past) t.table in
       let both = merges before merged.0 was.known merged.1 merged.2 in
       let whole : runs script r later ≡ run_at script (start no_rows) h = sym (runs-append script (begins (start no_rows)) past later) ∙ ap (run_at script (start no_rows)) granted.whole in
-      let now : lineage_in (runs script r later).state.warehouse.store t.table ≡ (stock_at c t.table).lineage =
+      let now : lineage_in (runs script r later).state.warehouse.store t.table ≡ (meta_at c t.table).lineage =
       ap (λ (x : Run). lineage_in x.state.warehouse.store t.table) whole ∙ sym (lineage_is script start generation h c is t.table) in
       let begun : begun_at (run_at script (start no_rows) (past ++ later)).state.warehouse t.table ≡ begun_at r.state.warehouse t.table =
       leases script (start no_rows) past later (claim_in t) t.work counted was.claim (subst (λ (x : List Entry). is_live (run_at script (start no_rows) x).state.machine.leases t.table t.lease ≡ true) (sym granted.whole) live) in
-      let begins : (stock_at c t.table).lineage.begins ≡ before.begins =
+      let begins : (meta_at c t.table).lineage.begins ≡ before.begins =
       ap (λ (l : Lineage). l.begins) (lineage_is script start generation h c is t.table) ∙ ap (λ (x : List Entry). begun_at (run_at script (start no_rows) x).state.warehouse t.table) (sym granted.whole) ∙ begun in (
         before,
         record {
-          grown = grows before (stock_at c t.table).lineage begins (subst (HasBecome before) now (tables script r later t.table was.there was.lineage));
+          grown = grows before (meta_at c t.table).lineage begins (subst (HasBecome before) now (tables script r later t.table was.there was.lineage));
           task = both.0;
           merged = both.1;
         },

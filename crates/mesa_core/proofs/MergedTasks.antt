@@ -8,16 +8,16 @@ use Rattle.mesa_recast_turns.specs.mesa_schema.declared.views.View.{View}
 use Rattle.mesa_recast_turns.specs.mesa_schema.Changes.{Lineage, columns_of}
 use Rattle.mesa_recast_turns.specs.mesa_schema.Columns.{Columns}
 use Rattle.mesa_delta.specs.declared.input.Input.{Input}
-use Rattle.mesa_recast_turns.specs.mesa_plans.Gathered.{unread_views}
+use Rattle.mesa_recast_turns.specs.mesa_pick_files.Gathered.{unread_views}
 use Rattle.mesa_recast_turns.specs.mesa_merge.Inputs.{Known, knowns_of}
 use Rattle.mesa_core.specs.Works.{known_task}
 use Rattle.mesa_recast_turns.specs.mesa_compact.Tasks.{KnownView, known_view}
-use Rattle.mesa_tasks.specs.Inputs.{AreInputsOf, IsMergeOf}
-use Rattle.mesa_tasks.specs.Tasks.{AreTaskViews, HasOwn, HaveMerged, IsMerged, IsTask}
-use Rattle.mesa_tasks.specs.declared.made.MadeFiles.{MadeFiles}
-use Rattle.mesa_tasks.specs.declared.merging.NewDelta.{NewDelta}
-use Rattle.mesa_tasks.specs.declared.merging.Task.{Task}
-use Rattle.mesa_tasks.specs.declared.merging.TaskView.{TaskView}
+use Rattle.mesa_open_files.specs.Inputs.{AreInputsOf, IsMergeOf}
+use Rattle.mesa_open_files.specs.Tasks.{AreTaskViews, HasOwn, HaveMerged, IsMerged, IsTask}
+use Rattle.mesa_open_files.specs.declared.made.MadeFiles.{MadeFiles}
+use Rattle.mesa_open_files.specs.declared.merging.NewDelta.{NewDelta}
+use Rattle.mesa_open_files.specs.declared.merging.Task.{Task}
+use Rattle.mesa_open_files.specs.declared.merging.TaskView.{TaskView}
 use Rattle.mesa_core.specs.Known.{IsKnownOf, unread_from}
 use Rattle.mesa_core.proofs.Known.{cons_none, first_same, rest_same}
 

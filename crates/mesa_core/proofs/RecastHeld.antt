@@ -2,18 +2,18 @@
 use Rattle.std.proofs.Common.{◌≡◌, ℕ, ◌<◌, ◌++◌, List, length, refl, sym, ap, subst, ◌∙◌, Option, None}
 use Rattle.std.specs.List.{AllByRecursion}
 use Rattle.mesa_core.specs.Known.{AllAreBounded, AllHaveRanges, lineage_in}
-use Rattle.mesa_recast_turns.specs.mesa_plans.Ranges.{HoldsAll}
+use Rattle.mesa_recast_turns.specs.mesa_pick_files.Ranges.{HoldsAll}
 use Rattle.mesa_core.specs.Recasts.{KnownRecast, known_recast}
 use Rattle.mesa_core.specs.Works.{WasGranted}
 use Rattle.mesa_recast_turns.specs.mesa_copy.Copying.{IsRecastBounded}
-use Rattle.mesa_recast_turns.specs.mesa_publishing.Grown.{HasBecome, HasSameColumns, StaysWithItsEpoch}
-use Rattle.mesa_recast_turns.specs.mesa_publishing.Recasts.{HasItsRanges, stock_of_recast}
+use Rattle.mesa_recast_turns.specs.mesa_file_records.Grown.{HasBecome, HasSameColumns, StaysWithItsEpoch}
+use Rattle.mesa_recast_turns.specs.mesa_file_records.Recasts.{HasItsRanges, meta_of_recast}
 use Rattle.mesa_engine.proofs.mesa_history_spec.More.{runs-append}
 use Rattle.mesa_recast_turns.specs.mesa_history_spec.Law.{begun_at}
 use Rattle.mesa_recast_turns.specs.mesa_history_spec.Replay.{runs}
 use Rattle.mesa_recast_turns.specs.mesa_history_spec.Run.{Run, State, begins}
 use Rattle.mesa_recast_turns.specs.mesa_history_spec.Sources.{Written}
-use Rattle.mesa_engine.specs.mesa_image_spec.Catalog.{Stock, stock_at}
+use Rattle.mesa_engine.specs.mesa_store_spec.Catalog.{TableMeta, meta_at}
 use Rattle.mesa_engine.specs.EngineState.{EngineState}
 use Rattle.mesa_engine.specs.Vault.{Origin}
 use Rattle.mesa_engine.specs.Written.{written_at}
@@ -24,9 +24,9 @@ use Rattle.mesa_recast_turns.specs.Rested.{IsLonger}
 use Rattle.mesa_recast_turns.specs.mesa_schema.Changes.{Lineage, epoch_of}
 use Rattle.mesa_recast_turns.specs.mesa_schema.Lineages.{IsLineage}
 use Rattle.mesa_recast_turns.specs.mesa_history_spec.Rows.{Rows, no_rows}
-use Rattle.mesa_tasks.specs.Recasts.{IsRecastTask, recast_table}
-use Rattle.mesa_tasks.specs.declared.recasting.Recast.{Recast}
-use Rattle.mesa_tasks.specs.declared.recasting.RecastRange.{RecastRange}
+use Rattle.mesa_open_files.specs.Recasts.{IsRecastTask, recast_table}
+use Rattle.mesa_open_files.specs.declared.recasting.Recast.{Recast}
+use Rattle.mesa_open_files.specs.declared.recasting.RecastRange.{RecastRange}
 use Rattle.mesa_recast_turns.specs.mesa_invariant_spec.Invariant.{run_at}
 use Rattle.mesa_core.proofs.RecastGranted.{ends_known}
 use Rattle.mesa_core.specs.Handing.{AllAreRested, IsRecastGranted, IsRecastHeld, store_after}
@@ -100,17 +100,17 @@ module _ {R : Type 0} (read : R → Option (List ℕ)) (script : Script) (start 
 
 module _ {R : Type 0} (read : R → Option (List ℕ)) where
   -- So each of which the same is known has all of them.
-  pub rested_known : (l : EngineState) (old new : Recast R) → IsLonger read old new → HasBecome (recast_table old) (stock_of_recast l old).lineage
-      → (l.closed ≡ None → epoch_of (stock_of_recast l old).lineage ≡ old.epoch → HoldsAll new.ranges.items (stock_of_recast l old))
-      → ((other : Recast R) (s : Stock) → known_recast read other ≡ known_recast read new → HoldsAll new.ranges.items s → HoldsAll other.ranges.items s)
+  pub rested_known : (l : EngineState) (old new : Recast R) → IsLonger read old new → HasBecome (recast_table old) (meta_of_recast l old).lineage
+      → (l.closed ≡ None → epoch_of (meta_of_recast l old).lineage ≡ old.epoch → HoldsAll new.ranges.items (meta_of_recast l old))
+      → ((other : Recast R) (s : TableMeta) → known_recast read other ≡ known_recast read new → HoldsAll new.ranges.items s → HoldsAll other.ranges.items s)
       → AllAreRested read l (known_recast read new)
   rested_known l old new longer become holds known t same task =
-      let stock : stock_of_recast l old ≡ stock_of_recast l t = ap (stock_at l.catalogue) (sym longer.table ∙ sym (ap (λ (k : KnownRecast). k.table) same)) in
+      let meta : meta_of_recast l old ≡ meta_of_recast l t = ap (meta_at l.catalogue) (sym longer.table ∙ sym (ap (λ (k : KnownRecast). k.table) same)) in
       let lineage : recast_table old ≡ recast_table t = (λ i. ((sym longer.evolving) i).value) ∙ sym (ap (λ (k : KnownRecast). k.lineage) same) in
       record {
         task = task;
-        become = subst (λ (x : Lineage). HasBecome x (stock_of_recast l t).lineage) lineage (subst (λ (s : Stock). HasBecome (recast_table old) s.lineage) stock become);
+        become = subst (λ (x : Lineage). HasBecome x (meta_of_recast l t).lineage) lineage (subst (λ (s : TableMeta). HasBecome (recast_table old) s.lineage) meta become);
         holds = λ opened epoch.
-            let was : epoch_of (stock_of_recast l old).lineage ≡ old.epoch = ap (λ (s : Stock). epoch_of s.lineage) stock ∙ epoch ∙ ap (λ (k : KnownRecast). k.epoch) same ∙ longer.epoch in
-            known t (stock_of_recast l t) same (subst (HoldsAll new.ranges.items) stock (holds opened was));
+            let was : epoch_of (meta_of_recast l old).lineage ≡ old.epoch = ap (λ (s : TableMeta). epoch_of s.lineage) meta ∙ epoch ∙ ap (λ (k : KnownRecast). k.epoch) same ∙ longer.epoch in
+            known t (meta_of_recast l t) same (subst (HoldsAll new.ranges.items) meta (holds opened was));
       }

@@ -8,13 +8,13 @@ use Rattle.mesa_recast_turns.specs.mesa_schema.Columns.{Columns}
 use Rattle.mesa_recast_turns.specs.mesa_schema.Views.{view_columns, view_rows}
 use Rattle.mesa_engine.specs.mesa_span.declared.works.Work.{Work}
 use Rattle.mesa_recast_turns.specs.mesa_history_spec.Sources.{Source, Written, range_rows, sources_from}
-use Rattle.mesa_engine.specs.mesa_image_spec.Moves.{first_of, last_of}
+use Rattle.mesa_engine.specs.mesa_store_spec.Moves.{first_of, last_of}
 use Rattle.mesa_core.specs.Works.{KnownTask, known_task}
 use Rattle.mesa_recast_turns.specs.mesa_compact.Tasks.{KnownView, known_view}
 use Rattle.mesa_core.proofs.Known.{cons_none, first_same, merge_stays, only_stays, rest_same}
-use Rattle.mesa_recast_turns.specs.mesa_publishing.Finished.{GroupOnly, HasRange}
-use Rattle.mesa_tasks.specs.declared.merging.Task.{Task}
-use Rattle.mesa_tasks.specs.declared.merging.TaskView.{TaskView}
+use Rattle.mesa_recast_turns.specs.mesa_file_records.Finished.{GroupOnly, HasRange}
+use Rattle.mesa_open_files.specs.declared.merging.Task.{Task}
+use Rattle.mesa_open_files.specs.declared.merging.TaskView.{TaskView}
 use Rattle.mesa_core.specs.Known.{AllHaveRange}
 
 module _ {R : Type 0} (bytes : R → Option (List ℕ)) where

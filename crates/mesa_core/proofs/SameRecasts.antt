@@ -4,8 +4,8 @@ use Rattle.std.specs.Prelude.{option_map, option_to_list}
 use Rattle.std.specs.List.{AllByRecursion}
 use Rattle.mesa_recast_turns.specs.mesa_schema.Changes.{Lineage, columns_of, epoch_of}
 use Rattle.mesa_delta.specs.declared.input.Input.{Input}
-use Rattle.mesa_recast_turns.specs.mesa_plans.Ranges.{HasInput, HoldsAll, HoldsAt, Ranged, ranged}
-use Rattle.mesa_engine.specs.mesa_image_spec.Catalog.{Stock}
+use Rattle.mesa_recast_turns.specs.mesa_pick_files.Ranges.{HasInput, HoldsAll, HoldsAt, Ranged, ranged}
+use Rattle.mesa_engine.specs.mesa_store_spec.Catalog.{TableMeta}
 use Rattle.mesa_engine.specs.mesa_record.declared.record.Files.{Files}
 use Rattle.mesa_recast_turns.specs.mesa_history_spec.Sources.{Source, Written, range_rows, sources_from}
 use Rattle.mesa_core.specs.Recasts.{KnownRecast, known_recast}
@@ -13,10 +13,10 @@ use Rattle.mesa_recast_turns.proofs.mesa_copy.Same.{bounded_same}
 use Rattle.mesa_recast_turns.specs.mesa_copy.Copying.{AreRangesBounded, IsRecastBounded, KnownRange, known_range, known_ranges}
 use Rattle.mesa_recast_turns.specs.mesa_merge.Inputs.{Known, known_of, knowns_of}
 use Rattle.mesa_core.proofs.Known.{cons_none, first_same, merge_stays, none_some, rest_same, some_same}
-use Rattle.mesa_recast_turns.specs.mesa_publishing.Recasts.{HasItsRange, HasItsRanges, sources_at}
-use Rattle.mesa_tasks.specs.Recasts.{own, recast_table}
-use Rattle.mesa_tasks.specs.declared.recasting.Recast.{Recast}
-use Rattle.mesa_tasks.specs.declared.recasting.RecastRange.{RecastRange}
+use Rattle.mesa_recast_turns.specs.mesa_file_records.Recasts.{HasItsRange, HasItsRanges, sources_at}
+use Rattle.mesa_open_files.specs.Recasts.{own, recast_table}
+use Rattle.mesa_open_files.specs.declared.recasting.Recast.{Recast}
+use Rattle.mesa_open_files.specs.declared.recasting.RecastRange.{RecastRange}
 use Rattle.mesa_core.specs.Known.{AllAreBounded, AllHaveRanges}
 
 module _ {R : Type 0} (bytes : R → Option (List ℕ)) where
@@ -82,5 +82,5 @@ module _ {R : Type 0} (bytes : R → Option (List ℕ)) where
   holds_known old new [] same has = tt
   holds_known old new (x ∷ xs) same has = (holds_at old new x same has.0, holds_known old new xs same has.1)
 
-  pub recast_holds : (old new : Recast R) (s : Stock) → known_recast bytes new ≡ known_recast bytes old → HoldsAll old.ranges.items s → HoldsAll new.ranges.items s
+  pub recast_holds : (old new : Recast R) (s : TableMeta) → known_recast bytes new ≡ known_recast bytes old → HoldsAll old.ranges.items s → HoldsAll new.ranges.items s
   recast_holds old new s same has = holds_known old.ranges.items new.ranges.items (ranged s) (ap (λ (k : KnownRecast). k.ranges) same) has

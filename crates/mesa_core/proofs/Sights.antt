@@ -10,9 +10,9 @@ use Rattle.mesa_core.specs.Standing.{IsCatalogAfter}
 use Rattle.mesa_disk.specs.Story.{Story}
 use Rattle.mesa_core.specs.Known.{lineage_in}
 use Rattle.mesa_recast_turns.specs.mesa_history_spec.Run.{State}
-use Rattle.mesa_engine.specs.mesa_image_spec.Catalog.{Catalog, no_stock, stock_at}
-use Rattle.mesa_recast_turns.proofs.mesa_catalog.Stocks.{all_at}
-use Rattle.mesa_engine.specs.mesa_image_spec.Shape.{IsShaped}
+use Rattle.mesa_engine.specs.mesa_store_spec.Catalog.{Catalog, no_meta, meta_at}
+use Rattle.mesa_recast_turns.proofs.mesa_catalog.TableMetas.{all_at}
+use Rattle.mesa_engine.specs.mesa_store_spec.Shape.{IsShaped}
 use Rattle.mesa_engine.specs.EngineState.{EngineState, projections}
 use Rattle.mesa_engine.specs.Vault.{Starts, IsVault, IsVaultAt, outset_of}
 use Rattle.mesa_model.specs.declared.commands.Script.{Script}
@@ -36,7 +36,7 @@ pub catalogue_is : (n : Starts) (l : EngineState) (story : Story) (held : Option
 catalogue_is n l story held h running refused v same = record {
   sight = λ i. record { generation = (same ∙ first.counts.generation) i; tables = tables i };
   next = λ w. sym (ap (λ (x : Warehouse). x.next) (v w false (λ is. absurd cc)).invariant.state.projection);
-  lineages = λ number there. (all_at (IsShaped l.catalogue.floor l.catalogue.next) l.catalogue.tables number no_stock first.shaped.tables there).lineage;
+  lineages = λ number there. (all_at (IsShaped l.catalogue.floor l.catalogue.next) l.catalogue.tables number no_meta first.shaped.tables there).lineage;
 }
   where
     first : IsVault (outset_of n no_rows) (n.origin no_rows) false l story held h running refused
@@ -60,7 +60,7 @@ module _ (script : Script) (start : Rows → State) (generation : ℕ) (h : List
   counted_is = sym (length-map c.tables known_as) ∙ ap (λ (ts : List Known). length ts) tables_are ∙ length-map {B = Known} store.tables (λ (t : Table). record { name = t.name; lineage = t.lineage })
 
   -- and each of them its columns and views
-  pub lineage_is : (number : ℕ) → (stock_at c number).lineage ≡ lineage_in store number
+  pub lineage_is : (number : ℕ) → (meta_at c number).lineage ≡ lineage_in store number
   lineage_is number =
       ap (λ (k : Known). k.lineage)
-      (sym (at_same known_as c.tables number no_stock) ∙ ap (λ (ts : List Known). slice_index_or ts number (known_as no_stock)) tables_are ∙ at_same {B = Known} (λ (t : Table). record { name = t.name; lineage = t.lineage }) store.tables number no_table)
+      (sym (at_same known_as c.tables number no_meta) ∙ ap (λ (ts : List Known). slice_index_or ts number (known_as no_meta)) tables_are ∙ at_same {B = Known} (λ (t : Table). record { name = t.name; lineage = t.lineage }) store.tables number no_table)

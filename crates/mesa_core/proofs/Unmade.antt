@@ -5,12 +5,12 @@ use Rattle.mesa_recast_turns.specs.mesa_work_turns.Unmerged.{MergeDiffered, caus
 use Rattle.mesa_delta.specs.declared.error.FileError.TheVariants as file_error
 use Rattle.mesa_core.specs.Recasts.{HasRegrouped, IsUnmade}
 use Rattle.mesa_recast_turns.specs.mesa_copy.Copying.{IsRecastBounded}
-use Rattle.mesa_tasks.specs.GivingBack.{SomeFailed}
-use Rattle.mesa_tasks.specs.Recasts.{IsRecasted, recast_inputs}
-use Rattle.mesa_tasks.specs.declared.merging.CompactError.{CompactError}
-use Rattle.mesa_tasks.specs.declared.merging.CompactError.TheVariants as compact
-use Rattle.mesa_tasks.specs.declared.recasting.Recast.{Recast}
-use Rattle.mesa_tasks.specs.declared.recasting.Recasted.{Recasted}
+use Rattle.mesa_open_files.specs.GivingBack.{SomeFailed}
+use Rattle.mesa_open_files.specs.Recasts.{IsRecasted, recast_inputs}
+use Rattle.mesa_open_files.specs.declared.merging.CompactError.{CompactError}
+use Rattle.mesa_open_files.specs.declared.merging.CompactError.TheVariants as compact
+use Rattle.mesa_open_files.specs.declared.recasting.Recast.{Recast}
+use Rattle.mesa_open_files.specs.declared.recasting.Recasted.{Recasted}
 use Rattle.mesa_recast_turns.specs.mesa_invariant_spec.Causes.{is_read_fault, outcome_of}
 use Rattle.mesa_recast_turns.specs.mesa_invariant_spec.Undamaged.{is_damaged}
 

@@ -1,9 +1,9 @@
 -- Drafts that failed and aren't answered yet.
 use Rattle.std.specs.Prelude.{ℕ, Result, Ok, Err}
-use Rattle.mesa_tasks.specs.declared.merging.CompactError.{CompactError}
-use Rattle.mesa_tasks.specs.declared.merging.CompactError.TheVariants as compact
-use Rattle.mesa_tasks.specs.declared.prepared.LoadError.{LoadError}
-use Rattle.mesa_tasks.specs.declared.prepared.LoadError.TheVariants as load
+use Rattle.mesa_open_files.specs.declared.merging.CompactError.{CompactError}
+use Rattle.mesa_open_files.specs.declared.merging.CompactError.TheVariants as compact
+use Rattle.mesa_open_files.specs.declared.prepared.LoadError.{LoadError}
+use Rattle.mesa_open_files.specs.declared.prepared.LoadError.TheVariants as load
 
 -- how many faults are owed an answer where a load was prepared
 abbrev pub owed_by_load : {T : Type 0} → Result T LoadError → ℕ

@@ -5,7 +5,7 @@ use Rattle.mesa_recast_turns.specs.mesa_compact.Bounded.{AreBounded}
 use Rattle.mesa_recast_turns.specs.mesa_history_spec.Claims.{HasClaim}
 use Rattle.mesa_recast_turns.specs.mesa_history_spec.Machine.{Claim, Merges}
 use Rattle.mesa_recast_turns.specs.mesa_history_spec.Run.{State}
-use Rattle.mesa_engine.specs.mesa_image_spec.Moves.{last_of}
+use Rattle.mesa_engine.specs.mesa_store_spec.Moves.{last_of}
 use Rattle.mesa_engine.specs.EngineState.{EngineState}
 use Rattle.mesa_engine.specs.Vault.{Origin}
 use Rattle.mesa_model.specs.declared.commands.Script.{Script}
@@ -15,19 +15,19 @@ use Rattle.mesa_model.specs.Warehouse.{Store, max_tables}
 use Rattle.mesa_recast_turns.specs.mesa_invariant_spec.Invariant.{run_at}
 use Rattle.mesa_engine.specs.Written.{written_at}
 use Rattle.mesa_core.specs.Known.{AllAreBounded, AllHaveRange, AllHaveRanges, IsKnownOf, lineage_in}
-use Rattle.mesa_recast_turns.specs.mesa_publishing.Grown.{HasBecome}
+use Rattle.mesa_recast_turns.specs.mesa_file_records.Grown.{HasBecome}
 use Rattle.mesa_recast_turns.specs.Rested.{HasRested}
 use Rattle.mesa_recast_turns.specs.mesa_schema.Changes.{columns_of, epoch_of}
 use Rattle.mesa_recast_turns.specs.mesa_schema.Lineages.{IsLineage}
 use Rattle.mesa_recast_turns.specs.mesa_history_spec.Rows.{Rows, no_rows}
 use Rattle.mesa_recast_turns.specs.mesa_read_turns.Opening.{IsHeaded}
-use Rattle.mesa_recast_turns.specs.mesa_plans.Told.{TellAnswer}
+use Rattle.mesa_recast_turns.specs.mesa_pick_files.Told.{TellAnswer}
 use Rattle.mesa_core.specs.Pins.{KnownPin}
 use Rattle.mesa_recast_turns.specs.mesa_copy.Copying.{KnownRange}
 use Rattle.mesa_core.specs.Recasts.{KnownRecast, known_recast}
 use Rattle.mesa_core.specs.Works.{KnownTask}
-use Rattle.mesa_tasks.specs.Recasts.{IsRecastTask}
-use Rattle.mesa_tasks.specs.declared.recasting.Recast.{Recast}
+use Rattle.mesa_open_files.specs.Recasts.{IsRecastTask}
+use Rattle.mesa_open_files.specs.declared.recasting.Recast.{Recast}
 
 -- What a query's files tell of its answer: its version and its heading on every store, and all of it where the store was sound.
 abbrev pub Tells : (Rows → Type 0) → KnownPin → Rows → Answer → Type 0

@@ -9,11 +9,11 @@ use Rattle.mesa_core.specs.Recasts.{KnownRecast, known_recast}
 use Rattle.mesa_model.specs.Warehouse.{Store, table_at}
 use Rattle.mesa_core.specs.Works.{KnownTask, known_task}
 use Rattle.mesa_recast_turns.specs.mesa_compact.Tasks.{KnownView}
-use Rattle.mesa_recast_turns.specs.mesa_publishing.Finished.{HasRange}
-use Rattle.mesa_recast_turns.specs.mesa_publishing.Recasts.{HasItsRanges}
+use Rattle.mesa_recast_turns.specs.mesa_file_records.Finished.{HasRange}
+use Rattle.mesa_recast_turns.specs.mesa_file_records.Recasts.{HasItsRanges}
 use Rattle.mesa_recast_turns.specs.mesa_history_spec.Sources.{Written}
-use Rattle.mesa_tasks.specs.declared.recasting.Recast.{Recast}
-use Rattle.mesa_tasks.specs.declared.merging.Task.{Task}
+use Rattle.mesa_open_files.specs.declared.recasting.Recast.{Recast}
+use Rattle.mesa_open_files.specs.declared.merging.Task.{Task}
 
 -- the columns and views of the table of a number
 abbrev pub lineage_in : Store → ℕ → Lineage

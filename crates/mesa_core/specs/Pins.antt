@@ -1,6 +1,6 @@
 -- Queries whose files are handed out, and what they are answered with.
 use Rattle.std.specs.Prelude.{◌≡◌, ℕ, List, ◌++◌, Bool, true, Option, Some, None, Result, Ok, Err}
-use Rattle.mesa_tasks.specs.mesa_file.declared.damage.Damage.{Damage}
+use Rattle.mesa_open_files.specs.mesa_file.declared.damage.Damage.{Damage}
 use Rattle.mesa_recast_turns.specs.mesa_schema.declared.rows.Row.{Row}
 use Rattle.mesa_recast_turns.specs.mesa_schema.Columns.{Columns}
 use Rattle.mesa_recast_turns.specs.mesa_schema.Folded.{rows_of}
@@ -20,13 +20,13 @@ use Rattle.mesa_recast_turns.specs.mesa_invariant_spec.Turns.{Shown, IsTurn, IsS
 use Rattle.mesa_recast_turns.specs.mesa_answer.Answering.{KeepsSums}
 use Rattle.mesa_delta.specs.declared.error.FileError.{FileError}
 use Rattle.mesa_recast_turns.specs.mesa_merge.Inputs.{Known, AreTold, knowns_of}
-use Rattle.mesa_tasks.specs.GivingBack.{pinned_inputs}
-use Rattle.mesa_tasks.specs.Pins.{IsPinned}
-use Rattle.mesa_tasks.specs.declared.querying.Pinned.{Pinned}
+use Rattle.mesa_open_files.specs.GivingBack.{pinned_inputs}
+use Rattle.mesa_open_files.specs.Pins.{IsPinned}
+use Rattle.mesa_open_files.specs.declared.querying.Pinned.{Pinned}
 use Rattle.mesa_recast_turns.specs.mesa_query.Files.{inputs_in, owns_in}
 use Rattle.mesa_recast_turns.specs.mesa_query.Relation.{page_over, parts_pinned, parts_ungrouped}
 use Rattle.mesa_core.specs.Damages.{IsUnread}
-use Rattle.mesa_tasks.specs.Errors.{Differs}
+use Rattle.mesa_open_files.specs.Errors.{Differs}
 
 -- What is known of a query's files while they are handed out, however much of them was read.
 pub record KnownPin : Type 0 where

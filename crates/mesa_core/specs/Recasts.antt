@@ -1,13 +1,13 @@
 -- Recasts whose files are handed out, and what their ranges are rewritten to.
 use Rattle.std.specs.Prelude.{◌≡◌, ℕ, List, Option, None, IfSome, Result, Ok, Err, ⊤}
-use Rattle.mesa_tasks.specs.mesa_file.declared.damage.Damage.{Damage}
+use Rattle.mesa_open_files.specs.mesa_file.declared.damage.Damage.{Damage}
 use Rattle.mesa_recast_turns.specs.mesa_schema.Changes.{Lineage}
-use Rattle.mesa_tasks.specs.Errors.{Differs}
-use Rattle.mesa_tasks.specs.Recasts.{IsRecastTask, IsRecasted, recast_inputs, recast_table}
-use Rattle.mesa_tasks.specs.declared.merging.CompactError.{CompactError}
-use Rattle.mesa_tasks.specs.declared.merging.CompactError.TheVariants as compact
-use Rattle.mesa_tasks.specs.declared.recasting.Recast.{Recast}
-use Rattle.mesa_tasks.specs.declared.recasting.Recasted.{Recasted}
+use Rattle.mesa_open_files.specs.Errors.{Differs}
+use Rattle.mesa_open_files.specs.Recasts.{IsRecastTask, IsRecasted, recast_inputs, recast_table}
+use Rattle.mesa_open_files.specs.declared.merging.CompactError.{CompactError}
+use Rattle.mesa_open_files.specs.declared.merging.CompactError.TheVariants as compact
+use Rattle.mesa_open_files.specs.declared.recasting.Recast.{Recast}
+use Rattle.mesa_open_files.specs.declared.recasting.Recasted.{Recasted}
 use Rattle.mesa_recast_turns.specs.mesa_copy.Copying.{IsRecastBounded, KnownRange, known_ranges}
 use Rattle.mesa_core.specs.Damages.{IsUnread}
 

@@ -1,22 +1,22 @@
 -- Works whose files are handed out, and what they are merged to.
 use Rattle.std.specs.Prelude.{◌≡◌, ℕ, List, ◌++◌, Option, None, IfSome, Result, Ok, Err, ⊤}
 use Rattle.std.specs.List.{AllByRecursion}
-use Rattle.mesa_tasks.specs.mesa_file.declared.damage.Damage.{Damage}
+use Rattle.mesa_open_files.specs.mesa_file.declared.damage.Damage.{Damage}
 use Rattle.mesa_engine.specs.mesa_span.declared.works.Work.{Work}
 use Rattle.mesa_recast_turns.specs.mesa_schema.Changes.{Lineage}
 use Rattle.mesa_model.specs.declared.entries.Entry.{Entry}
 use Rattle.mesa_recast_turns.specs.mesa_compact.Bounded.{IsBounded}
 use Rattle.mesa_recast_turns.specs.mesa_compact.Tasks.{KnownView, known_views}
 use Rattle.mesa_recast_turns.specs.mesa_merge.Inputs.{Known as KnownFile, knowns_of}
-use Rattle.mesa_tasks.specs.GivingBack.{task_inputs}
-use Rattle.mesa_tasks.specs.Spares.{IsSpareOf}
-use Rattle.mesa_tasks.specs.Tasks.{IsTask, IsMerged}
-use Rattle.mesa_tasks.specs.declared.merging.CompactError.{CompactError}
-use Rattle.mesa_tasks.specs.declared.merging.CompactError.TheVariants as compact
-use Rattle.mesa_tasks.specs.declared.merging.NewDelta.{NewDelta}
-use Rattle.mesa_tasks.specs.declared.merging.Task.{Task}
+use Rattle.mesa_open_files.specs.GivingBack.{task_inputs}
+use Rattle.mesa_open_files.specs.Spares.{IsSpareOf}
+use Rattle.mesa_open_files.specs.Tasks.{IsTask, IsMerged}
+use Rattle.mesa_open_files.specs.declared.merging.CompactError.{CompactError}
+use Rattle.mesa_open_files.specs.declared.merging.CompactError.TheVariants as compact
+use Rattle.mesa_open_files.specs.declared.merging.NewDelta.{NewDelta}
+use Rattle.mesa_open_files.specs.declared.merging.Task.{Task}
 use Rattle.mesa_core.specs.Damages.{IsUnread}
-use Rattle.mesa_tasks.specs.Errors.{Differs}
+use Rattle.mesa_open_files.specs.Errors.{Differs}
 
 -- What is known of a task while its files are handed out, however much of them was read.
 pub record KnownTask : Type 0 where

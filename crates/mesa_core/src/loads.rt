@@ -8,8 +8,8 @@ ghost use Rattle.mesa_model.specs.declared.commands.Command.TheVariants as comma
 ghost use Rattle.mesa_model.specs.declared.entries.Kind.TheVariants as kind;
 ghost use Rattle.mesa_core.specs.Sight.{sight_after};
 ghost use Rattle.mesa_recast_turns.specs.mesa_history_spec.Rows.{no_rows};
-ghost use Rattle.mesa_tasks.specs.Batches.{HasPrepared};
-ghost use Rattle.mesa_tasks.specs.declared.prepared.LoadError.TheVariants as load;
+ghost use Rattle.mesa_open_files.specs.Batches.{HasPrepared};
+ghost use Rattle.mesa_open_files.specs.declared.prepared.LoadError.TheVariants as load;
 ghost use Rattle.mesa_recast_turns.specs.mesa_invariant_spec.Turns.{AnswersDisk, AnswersDraft, Asks, SomeRose, Takes, is_load};
 ghost use Rattle.mesa_recast_turns.specs.mesa_invariant_spec.Invariant.{run_at};
 
@@ -21,7 +21,7 @@ use mesa_disk::{Disk, Made};
 use mesa_engine::{Naming, Who};
 use mesa_io::Sink;
 use mesa_recast_turns::{look, publish};
-use mesa_tasks::{LoadError, Prepared};
+use mesa_open_files::{LoadError, Prepared};
 use std::alloc::AllocError;
 
 impl<'s, N: Naming, M: Made, D: Disk<M>, K: Sink> Vault<'s, N, M, D, K> {

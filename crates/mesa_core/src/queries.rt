@@ -22,7 +22,7 @@ use mesa_engine::{Naming, Who};
 use mesa_io::Sink;
 use mesa_recast_turns::{close_query, pin_query};
 use mesa_script::Rendered;
-use mesa_tasks::Pinned;
+use mesa_open_files::Pinned;
 
 impl<'s, N: Naming, M: Made, D: Disk<M>, K: Sink> Vault<'s, N, M, D, K> {
     /// A query's deciding turn: the files that answer it. They have to come back by `close_query`.

@@ -6,15 +6,15 @@ ghost use Rattle.mesa_core.specs.Handing.{AllAreRested, IsRecastGranted, IsRecas
 ghost use Rattle.mesa_delta.specs.declared.error.FileError.TheVariants as file_error;
 ghost use Rattle.mesa_core.specs.Recasts.{CanBeRegrouped, HasRegrouped, known_recast};
 ghost use Rattle.mesa_core.specs.Works.{WasGranted};
-ghost use Rattle.mesa_recast_turns.specs.mesa_publishing.Recasts.{stock_of_recast};
+ghost use Rattle.mesa_recast_turns.specs.mesa_file_records.Recasts.{meta_of_recast};
 ghost use Rattle.mesa_recast_turns.specs.mesa_history_spec.Machine.{still_checked};
 ghost use Rattle.mesa_recast_turns.specs.mesa_history_spec.Run.{Finished, First, Granted, Renewed};
 ghost use Rattle.mesa_model.specs.declared.entries.Kind.TheVariants as kind;
 ghost use Rattle.mesa_recast_turns.specs.Rested.{HasUnpaid, IsLonger, MayRest};
 ghost use Rattle.mesa_recast_turns.specs.mesa_history_spec.Rows.{no_rows};
-ghost use Rattle.mesa_tasks.specs.Recasts.{IsRecastTask, IsRecasted, IsRecastedSoFar, claim_of_recast, recast_in};
-ghost use Rattle.mesa_tasks.specs.declared.merging.CompactError.TheVariants as compact;
-ghost use Rattle.mesa_tasks.specs.declared.recasting.Recasted.{Recasted as AnyRecasted};
+ghost use Rattle.mesa_open_files.specs.Recasts.{IsRecastTask, IsRecasted, IsRecastedSoFar, claim_of_recast, recast_in};
+ghost use Rattle.mesa_open_files.specs.declared.merging.CompactError.TheVariants as compact;
+ghost use Rattle.mesa_open_files.specs.declared.recasting.Recasted.{Recasted as AnyRecasted};
 ghost use Rattle.mesa_recast_turns.specs.mesa_history_spec.Output.{block};
 ghost use Rattle.mesa_recast_turns.specs.mesa_invariant_spec.Causes.{outcome_of, reply_of, told_at};
 ghost use Rattle.mesa_recast_turns.specs.mesa_invariant_spec.Printing.{IsPut};
@@ -30,7 +30,7 @@ use mesa_disk::{Disk, Made};
 use mesa_engine::{Engine, Naming, Who};
 use mesa_io::Sink;
 use mesa_recast_turns::{grant_recast, recast, renew_recast, rest, tables_become};
-use mesa_tasks::{CompactError, Recast, Recasted};
+use mesa_open_files::{CompactError, Recast, Recasted};
 
 // What holds of a recast's files between turns, by what was so at its grant.
 fn held<N: Naming, M: Made, D: Disk<M>, K: Sink>(
@@ -150,7 +150,7 @@ impl<'s, N: Naming, M: Made, D: Disk<M>, K: Sink> Vault<'s, N, M, D, K> {
         ensures prints { IfErr made (λ e. self.old.shown.running ≡ true → IsPut (block (entry who.session who.command kind.Close (outcome_of (closing_cause self.old.state.closed e)) self.new.shown.clock) (Some (told_at (length self.old.shown.history) (reply_of (closing_cause self.old.state.closed e))))) self.new.shown.running self.old.sink self.new.sink) }
 
         // Where its ranges are rewritten, its claim holds, the rules allow it still and its turn stands, the table is recast: then each file that is there is one that the catalogue, a held pin or an open query names.
-        ensures swept { OnOk made (HasStood self.old.shown self.new.shown who.session who.command → ClaimHolds self.old.state (length self.old.shown.history) (claim_of_recast task) → still_checked (stock_of_recast self.old.state task).lineage task.epoch (recast_in task) ≡ Ok tt → IsSwept self.new.told self.new.state self.new.shown.history) }
+        ensures swept { OnOk made (HasStood self.old.shown self.new.shown who.session who.command → ClaimHolds self.old.state (length self.old.shown.history) (claim_of_recast task) → still_checked (meta_of_recast self.old.state task).lineage task.epoch (recast_in task) ≡ Ok tt → IsSwept self.new.told self.new.state self.new.shown.history) }
     {
         catalogue(&self.engine);
         let alloc = allocator(&self.engine);

@@ -1,15 +1,15 @@
 // What is known of granted tasks and recasts.
 ghost use Rattle.std.specs.Prelude.{◌≡◌, ◌<◌, ◌++◌, ℕ, List, length, true};
 ghost use Rattle.std.specs.List.{AllByRecursion};
-ghost use Rattle.mesa_recast_turns.specs.mesa_plans.Gathered.{unread_views};
-ghost use Rattle.mesa_recast_turns.specs.mesa_plans.Ranges.{HoldsAll};
-ghost use Rattle.mesa_engine.specs.mesa_image_spec.Catalog.{Stock};
+ghost use Rattle.mesa_recast_turns.specs.mesa_pick_files.Gathered.{unread_views};
+ghost use Rattle.mesa_recast_turns.specs.mesa_pick_files.Ranges.{HoldsAll};
+ghost use Rattle.mesa_engine.specs.mesa_store_spec.Catalog.{TableMeta};
 ghost use Rattle.mesa_recast_turns.specs.mesa_history_spec.Claims.{HasClaim, HasRanges, is_live};
 ghost use Rattle.mesa_recast_turns.specs.mesa_history_spec.Law.{begun_at};
 ghost use Rattle.mesa_recast_turns.specs.mesa_history_spec.Machine.{Claim};
 ghost use Rattle.mesa_recast_turns.specs.mesa_history_spec.Replay.{runs};
 ghost use Rattle.mesa_recast_turns.specs.mesa_history_spec.Run.{Run as AnyRun, State};
-ghost use Rattle.mesa_engine.specs.mesa_image_spec.Moves.{last_of};
+ghost use Rattle.mesa_engine.specs.mesa_store_spec.Moves.{last_of};
 ghost use Rattle.mesa_recast_turns.specs.mesa_history_spec.Sources.{Written};
 ghost use Rattle.mesa_engine.specs.Vault.{Origin};
 ghost use Rattle.mesa_model.specs.declared.commands.Script.{Script as AnyScript};
@@ -21,17 +21,17 @@ ghost use Rattle.mesa_core.specs.Recasts.{known_recast};
 ghost use Rattle.mesa_core.specs.Works.{known_task};
 ghost use Rattle.mesa_recast_turns.specs.mesa_copy.Copying.{IsRecastBounded};
 ghost use Rattle.mesa_engine.specs.mesa_span.declared.works.Work.{Work as AnyWork};
-ghost use Rattle.mesa_recast_turns.specs.mesa_publishing.Finished.{HasRange};
-ghost use Rattle.mesa_recast_turns.specs.mesa_publishing.Grown.{HasBecome};
-ghost use Rattle.mesa_recast_turns.specs.mesa_publishing.Recasts.{HasItsRanges};
-ghost use Rattle.mesa_tasks.specs.Tasks.{IsMerged, IsTask};
-ghost use Rattle.mesa_tasks.specs.declared.recasting.Recast.{Recast as AnyRecast};
+ghost use Rattle.mesa_recast_turns.specs.mesa_file_records.Finished.{HasRange};
+ghost use Rattle.mesa_recast_turns.specs.mesa_file_records.Grown.{HasBecome};
+ghost use Rattle.mesa_recast_turns.specs.mesa_file_records.Recasts.{HasItsRanges};
+ghost use Rattle.mesa_open_files.specs.Tasks.{IsMerged, IsTask};
+ghost use Rattle.mesa_open_files.specs.declared.recasting.Recast.{Recast as AnyRecast};
 ghost use Rattle.mesa_recast_turns.specs.mesa_invariant_spec.Invariant.{run_at};
 ghost use Rattle.mesa_engine.specs.Written.{written_at};
 ghost use Rattle.mesa_core.specs.Known.{AllAreBounded, AllHaveRange, AllHaveRanges, IsKnownOf, lineage_in};
 
 use mesa_disk::{FileReader, Made};
-use mesa_tasks::{NewDelta, Recast, Task};
+use mesa_open_files::{NewDelta, Recast, Task};
 
 /// A task has its range by what is known of it: so has each of which the same is known.
 pub fn ranges_are_known<R: FileReader>(task: &Task<R>)
@@ -82,7 +82,7 @@ pub fn recasts_go_on<R: FileReader>(task: &Recast<R>)
 pub fn recasts_are_known<R: FileReader>(task: &Recast<R>)
     ensures ranges { (written : List Written) → HasItsRanges R.bytes task.now written → AllHaveRanges R.bytes (known_recast R.bytes task.now) written }
     ensures bounded { IsRecastBounded R.bytes task.now → AllAreBounded R.bytes (known_recast R.bytes task.now) }
-    ensures holds { (other : AnyRecast R) (table : Stock) → known_recast R.bytes other ≡ known_recast R.bytes task.now → HoldsAll task.now.ranges.items table → HoldsAll other.ranges.items table }
+    ensures holds { (other : AnyRecast R) (table : TableMeta) → known_recast R.bytes other ≡ known_recast R.bytes task.now → HoldsAll task.now.ranges.items table → HoldsAll other.ranges.items table }
 {}
 
 /// Where the files of a task keep their sums by what was known of it at its grant, they keep them by whatever columns it is merged.

@@ -8,8 +8,8 @@ ghost use Rattle.mesa_model.specs.declared.entries.Kind.TheVariants as kind;
 ghost use Rattle.mesa_core.specs.Works.{CanBeMerged, HasMerged, WasGranted, known_task};
 ghost use Rattle.mesa_recast_turns.specs.mesa_history_spec.Rows.{no_rows};
 ghost use Rattle.mesa_recast_turns.specs.mesa_history_spec.Output.{block};
-ghost use Rattle.mesa_tasks.specs.Tasks.{claim_in};
-ghost use Rattle.mesa_tasks.specs.declared.merging.CompactError.TheVariants as compact;
+ghost use Rattle.mesa_open_files.specs.Tasks.{claim_in};
+ghost use Rattle.mesa_open_files.specs.declared.merging.CompactError.TheVariants as compact;
 ghost use Rattle.mesa_recast_turns.specs.mesa_invariant_spec.Causes.{outcome_of, reply_of, told_at};
 ghost use Rattle.mesa_recast_turns.specs.mesa_invariant_spec.Printing.{IsPut};
 ghost use Rattle.mesa_recast_turns.specs.mesa_invariant_spec.Turns.{AnswersDisk, AnswersDraft, Asks, SomeRose, Takes, entry, is_merge};
@@ -23,7 +23,7 @@ use mesa_disk::{Disk, Made};
 use mesa_engine::{Naming, Who};
 use mesa_io::Sink;
 use mesa_recast_turns::{complete, give_up, grant, renew, tables_become};
-use mesa_tasks::{CompactError, NewDelta, Task};
+use mesa_open_files::{CompactError, NewDelta, Task};
 
 impl<'s, N: Naming, M: Made, D: Disk<M>, K: Sink> Vault<'s, N, M, D, K> {
     /// A work's first turn: the files that are to be merged. They have to come back by `renew` or `complete`.

@@ -4,10 +4,10 @@ use Rattle.std.specs.List.{AllByRecursion}
 use Rattle.mesa_disk.specs.Story.{Story}
 use Rattle.mesa_model.specs.declared.entries.Entry.{Entry}
 use Rattle.mesa_model.specs.Pins.{store_at}
-use Rattle.mesa_catalog.specs.mesa_image_spec.Contents.{kept_of}
-use Rattle.mesa_catalog.specs.mesa_image_spec.Fitting.{shelved}
-use Rattle.mesa_catalog.proofs.mesa_image_spec.Agreeing.{Agrees, agree_kept}
-use Rattle.mesa_catalog.specs.mesa_image_spec.Ids.{named}
+use Rattle.mesa_catalog.specs.mesa_store_spec.Contents.{kept_of}
+use Rattle.mesa_catalog.specs.mesa_store_spec.Fitting.{live_files}
+use Rattle.mesa_catalog.proofs.mesa_store_spec.Agreeing.{Agrees, agree_kept}
+use Rattle.mesa_catalog.specs.mesa_store_spec.Ids.{named}
 use Rattle.mesa_catalog.specs.mesa_history_spec.Rows.{Rows}
 use Rattle.mesa_commit.specs.Holding.{Held, IsHoldOf}
 use Rattle.mesa_invariant_spec.specs.Invariant.{Outset}
@@ -24,7 +24,7 @@ same_held rows later (p ∷ pins) all = λ i. record { session = p.session; toke
 module _ (o : Outset) (g : Origin) (sound : Bool) (l : EngineState) (story : Story) (held : Option (List ℕ)) (h : List Entry) (running refused : Bool) (v : IsVault o g sound l story held h running refused)
     (later : Rows) (agree : (id : ℕ) → id < next_id l → later id ≡ v.rows id) where
   -- the files that the catalogue names have the same rows
-  pub named_agree : AllByRecursion (Agrees v.rows later) (shelved l.catalogue)
+  pub named_agree : AllByRecursion (Agrees v.rows later) (live_files l.catalogue)
   named_agree = old_agree v.rows later (next_id l) (next_id l) agree l.catalogue v.filed.named_given
 
   pub same_kept : kept_of later l.catalogue ≡ kept_of v.rows l.catalogue

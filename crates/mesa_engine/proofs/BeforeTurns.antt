@@ -8,11 +8,11 @@ use Rattle.mesa_catalog.specs.mesa_history_spec.Counting.{count_in}
 use Rattle.mesa_catalog.specs.mesa_history_spec.Law.{written_in}
 use Rattle.mesa_catalog.specs.mesa_history_spec.Run.{begins, place_of}
 use Rattle.mesa_invariant_spec.proofs.mesa_history_spec.Claims.{runs_hold, begins_hold}
-use Rattle.mesa_catalog.specs.mesa_image_spec.Catalog.{Catalog}
-use Rattle.mesa_catalog.specs.mesa_image_spec.Held.{IsHeld}
-use Rattle.mesa_catalog.specs.mesa_image_spec.Shape.{IsCatalog}
-use Rattle.mesa_catalog.specs.mesa_image_spec.Sound.{AreStocked}
-use Rattle.mesa_catalog.specs.mesa_image_spec.Ids.{HasOwnIds, named}
+use Rattle.mesa_catalog.specs.mesa_store_spec.Catalog.{Catalog}
+use Rattle.mesa_catalog.specs.mesa_store_spec.Held.{IsHeld}
+use Rattle.mesa_catalog.specs.mesa_store_spec.Shape.{IsCatalog}
+use Rattle.mesa_catalog.specs.mesa_store_spec.Sound.{HaveSoundRows}
+use Rattle.mesa_catalog.specs.mesa_store_spec.Ids.{HasOwnIds, named}
 use Rattle.mesa_catalog.specs.mesa_history_spec.Rows.{Rows, no_rows}
 use Rattle.mesa_commit.specs.Holding.{Among}
 use Rattle.mesa_commit.proofs.Filing.{filed_first}
@@ -20,9 +20,9 @@ use Rattle.mesa_invariant_spec.specs.Turns.{IsSeen}
 use Rattle.mesa_invariant_spec.specs.Invariant.{Outset, HoldsInvariant, Counts, run_of}
 use Rattle.mesa_invariant_spec.proofs.Beginning.{unmoved_invariant}
 use Rattle.mesa_engine.specs.EngineState.{EngineState, books_of, next_id}
-use Rattle.mesa_catalog.specs.mesa_image_spec.Countable.{AreCounted}
-use Rattle.mesa_catalog.specs.mesa_image_spec.Recordable.{AreRecordable}
-use Rattle.mesa_catalog.specs.mesa_image_spec.Sourced.{HasSources}
+use Rattle.mesa_catalog.specs.mesa_store_spec.Countable.{AreCounted}
+use Rattle.mesa_catalog.specs.mesa_store_spec.Recordable.{AreRecordable}
+use Rattle.mesa_catalog.specs.mesa_store_spec.Sourced.{HasSources}
 use Rattle.mesa_engine.specs.Vault.{Origin, IsRead, IsReady, IsVault, Starts, IsVaultAt, outset_of}
 use Rattle.mesa_engine.proofs.Standing.{held_unmoved, ready_unmoved, there_unmoved}
 
@@ -33,9 +33,9 @@ first_state o c generation area end = record { catalogue = c; generation = gener
 -- Before the first turn.
 pub started_vault : (o : Outset) (g : Origin) (sound : Bool) (c : Catalog) (area : Area) (end : ℕ) (story : Story) (held : Option (List ℕ)) (rows : Rows) (bodies : List (List ℕ)) → HoldsInvariant o sound (books_of rows (first_state o c g.generation area end)) story held [] true false
     → c.run ≡ g.run → HasRanges o.start → o.start.machine.leases.granted ≡ 0 → (IsTrue sound → IsHeld story area bodies end c rows) → IsCatalog c → HasOwnIds c → AreCounted c → AreRecordable c → ((id : ℕ) → Among id (named c) → id < next_id (first_state o c g.generation area end))
-    → IsReady (first_state o c g.generation area end) story → (IsTrue sound → AreStocked rows c) → (IsTrue sound → HasSources rows g.found c) → (IsTrue sound → IsRead story) → IsVault o g sound (first_state o c g.generation area end) story held [] true false
+    → IsReady (first_state o c g.generation area end) story → (IsTrue sound → HaveSoundRows rows c) → (IsTrue sound → HasSources rows g.found c) → (IsTrue sound → IsRead story) → IsVault o g sound (first_state o c g.generation area end) story held [] true false
 unfolding count_in written_in
-started_vault o g sound c area end story held rows bodies invariant numbered ranges none stands shaped own columns recordable named_given ready stocked sourced read = record {
+started_vault o g sound c area end story held rows bodies invariant numbered ranges none stands shaped own columns recordable named_given ready sound_rows sourced read = record {
   rows = rows;
   bodies = bodies;
   seen = λ position. c;
@@ -53,7 +53,7 @@ started_vault o g sound c area end story held rows bodies invariant numbered ran
   ready = λ is. ready;
   read = read;
   there = λ ok i is. tt;
-  stocked = λ ok. (stocked ok, tt);
+  sound_rows = λ ok. (sound_rows ok, tt);
   sourced = sourced;
 }
 
@@ -77,7 +77,7 @@ unmoved_vault o g sound l story new held h running refused same counts v = recor
   ready = λ is. ready_unmoved story new same l (v.ready is);
   read = λ ok. let was = v.read ok in (was.0, same.told ∙ was.1);
   there = λ ok. there_unmoved story new same v.rows v.seen l (v.there ok);
-  stocked = v.stocked;
+  sound_rows = v.sound_rows;
   sourced = v.sourced;
 }
 

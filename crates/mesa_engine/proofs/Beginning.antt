@@ -2,7 +2,7 @@
 use Rattle.std.proofs.Common.{◌≡◌, ℕ, List, [], Bool, true, false, sym, ap, subst, Option}
 use Rattle.mesa_disk.specs.Story.{Story}
 use Rattle.mesa_disk.specs.declared.area.Area.{Area}
-use Rattle.mesa_catalog.specs.mesa_image_spec.Catalog.{Catalog}
+use Rattle.mesa_catalog.specs.mesa_store_spec.Catalog.{Catalog}
 use Rattle.mesa_lease.specs.Book.{Book}
 use Rattle.mesa_catalog.specs.mesa_history_spec.Rows.{Rows}
 use Rattle.mesa_invariant_spec.specs.Books.{AreBooksOf}
@@ -23,4 +23,4 @@ module _ (n : Starts) (w : Rows) (sound : Bool) (c : Catalog) (area : Area) (end
       (started_vault (outset_of n w) (n.origin w) sound c area end story held w is.bodies
       (started (outset_of n w) sound (books_of w (first_state (outset_of n w) c (n.origin w).generation area end)) story held
       (subst (λ l. AreBooksOf sound (books_of w l) (n.start w)) (sym state_is) is.state) is.since is.counted is.found is.sink)
-      (sym is.run) is.ranges (ap (λ (b : Book). b.granted) is.leases) is.holds is.shaped is.own is.columns is.recordable is.named_given (record { long = is.ready.long; fresh = is.ready.fresh; strays = is.ready.strays }) is.stocked is.sourced is.read)
+      (sym is.run) is.ranges (ap (λ (b : Book). b.granted) is.leases) is.holds is.shaped is.own is.columns is.recordable is.named_given (record { long = is.ready.long; fresh = is.ready.fresh; strays = is.ready.strays }) is.sound_rows is.sourced is.read)

@@ -31,19 +31,19 @@ use Rattle.mesa_record.specs.declared.record.Part.{Part}
 use Rattle.mesa_record.specs.declared.record.Record.TheVariants as record_of
 use Rattle.mesa_record.specs.Rules.{IsTypedChange}
 use Rattle.mesa_catalog.specs.mesa_span.Ranges.{new_ranges}
-use Rattle.mesa_catalog.specs.mesa_image_spec.Catalog.{Catalog, Stock, applied, new_stock, no_stock, ranges_of, stock_at, stock_changed, stock_from, stock_viewed, stocks_loaded}
-use Rattle.mesa_catalog.specs.mesa_image_spec.Contents.{kept_of, table_of}
-use Rattle.mesa_catalog.specs.mesa_image_spec.Fitting.{alter_fits}
-use Rattle.mesa_catalog.specs.mesa_image_spec.Shape.{IsCatalog}
-use Rattle.mesa_catalog.proofs.mesa_image_spec.Agreeing.{agree_stocked}
-use Rattle.mesa_catalog.proofs.mesa_image_spec.Changes.{alter_moves}
-use Rattle.mesa_catalog.proofs.mesa_image_spec.Kept.{expire_moves, publish_moves}
-use Rattle.mesa_catalog.proofs.mesa_image_spec.Expiring.{expire_table_moves}
-use Rattle.mesa_catalog.proofs.mesa_image_spec.Tables.{table_moves}
-use Rattle.mesa_catalog.proofs.mesa_image_spec.Views.{ranges_same, view_moves}
-use Rattle.mesa_catalog.specs.mesa_image_spec.Brought.{BringsAll}
-use Rattle.mesa_catalog.specs.mesa_image_spec.Moves.{kept_altered, kept_expired, kept_expired_of, kept_loaded, kept_made, kept_viewed}
-use Rattle.mesa_catalog.specs.mesa_image_spec.Sourced.{tables_read}
+use Rattle.mesa_catalog.specs.mesa_store_spec.Catalog.{Catalog, TableMeta, applied, new_meta, no_meta, ranges_of, meta_at, meta_changed, meta_from, meta_viewed, metas_loaded}
+use Rattle.mesa_catalog.specs.mesa_store_spec.Contents.{kept_of, table_of}
+use Rattle.mesa_catalog.specs.mesa_store_spec.Fitting.{alter_fits}
+use Rattle.mesa_catalog.specs.mesa_store_spec.Shape.{IsCatalog}
+use Rattle.mesa_catalog.proofs.mesa_store_spec.Agreeing.{agree_sound_rows}
+use Rattle.mesa_catalog.proofs.mesa_store_spec.Changes.{alter_moves}
+use Rattle.mesa_catalog.proofs.mesa_store_spec.Kept.{expire_moves, publish_moves}
+use Rattle.mesa_catalog.proofs.mesa_store_spec.Expiring.{expire_table_moves}
+use Rattle.mesa_catalog.proofs.mesa_store_spec.Tables.{table_moves}
+use Rattle.mesa_catalog.proofs.mesa_store_spec.Views.{ranges_same, view_moves}
+use Rattle.mesa_catalog.specs.mesa_store_spec.Brought.{BringsAll}
+use Rattle.mesa_catalog.specs.mesa_store_spec.Moves.{kept_altered, kept_expired, kept_expired_of, kept_loaded, kept_made, kept_viewed}
+use Rattle.mesa_catalog.specs.mesa_store_spec.Sourced.{tables_read}
 use Rattle.mesa_invariant_spec.proofs.mesa_history_spec.BareLists.{append_same, at_same, set_same}
 use Rattle.mesa_invariant_spec.proofs.mesa_history_spec.BareSteps.{alter-bare, expire-bare, load-bare, number_bare, table-bare, view-bare}
 use Rattle.mesa_catalog.specs.mesa_history_spec.Bare.{bare, bare_table}
@@ -66,38 +66,38 @@ loaded_bare : (batch : List Placed) (number : ℕ) (ts : List Table) → map bar
 loaded_bare batch number [] = refl
 loaded_bare batch number (t ∷ ts) = ap (λ (x : List Table). bare_table (table_loaded t (rows_for number batch)) ∷ x) (loaded_bare batch (number + 1) ts)
 
-bare_kept : (rows : Rows) (next : ℕ) (ts : List Stock) → map bare_table (map (table_of rows next) ts) ≡ map projection_of ts
+bare_kept : (rows : Rows) (next : ℕ) (ts : List TableMeta) → map bare_table (map (table_of rows next) ts) ≡ map projection_of ts
 bare_kept rows next [] = refl
 bare_kept rows next (t ∷ ts) = ap (λ (x : List Table). projection_of t ∷ x) (bare_kept rows next ts)
 
 -- the table of a number without its contents
-at_projection : (c : Catalog) (number : ℕ) → table_at (projections c) number ≡ projection_of (stock_at c number)
-at_projection c number = at_same projection_of c.tables number no_stock
+at_projection : (c : Catalog) (number : ℕ) → table_at (projections c) number ≡ projection_of (meta_at c number)
+at_projection c number = at_same projection_of c.tables number no_meta
 
-set_projection : (c : Catalog) (number : ℕ) (t : Table) (u : Stock) → bare_table t ≡ projection_of u → map bare_table (slice_set (map projection_of c.tables) number t) ≡ map projection_of (slice_set c.tables number u)
+set_projection : (c : Catalog) (number : ℕ) (t : Table) (u : TableMeta) → bare_table t ≡ projection_of u → map bare_table (slice_set (map projection_of c.tables) number t) ≡ map projection_of (slice_set c.tables number u)
 set_projection c number t u is = set_same bare_table (map projection_of c.tables) number t ∙ (λ i. slice_set (bare_tables c.tables i) number (is i)) ∙ sym (set_same projection_of c.tables number u)
 
 -- ---- ranges
 
-table_ranges : (rows : Rows) (c : Catalog) (name : List ℕ) (s : Columns) → map ranges_of (c.tables ++ new_stock c name s ∷ []) ≡ map ranges_of c.tables ++ new_ranges c.floor ∷ []
+table_ranges : (rows : Rows) (c : Catalog) (name : List ℕ) (s : Columns) → map ranges_of (c.tables ++ new_meta c name s ∷ []) ≡ map ranges_of c.tables ++ new_ranges c.floor ∷ []
 unfolding kept_of
 table_ranges rows c name s = ap (λ (k : Kept). k.ranges) (table_moves rows c name s.keys s.values)
 
-set_ranges : (c : Catalog) (number : ℕ) (u : Stock) → ranges_of u ≡ ranges_of (stock_at c number) → map ranges_of (slice_set c.tables number u) ≡ map ranges_of c.tables
+set_ranges : (c : Catalog) (number : ℕ) (u : TableMeta) → ranges_of u ≡ ranges_of (meta_at c number) → map ranges_of (slice_set c.tables number u) ≡ map ranges_of c.tables
 set_ranges c number u same = map-set ranges_of c.tables number u ∙ ap (slice_set (map ranges_of c.tables) number) same ∙ ranges_same c number
 
-loaded_ranges : (rows : Rows) (c : Catalog) (parts : List Part) (batch : List Placed) → IsCatalog c → BringsAll rows parts batch 0 c.tables → map ranges_of (stocks_loaded parts 0 c.tables) ≡ map ranges_of c.tables
+loaded_ranges : (rows : Rows) (c : Catalog) (parts : List Part) (batch : List Placed) → IsCatalog c → BringsAll rows parts batch 0 c.tables → map ranges_of (metas_loaded parts 0 c.tables) ≡ map ranges_of c.tables
 unfolding kept_of
 loaded_ranges rows c parts batch is brings = ap (λ (k : Kept). k.ranges) (publish_moves rows c 0 parts batch is brings)
 
 -- ---- batches
 
 -- the tables of a batch that is loaded, without their contents
-loaded_tables : (rows : Rows) (c : Catalog) (parts : List Part) (batch : List Placed) → IsCatalog c → BringsAll rows parts batch 0 c.tables → map bare_table (tables_loaded batch 0 (map projection_of c.tables)) ≡ map projection_of (stocks_loaded parts 0 c.tables)
+loaded_tables : (rows : Rows) (c : Catalog) (parts : List Part) (batch : List Placed) → IsCatalog c → BringsAll rows parts batch 0 c.tables → map bare_table (tables_loaded batch 0 (map projection_of c.tables)) ≡ map projection_of (metas_loaded parts 0 c.tables)
 unfolding kept_of
 loaded_tables rows c parts batch is brings =
     ap (λ ts. map bare_table (tables_loaded batch 0 ts)) (sym (bare_kept rows c.next c.tables)) ∙ sym (loaded_bare batch 0 (map (table_of rows c.next) c.tables))
-    ∙ ap (λ (k : Kept). map bare_table k.store.tables) (sym (publish_moves rows c 0 parts batch is brings)) ∙ bare_kept rows (c.next + 1) (stocks_loaded parts 0 c.tables)
+    ∙ ap (λ (k : Kept). map bare_table k.store.tables) (sym (publish_moves rows c 0 parts batch is brings)) ∙ bare_kept rows (c.next + 1) (metas_loaded parts 0 c.tables)
 
 -- the tables by which a load's rows are read
 pub tables_are : (c : Catalog) → tables_named (projections c) ≡ tables_read c
@@ -134,12 +134,12 @@ module _ (o : Outset) (g : Origin) (sound : Bool) (l : EngineState) (story : Sto
   expire_change version lt made done =
       made_change sound old (new_of (applied c (record_of.Expire version))) (λ w. expire_all w version) (reply.Expired None version) (λ w. expire-bare w None version) made done was_open refl
       (projection_is made _ version c.next (applied c (record_of.Expire version)) (expire_made old.bare version made (reply.Expired None version) done).0 tables refl refl)
-      (λ i. record { ranges = sym (map-map ranges_of (stock_from version) c.tables) i; leases = l.leases }) (λ ok. pins_same)
+      (λ i. record { ranges = sym (map-map ranges_of (meta_from version) c.tables) i; leases = l.leases }) (λ ok. pins_same)
       (λ s after had is ok. (let m = expire_made s.warehouse version after (reply.Expired None version) is in
       (ap (λ (w : Warehouse). kept_by (stepped s w (reply.Expired None version))) m.0 ∙ ap (λ k. kept_expired k version) (had.rows ok ∙ sym kept_same) ∙ sym (expire_moves later c version lt), ap (λ (w : Warehouse). w.pins) m.0)))
     where
-      tables : map bare_table (store_from (projections c) version).tables ≡ map projection_of (map (stock_from version) c.tables)
-      tables = map-map _ _ (map projection_of c.tables) ∙ map-map _ _ c.tables ∙ sym (map-map projection_of (stock_from version) c.tables)
+      tables : map bare_table (store_from (projections c) version).tables ≡ map projection_of (map (meta_from version) c.tables)
+      tables = map-map _ _ (map projection_of c.tables) ∙ map-map _ _ c.tables ∙ sym (map-map projection_of (meta_from version) c.tables)
 
   -- the number of a table that a state and its books find by a name
   number_same : (s : State) (name : List ℕ) (n number : ℕ) → AreBooksOf sound old s → table_number s.warehouse.store name ≡ Some n → table_number old.bare.store name ≡ Some number → n ≡ number
@@ -154,8 +154,8 @@ module _ (o : Outset) (g : Origin) (sound : Bool) (l : EngineState) (story : Sto
     expire_table_change there lt made done =
         made_change sound old (new_of (applied c (record_of.ExpireTable number version))) (λ w. expire_table w name version) (reply.Expired (Some name) version) (λ w. expire-bare w (Some name) version) made done was_open refl
         (projection_is made _ c.floor c.next (applied c (record_of.ExpireTable number version)) made_is
-        (set_projection c number (table_from version (table_at old.bare.store number)) (stock_from version (stock_at c number)) (ap (λ (t : Table). bare_table (table_from version t)) (at_projection c number))) refl refl)
-        (λ i. record { ranges = sym (set_ranges c number (stock_from version (stock_at c number)) refl) i; leases = l.leases }) (λ ok. pins_same)
+        (set_projection c number (table_from version (table_at old.bare.store number)) (meta_from version (meta_at c number)) (ap (λ (t : Table). bare_table (table_from version t)) (at_projection c number))) refl refl)
+        (λ i. record { ranges = sym (set_ranges c number (meta_from version (meta_at c number)) refl) i; leases = l.leases }) (λ ok. pins_same)
         (λ s after had is ok. (let m = expire_table_made s.warehouse name version after (reply.Expired (Some name) version) is in
         let after_is : after ≡ with_table s.warehouse number (table_from version (table_at s.warehouse.store number)) = m.2 ∙ ap (λ n. with_table s.warehouse n (table_from version (table_at s.warehouse.store n))) (number_same s name m.0 number had m.1 found) in
         (ap (λ (w : Warehouse). kept_by (stepped s w (reply.Expired (Some name) version))) after_is ∙ ap (λ k. kept_expired_of k number version) (had.rows ok ∙ sym kept_same) ∙ sym (expire_table_moves later c number version there lt), ap (λ (w : Warehouse). w.pins) after_is)))
@@ -182,9 +182,9 @@ module _ (o : Outset) (g : Origin) (sound : Bool) (l : EngineState) (story : Sto
       made_is : made ≡ record old.bare { store = record { tables = map projection_of c.tables ++ new_table old.bare words.table (columns_asked words) ∷ []; floor = c.floor }; next = c.next }
       made_is = (table_made old.bare words made (reply.Table words.table) done).0
 
-      tables : map bare_table (map projection_of c.tables ++ new_table old.bare words.table (columns_asked words) ∷ []) ≡ map projection_of (c.tables ++ new_stock c words.table (columns_asked words) ∷ [])
-      tables = append_same bare_table (map projection_of c.tables) (new_table old.bare words.table (columns_asked words) ∷ []) ∙ (λ i. bare_tables c.tables i ++ projection_of (new_stock c words.table (columns_asked words)) ∷ [])
-          ∙ sym (append_same projection_of c.tables (new_stock c words.table (columns_asked words) ∷ []))
+      tables : map bare_table (map projection_of c.tables ++ new_table old.bare words.table (columns_asked words) ∷ []) ≡ map projection_of (c.tables ++ new_meta c words.table (columns_asked words) ∷ [])
+      tables = append_same bare_table (map projection_of c.tables) (new_table old.bare words.table (columns_asked words) ∷ []) ∙ (λ i. bare_tables c.tables i ++ projection_of (new_meta c words.table (columns_asked words)) ∷ [])
+          ∙ sym (append_same projection_of c.tables (new_meta c words.table (columns_asked words) ∷ []))
 
   -- ---- a batch
 
@@ -205,7 +205,7 @@ module _ (o : Outset) (g : Origin) (sound : Bool) (l : EngineState) (story : Sto
   -- ---- a view
 
   -- its lineage
-  lineage_same : (s : State) (number : ℕ) → AreBooksOf sound old s → (table_at s.warehouse.store number).lineage ≡ (stock_at c number).lineage
+  lineage_same : (s : State) (number : ℕ) → AreBooksOf sound old s → (table_at s.warehouse.store number).lineage ≡ (meta_at c number).lineage
   lineage_same s number had =
       ap (λ (t : Table). t.lineage) (sym (at_same bare_table s.warehouse.store.tables number no_table)) ∙ ap (λ (w : Warehouse). (table_at w.store number).lineage) had.projection ∙ ap (λ (t : Table). t.lineage) (at_projection c number)
 
@@ -221,8 +221,8 @@ module _ (o : Outset) (g : Origin) (sound : Bool) (l : EngineState) (story : Sto
     view_change there made done =
         made_change sound old (new_of (applied c (record_of.View number words.view words.keys words.values))) (λ w. make_view w words) (reply.View words.view) (λ w. view-bare w words) made done was_open refl
         (projection_is made _ c.floor c.next (applied c (record_of.View number words.view words.keys words.values)) made_is
-        (set_projection c number (viewed (table_at old.bare.store number)) (stock_viewed (stock_at c number) words.view words.keys words.values) (ap (λ (t : Table). bare_table (viewed t)) (at_projection c number))) refl refl)
-        (λ i. record { ranges = sym (set_ranges c number (stock_viewed (stock_at c number) words.view words.keys words.values) refl) i; leases = l.leases }) (λ ok. pins_same)
+        (set_projection c number (viewed (table_at old.bare.store number)) (meta_viewed (meta_at c number) words.view words.keys words.values) (ap (λ (t : Table). bare_table (viewed t)) (at_projection c number))) refl refl)
+        (λ i. record { ranges = sym (set_ranges c number (meta_viewed (meta_at c number) words.view words.keys words.values) refl) i; leases = l.leases }) (λ ok. pins_same)
         (λ s after had is ok. (let m = view_made s.warehouse words after (reply.View words.view) is in
         let after_is : after ≡ with_table s.warehouse number (viewed (table_at s.warehouse.store number)) = m.2 ∙ ap (λ n. with_table s.warehouse n (viewed (table_at s.warehouse.store n))) (number_same s words.table m.0 number had m.1 found) in
         (ap (λ (w : Warehouse). kept_by (stepped s w (reply.View words.view))) after_is ∙ ap (λ k. kept_viewed k number view) (had.rows ok ∙ sym kept_same) ∙ sym (view_moves later c number words.view words.keys words.values there), ap (λ (w : Warehouse). w.pins) after_is)))
@@ -234,26 +234,26 @@ module _ (o : Outset) (g : Origin) (sound : Bool) (l : EngineState) (story : Sto
 
   -- ---- a change of columns
 
-  module _ (words : AlterWords) (number : ℕ) (found : table_number old.bare.store words.table ≡ Some number) (change : Change) (asked : change_asked (columns_of (stock_at c number).lineage) words.change ≡ Ok change) where
-    change_same : (lineage : Lineage) (x : Change) → lineage ≡ (stock_at c number).lineage → change_asked (columns_of lineage) words.change ≡ Ok x → x ≡ change
+  module _ (words : AlterWords) (number : ℕ) (found : table_number old.bare.store words.table ≡ Some number) (change : Change) (asked : change_asked (columns_of (meta_at c number).lineage) words.change ≡ Ok change) where
+    change_same : (lineage : Lineage) (x : Change) → lineage ≡ (meta_at c number).lineage → change_asked (columns_of lineage) words.change ≡ Ok x → x ≡ change
     change_same lineage x same is = let both : Ok x ≡ Ok change = sym is ∙ ap (λ (k : Lineage). change_asked (columns_of k) words.change) same ∙ asked in cc
 
     abbrev tells : Reply
-    tells = reply.Altered words.table (epoch_of (stock_at c number).lineage + 1)
+    tells = reply.Altered words.table (epoch_of (meta_at c number).lineage + 1)
 
     pub alter_change : alter_fits c number change ≡ true → IsTypedChange change → (made : Warehouse) → alter_table old.bare words ≡ Ok (made, tells)
         → IsChange sound old (new_of (applied c (record_of.Alter number change))) (λ w. alter_table w words) tells
     alter_change fit typed made done =
         made_change sound old (new_of (applied c (record_of.Alter number change))) (λ w. alter_table w words) tells (λ w. alter-bare w words) made done was_open refl
         (projection_is made _ c.floor c.next (applied c (record_of.Alter number change)) made_is
-        (set_projection c number (table_changed (table_at old.bare.store number) change) (stock_changed (stock_at c number) change) (ap (λ (t : Table). bare_table (table_changed t change)) (at_projection c number))) refl refl)
-        (λ i. record { ranges = sym (set_ranges c number (stock_changed (stock_at c number) change) refl) i; leases = l.leases }) (λ ok. pins_same)
+        (set_projection c number (table_changed (table_at old.bare.store number) change) (meta_changed (meta_at c number) change) (ap (λ (t : Table). bare_table (table_changed t change)) (at_projection c number))) refl refl)
+        (λ i. record { ranges = sym (set_ranges c number (meta_changed (meta_at c number) change) refl) i; leases = l.leases }) (λ ok. pins_same)
         (λ s after had is ok. (let m = alter_made s.warehouse words after tells is in
         let same : m.0 ≡ number = number_same s words.table m.0 number had m.1 found in
         let which : m.2 ≡ change = change_same (table_at s.warehouse.store m.0).lineage m.2 (ap (λ n. (table_at s.warehouse.store n).lineage) same ∙ lineage_same s number had) m.3 in
         let after_is : after ≡ with_table s.warehouse number (table_changed (table_at s.warehouse.store number) change) = m.4 ∙ (λ i. with_table s.warehouse (same i) (table_changed (table_at s.warehouse.store (same i)) (which i))) in (
           ap (λ (w : Warehouse). kept_by (stepped s w tells)) after_is ∙ ap (λ k. kept_altered k number change) (had.rows ok ∙ sym kept_same)
-              ∙ sym (alter_moves c number change v.shaped fit later (agree_stocked v.rows later c (named_agree o g sound l story held h running refused v later agree) (v.stocked ok).0) typed),
+              ∙ sym (alter_moves c number change v.shaped fit later (agree_sound_rows v.rows later c (named_agree o g sound l story held h running refused v later agree) (v.sound_rows ok).0) typed),
           ap (λ (w : Warehouse). w.pins) after_is,
         )))
       where

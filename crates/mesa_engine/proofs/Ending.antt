@@ -21,7 +21,7 @@ reads_state n w l story held h running refused v none =
         bodies = v.bodies;
         catalogue = l.catalogue;
         rows = v.rows;
-        is = record { live = l.area; end = l.end; journal = record { whole = inr shows.journal; behind = shows.behind }; records = stays.records; files = shows.has; rows_are = stays.stocked };
+        is = record { live = l.area; end = l.end; journal = record { whole = inr shows.journal; behind = shows.behind }; records = stays.records; files = shows.has; rows_are = stays.sound_rows };
         same = v.invariant.state.rows refl;
       },
     )

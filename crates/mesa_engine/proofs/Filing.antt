@@ -7,11 +7,11 @@ use Rattle.std.proofs.lemmas.Simd.{map-map}
 use Rattle.mesa_disk.specs.Image.{Image}
 use Rattle.mesa_commit.specs.Images.{Has}
 use Rattle.mesa_commit.specs.Turn.{MovesOnly, made_ids}
-use Rattle.mesa_catalog.specs.mesa_image_spec.Catalog.{Catalog}
-use Rattle.mesa_catalog.specs.mesa_image_spec.Fitting.{Shelved, shelved, shelved_id}
-use Rattle.mesa_catalog.specs.mesa_image_spec.Sound.{wants}
-use Rattle.mesa_catalog.proofs.mesa_image_spec.Agreeing.{Agrees, agree_wants}
-use Rattle.mesa_catalog.specs.mesa_image_spec.Ids.{named}
+use Rattle.mesa_catalog.specs.mesa_store_spec.Catalog.{Catalog}
+use Rattle.mesa_catalog.specs.mesa_store_spec.Fitting.{LiveFile, live_files, live_id}
+use Rattle.mesa_catalog.specs.mesa_store_spec.Sound.{wants}
+use Rattle.mesa_catalog.proofs.mesa_store_spec.Agreeing.{Agrees, agree_wants}
+use Rattle.mesa_catalog.specs.mesa_store_spec.Ids.{named}
 use Rattle.mesa_catalog.specs.mesa_history_spec.Rows.{Rows}
 use Rattle.mesa_commit.specs.declared.trash.Hold.{Hold}
 use Rattle.mesa_commit.specs.declared.trash.Dropped.{Dropped}
@@ -105,21 +105,21 @@ module _ (position next : ℕ) (named : List ℕ) (trash : List Dropped) (pins :
 -- ---- files of holds
 
 -- what holds of each id that a catalogue names
-named_all : (P : ℕ → Type 0) (xs : List Shelved) → ((id : ℕ) → Among id (map shelved_id xs) → P id) → AllByRecursion (λ (x : Shelved). P x.file.id) xs
+named_all : (P : ℕ → Type 0) (xs : List LiveFile) → ((id : ℕ) → Among id (map live_id xs) → P id) → AllByRecursion (λ (x : LiveFile). P x.file.id) xs
 named_all P [] all = tt
 named_all P (x ∷ xs) all = (all x.file.id (inl refl), named_all P xs (λ id is. all id (inr is)))
 
-wanted_all : (P : ℕ → Type 0) (rows : Rows) (xs : List Shelved) → ((id : ℕ) → Among id (map shelved_id xs) → P id) → AllByRecursion (λ (w : ℕ × List ℕ). P w.0) (wants rows xs)
+wanted_all : (P : ℕ → Type 0) (rows : Rows) (xs : List LiveFile) → ((id : ℕ) → Among id (map live_id xs) → P id) → AllByRecursion (λ (w : ℕ × List ℕ). P w.0) (wants rows xs)
 wanted_all P rows [] all = tt
 wanted_all P rows (x ∷ xs) all = (all x.file.id (inl refl), wanted_all P rows xs (λ id is. all id (inr is)))
 
 module _ (rows later : Rows) (next later_id : ℕ) (agree : (id : ℕ) → id < next → later id ≡ rows id) (c : Catalog) (below : (id : ℕ) → Among id (named c) → id < next) where
   -- files that were there before have the same rows
-  pub old_agree : AllByRecursion (Agrees rows later) (shelved c)
-  old_agree = named_all (λ id. later id ≡ rows id) (shelved c) (λ id is. agree id (below id is))
+  pub old_agree : AllByRecursion (Agrees rows later) (live_files c)
+  old_agree = named_all (λ id. later id ≡ rows id) (live_files c) (λ id is. agree id (below id is))
 
   -- and stay, unless they are removed
-  pub files_stay : (made : List (ℕ × Option (List ℕ))) (removed : List ℕ) (i j : Image) → MovesOnly made removed i j → AreGiven next later_id made → ((id : ℕ) → Among id removed → Among id (named c) → ⊥) → Has (wants rows (shelved c)) i → Has (wants later (shelved c)) j
+  pub files_stay : (made : List (ℕ × Option (List ℕ))) (removed : List ℕ) (i j : Image) → MovesOnly made removed i j → AreGiven next later_id made → ((id : ℕ) → Among id removed → Among id (named c) → ⊥) → Has (wants rows (live_files c)) i → Has (wants later (live_files c)) j
   files_stay made removed i j moves given apart has =
-      subst (λ f. Has f j) (sym (agree_wants rows later (shelved c) old_agree))
-      (pin_stays (wants rows (shelved c)) made removed i j moves (had_apart (wants rows (shelved c)) (named c) next later_id made removed given (wanted_all (λ id. Among id (named c)) rows (shelved c) (λ id is. is)) below apart) has)
+      subst (λ f. Has f j) (sym (agree_wants rows later (live_files c) old_agree))
+      (pin_stays (wants rows (live_files c)) made removed i j moves (had_apart (wants rows (live_files c)) (named c) next later_id made removed given (wanted_all (λ id. Among id (named c)) rows (live_files c) (λ id is. is)) below apart) has)

@@ -5,11 +5,11 @@ use Rattle.std.specs.List.{AllByRecursion}
 use Rattle.std.proofs.lemmas.Bool.Decides.{nat_tests}
 use Rattle.mesa_commit.specs.Images.{Has}
 use Rattle.mesa_disk.specs.Image.{Image}
-use Rattle.mesa_catalog.specs.mesa_image_spec.Catalog.{Catalog}
-use Rattle.mesa_catalog.specs.mesa_image_spec.Fitting.{shelved}
-use Rattle.mesa_catalog.specs.mesa_image_spec.Shape.{IsCatalog}
-use Rattle.mesa_catalog.specs.mesa_image_spec.Sound.{AreStocked, wants}
-use Rattle.mesa_catalog.specs.mesa_image_spec.Ids.{named}
+use Rattle.mesa_catalog.specs.mesa_store_spec.Catalog.{Catalog}
+use Rattle.mesa_catalog.specs.mesa_store_spec.Fitting.{live_files}
+use Rattle.mesa_catalog.specs.mesa_store_spec.Shape.{IsCatalog}
+use Rattle.mesa_catalog.specs.mesa_store_spec.Sound.{HaveSoundRows, wants}
+use Rattle.mesa_catalog.specs.mesa_store_spec.Ids.{named}
 use Rattle.mesa_catalog.specs.mesa_history_spec.Rows.{Rows}
 use Rattle.mesa_commit.specs.declared.trash.Hold.{Hold}
 use Rattle.mesa_commit.specs.Filed.{PinFiles}
@@ -36,7 +36,7 @@ pub record AreKept (rows : Rows) (sound : Bool) (told : Option Image) (seen : �
   pub filed : AreFiled position (next_id l) (named l.catalogue) l.trash (map ids_held (holders seen l))
   pub copies : AreShaped seen l
   pub versions : AllByRecursion IsVersioned l.pins
-  pub stocked : IsTrue sound → AllByRecursion (λ (x : Holder). AreStocked rows x.1) (holders seen l)
+  pub sound_rows : IsTrue sound → AllByRecursion (λ (x : Holder). HaveSoundRows rows x.1) (holders seen l)
   pub there : IsTrue sound → (i : Image) → told ≡ Some i → AllByRecursion (λ (p : PinFiles). Has p.1 i) (map (files_held rows) (holders seen l))
 
 -- ---- a hold more
@@ -68,12 +68,12 @@ module _ (rows : Rows) (sound : Bool) (told : Option Image) (seen : ℕ → Cata
     filed = filed_later position (next_id l) (named l.catalogue) l.trash (map ids_held (holders seen l)) kept.filed (position + 1) (omega arith);
     copies = kept.copies;
     versions = kept.versions;
-    stocked = kept.stocked;
+    sound_rows = kept.sound_rows;
     there = kept.there;
   }
 
   -- what the catalogue is for a hold that is made now
-  module _ (shaped : IsCatalog l.catalogue) (rows_are : IsTrue sound → AreStocked rows l.catalogue) (has : IsTrue sound → (i : Image) → told ≡ Some i → Has (wants rows (shelved l.catalogue)) i) where
+  module _ (shaped : IsCatalog l.catalogue) (rows_are : IsTrue sound → HaveSoundRows rows l.catalogue) (has : IsTrue sound → (i : Image) → told ≡ Some i → Has (wants rows (live_files l.catalogue)) i) where
     abbrev mine : Holder
     mine = (hold_at position (next_id l), l.catalogue)
 
@@ -113,7 +113,7 @@ module _ (rows : Rows) (sound : Bool) (told : Option Image) (seen : ℕ → Cata
         };
         copies = with_one _ shaped kept.copies;
         versions = all_joined IsVersioned l.pins (pin ∷ []) kept.versions (versioned, tt);
-        stocked = λ ok. with_one _ (rows_are ok) (kept.stocked ok);
+        sound_rows = λ ok. with_one _ (rows_are ok) (kept.sound_rows ok);
         there = λ ok i is. all_map (λ (p : PinFiles). Has p.1 i) (files_held rows) (holders seen with_pin) (with_one _ (has ok i is) (map_all (λ (p : PinFiles). Has p.1 i) (files_held rows) (holders seen l) (kept.there ok i is)));
       }
 
@@ -151,7 +151,7 @@ module _ (rows : Rows) (sound : Bool) (told : Option Image) (seen : ℕ → Cata
         };
         copies = with_another _ shaped kept.copies;
         versions = kept.versions;
-        stocked = λ ok. with_another _ (rows_are ok) (kept.stocked ok);
+        sound_rows = λ ok. with_another _ (rows_are ok) (kept.sound_rows ok);
         there = λ ok i is. all_map (λ (p : PinFiles). Has p.1 i) (files_held rows) (holders later with_query) (with_another _ (has ok i is) (map_all (λ (p : PinFiles). Has p.1 i) (files_held rows) (holders seen l) (kept.there ok i is)));
       }
 
@@ -176,7 +176,7 @@ module _ (rows : Rows) (sound : Bool) (told : Option Image) (seen : ℕ → Cata
       };
       copies = with_fewer _ kept.copies;
       versions = all_filtered IsVersioned pins l.pins kept.versions;
-      stocked = λ ok. with_fewer _ (kept.stocked ok);
+      sound_rows = λ ok. with_fewer _ (kept.sound_rows ok);
       there = λ ok i is. all_map (λ (p : PinFiles). Has p.1 i) (files_held rows) (holders seen fewer) (with_fewer _ (map_all (λ (p : PinFiles). Has p.1 i) (files_held rows) (holders seen l) (kept.there ok i is)));
     }
       where

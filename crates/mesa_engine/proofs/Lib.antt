@@ -1,6 +1,6 @@
 pub use Rattle.mesa_commit.proofs as mesa_commit
 pub use Rattle.mesa_invariant_spec.proofs.mesa_history_spec as mesa_history_spec
-pub use Rattle.mesa_catalog.proofs.mesa_image_spec as mesa_image_spec
+pub use Rattle.mesa_catalog.proofs.mesa_store_spec as mesa_store_spec
 pub use Rattle.mesa_invariant_spec.proofs as mesa_invariant_spec
 pub use Rattle.mesa_catalog.proofs.mesa_schema as mesa_schema
 pub mod Lists

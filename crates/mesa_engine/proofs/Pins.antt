@@ -6,7 +6,7 @@ use Rattle.std.proofs.lemmas.List.{map-append}
 use Rattle.std.proofs.lemmas.Simd.{map-map}
 use Rattle.mesa_model.specs.Pins.{counted_at, is_pin, store_at}
 use Rattle.mesa_model.specs.Warehouse.{Pin, Store, Table}
-use Rattle.mesa_catalog.specs.mesa_image_spec.Catalog.{Catalog, Stock}
+use Rattle.mesa_catalog.specs.mesa_store_spec.Catalog.{Catalog, TableMeta}
 use Rattle.mesa_catalog.specs.mesa_history_spec.Bare.{bare_pin, bare_store, bare_table}
 use Rattle.mesa_catalog.specs.mesa_history_spec.Rows.{Rows}
 use Rattle.mesa_commit.specs.declared.trash.Hold.{Hold}
@@ -17,7 +17,7 @@ use Rattle.mesa_engine.specs.Turned.{pin_now, pinned_state, is_held_pin, release
 -- ---- projections
 
 -- nothing is to be taken from tables without contents
-pub bare_tables : (ts : List Stock) → map bare_table (map projection_of ts) ≡ map projection_of ts
+pub bare_tables : (ts : List TableMeta) → map bare_table (map projection_of ts) ≡ map projection_of ts
 bare_tables [] = refl
 bare_tables (t ∷ ts) = ap (λ (x : List Table). projection_of t ∷ x) (bare_tables ts)
 
@@ -25,7 +25,7 @@ bare_again : (c : Catalog) → bare_store (projections c) ≡ projections c
 bare_again c = ap (λ (x : List Table). record { tables = x; floor = c.floor }) (bare_tables c.tables)
 
 -- nor from those of one version
-bare_tables_at : (version : ℕ) (ts : List Stock) → map bare_table (map (projection_at version) ts) ≡ map (projection_at version) ts
+bare_tables_at : (version : ℕ) (ts : List TableMeta) → map bare_table (map (projection_at version) ts) ≡ map (projection_at version) ts
 bare_tables_at version [] = refl
 bare_tables_at version (t ∷ ts) = ap (λ (x : List Table). projection_at version t ∷ x) (bare_tables_at version ts)
 
@@ -37,7 +37,7 @@ bare_pins [] = refl
 bare_pins (p ∷ pins) = λ i. record { session = p.session; token = p.token; version = p.version; store = bare_again_at p.version p.copy i } ∷ bare_pins pins i
 
 -- nor from a copy of them at a version
-bare_copy : (s : Store) (version : ℕ) (ts : List Stock) → map bare_table (store_at (record { tables = map projection_of ts; floor = s.floor }) version).tables ≡ map (projection_at version) ts
+bare_copy : (s : Store) (version : ℕ) (ts : List TableMeta) → map bare_table (store_at (record { tables = map projection_of ts; floor = s.floor }) version).tables ≡ map (projection_at version) ts
 bare_copy s version ts = map-map _ _ (map projection_of ts) ∙ map-map _ _ ts
 
 -- ---- a pin more

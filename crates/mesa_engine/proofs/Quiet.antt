@@ -6,12 +6,12 @@ use Rattle.mesa_disk.specs.Story.{Story, Unmoved}
 use Rattle.mesa_lease.specs.Book.{Book}
 use Rattle.mesa_model.specs.declared.entries.Entry.{Entry}
 use Rattle.mesa_catalog.specs.mesa_history_spec.Run.{begins}
-use Rattle.mesa_catalog.specs.mesa_image_spec.Catalog.{Catalog}
-use Rattle.mesa_catalog.specs.mesa_image_spec.Ids.{named}
+use Rattle.mesa_catalog.specs.mesa_store_spec.Catalog.{Catalog}
+use Rattle.mesa_catalog.specs.mesa_store_spec.Ids.{named}
 use Rattle.mesa_commit.specs.Holding.{AreFiled}
 use Rattle.mesa_invariant_spec.specs.Invariant.{Outset, KeepsInvariant}
 use Rattle.mesa_engine.specs.EngineState.{HeldPin, OpenQuery, EngineState, books_of, next_id, most_files, holders, ids_held}
-use Rattle.mesa_catalog.specs.mesa_image_spec.Sourced.{HasSources}
+use Rattle.mesa_catalog.specs.mesa_store_spec.Sourced.{HasSources}
 use Rattle.mesa_engine.specs.Vault.{Origin, IsReady, IsVault}
 use Rattle.mesa_engine.proofs.Accepting.{silent_changes, silent_leaves}
 use Rattle.mesa_engine.proofs.Holding.{AreKept}
@@ -20,7 +20,7 @@ use Rattle.mesa_engine.proofs.Standing.{held_unmoved, ready_unmoved}
 module _ (o : Outset) (g : Origin) (sound : Bool) (l : EngineState) (story : Story) (held : Option (List ℕ)) (h : List Entry) (running refused : Bool) (v : IsVault o g sound l story held h running refused) where
   -- what is kept of the holds between turns
   pub kept_holds : AreKept v.rows sound story.told v.seen l (length h)
-  kept_holds = record { filed = v.filed; copies = v.copies; versions = v.versions; stocked = λ ok. (v.stocked ok).1; there = v.there }
+  kept_holds = record { filed = v.filed; copies = v.copies; versions = v.versions; sound_rows = λ ok. (v.sound_rows ok).1; there = v.there }
 
   -- The catalogue stays, and what waits; the pins, the open queries, the leases and the closing position may be others.
   module _ (pins : List HeldPin) (queries : List OpenQuery) (leases : Book) (given : List ℕ) (closed : Option ℕ) where
@@ -54,7 +54,7 @@ module _ (o : Outset) (g : Origin) (sound : Bool) (l : EngineState) (story : Sto
       ready = λ is. ready_unmoved story new same after (was_ready is);
       read = λ ok. let was = v.read ok in (was.0, same.told ∙ was.1);
       there = λ ok i is. kept.there ok i (sym same.told ∙ is);
-      stocked = λ ok. ((v.stocked ok).0, kept.stocked ok);
+      sound_rows = λ ok. ((v.sound_rows ok).0, kept.sound_rows ok);
       sourced = λ ok. subst (λ written. HasSources v.rows written l.catalogue) (sym (silent_leaves o.script (begins o.start) h e on.silent g.found)) (v.sourced ok);
     }
       where

@@ -14,10 +14,10 @@ use Rattle.mesa_catalog.specs.mesa_history_spec.Found.{Kept}
 use Rattle.mesa_catalog.specs.mesa_history_spec.Machine.{Claim, without_cumulatives}
 use Rattle.mesa_record.specs.declared.recasting.Recasting.{Recasting}
 use Rattle.mesa_record.specs.declared.record.Record.TheVariants as record_of
-use Rattle.mesa_catalog.specs.mesa_image_spec.Catalog.{Catalog, Ending, Stock, applied, base_recast, end_in, no_stock, ranges_of, stock_at, stock_recast}
-use Rattle.mesa_catalog.specs.mesa_image_spec.Contents.{kept_of}
-use Rattle.mesa_catalog.specs.mesa_image_spec.Moves.{Moves, kept_recast}
-use Rattle.mesa_catalog.specs.mesa_image_spec.Rewritten.{Rewritten, base_rewritten, recasting_of}
+use Rattle.mesa_catalog.specs.mesa_store_spec.Catalog.{Catalog, Ending, TableMeta, applied, base_recast, end_in, no_meta, ranges_of, meta_at, meta_recast}
+use Rattle.mesa_catalog.specs.mesa_store_spec.Contents.{kept_of}
+use Rattle.mesa_catalog.specs.mesa_store_spec.Moves.{Moves, kept_recast}
+use Rattle.mesa_catalog.specs.mesa_store_spec.Rewritten.{Rewritten, base_rewritten, recasting_of}
 use Rattle.mesa_invariant_spec.proofs.mesa_history_spec.BareLists.{set_same}
 use Rattle.mesa_catalog.specs.mesa_history_spec.Rows.{Rows}
 use Rattle.mesa_invariant_spec.specs.Books.{Books, recast_books}
@@ -38,8 +38,8 @@ module _ (o : Outset) (g : Origin) (sound : Bool) (l : EngineState) (story : Sto
   abbrev c : Catalog
   c = l.catalogue
 
-  abbrev t : Stock
-  t = stock_at l.catalogue claim.table
+  abbrev t : TableMeta
+  t = meta_at l.catalogue claim.table
 
   abbrev k : Recasting
   k = recasting_of claim.table t r made
@@ -54,12 +54,12 @@ module _ (o : Outset) (g : Origin) (sound : Bool) (l : EngineState) (story : Sto
   pub recast_is : (IsTrue sound → Moves later c (record_of.Recast k) (kept_recast (kept_of later c) claim.table r)) → Regroups sound old claim r (kept_of later x)
   recast_is moves s had ok = ap (λ (kept : Kept). kept_recast kept claim.table r) (had.rows ok ∙ sym (same_kept o g sound l story held h running refused v later agree)) ∙ sym (moves ok).kept
 
-  tables : map projection_of (slice_set c.tables claim.table (stock_recast c.next t k)) ≡ slice_set (map projection_of c.tables) claim.table (table_recast (table_at (projections c) claim.table) r)
-  tables = set_same projection_of c.tables claim.table (stock_recast c.next t k) ∙ ap (λ (u : Table). slice_set (map projection_of c.tables) claim.table (table_recast u r)) (sym (map_at projection_of c.tables claim.table no_stock))
+  tables : map projection_of (slice_set c.tables claim.table (meta_recast c.next t k)) ≡ slice_set (map projection_of c.tables) claim.table (table_recast (table_at (projections c) claim.table) r)
+  tables = set_same projection_of c.tables claim.table (meta_recast c.next t k) ∙ ap (λ (u : Table). slice_set (map projection_of c.tables) claim.table (table_recast u r)) (sym (map_at projection_of c.tables claim.table no_meta))
 
-  ranges : map ranges_of (slice_set c.tables claim.table (stock_recast c.next t k)) ≡ slice_set (map ranges_of c.tables) claim.table (without_cumulatives (slice_index_or (map ranges_of c.tables) claim.table (ranges_of no_stock)))
-  ranges = map-set ranges_of c.tables claim.table (stock_recast c.next t k)
-      ∙ ap (slice_set (map ranges_of c.tables) claim.table) ((λ i. record { base_to = base_ends k.epoch made t.base i; cumulatives = [] }) ∙ ap without_cumulatives (sym (map_at ranges_of c.tables claim.table no_stock)))
+  ranges : map ranges_of (slice_set c.tables claim.table (meta_recast c.next t k)) ≡ slice_set (map ranges_of c.tables) claim.table (without_cumulatives (slice_index_or (map ranges_of c.tables) claim.table (ranges_of no_meta)))
+  ranges = map-set ranges_of c.tables claim.table (meta_recast c.next t k)
+      ∙ ap (slice_set (map ranges_of c.tables) claim.table) ((λ i. record { base_to = base_ends k.epoch made t.base i; cumulatives = [] }) ∙ ap without_cumulatives (sym (map_at ranges_of c.tables claim.table no_meta)))
 
   -- and the books are those of the state.
   pub recast_as : (generation : ℕ) (waits : List Dropped) (adopted end : ℕ) → books_of later (recorded_state l x generation waits (ended claim.table claim.lease l.leases) adopted end) ≡ recast_books claim r (kept_of later x) old

@@ -12,11 +12,11 @@ use Rattle.mesa_model.specs.declared.entries.Entry.{Entry}
 use Rattle.mesa_model.specs.declared.replies.Reply.{Reply}
 use Rattle.mesa_catalog.specs.mesa_history_spec.Counting.{one_if}
 use Rattle.mesa_catalog.specs.mesa_history_spec.Run.{begins}
-use Rattle.mesa_catalog.specs.mesa_image_spec.Catalog.{Catalog}
-use Rattle.mesa_catalog.specs.mesa_image_spec.Held.{IsHeld}
-use Rattle.mesa_catalog.specs.mesa_image_spec.Sound.{AreStocked}
-use Rattle.mesa_catalog.proofs.mesa_image_spec.Agreeing.{agree_stocked}
-use Rattle.mesa_catalog.specs.mesa_image_spec.Ids.{named}
+use Rattle.mesa_catalog.specs.mesa_store_spec.Catalog.{Catalog}
+use Rattle.mesa_catalog.specs.mesa_store_spec.Held.{IsHeld}
+use Rattle.mesa_catalog.specs.mesa_store_spec.Sound.{HaveSoundRows}
+use Rattle.mesa_catalog.proofs.mesa_store_spec.Agreeing.{agree_sound_rows}
+use Rattle.mesa_catalog.specs.mesa_store_spec.Ids.{named}
 use Rattle.mesa_catalog.specs.mesa_history_spec.Rows.{Rows}
 use Rattle.mesa_commit.specs.Filed.{AreFresh, AreMoved, PinFiles, Renames}
 use Rattle.mesa_commit.specs.declared.trash.Dropped.{Dropped}
@@ -26,7 +26,7 @@ use Rattle.mesa_invariant_spec.specs.Sight.{is_of_schemas, tells_of_schemas, sch
 use Rattle.mesa_invariant_spec.specs.Invariant.{Outset, KeepsInvariant, KeepsInvariantTelling}
 use Rattle.mesa_engine.specs.EngineState.{EngineState, books_of, first_id, next_id, past_id, most_files, Holder, holders, ids_held, files_held}
 use Rattle.mesa_engine.specs.Recorded.{waiting, removed_by, left_by, Adopts, IsRecorded, recorded_state, failed_state}
-use Rattle.mesa_catalog.specs.mesa_image_spec.Sourced.{HasSources}
+use Rattle.mesa_catalog.specs.mesa_store_spec.Sourced.{HasSources}
 use Rattle.mesa_engine.specs.Vault.{Origin, IsRead, AreThere, IsVault, written_by}
 use Rattle.mesa_engine.proofs.Accepting.{silent_changes, silent_leaves, changes_more}
 use Rattle.mesa_engine.proofs.Filing.{IsCleared, holds_are, filed_lost, freed_cleared, none_cleared, old_agree, files_stay}
@@ -95,9 +95,9 @@ module _ (o : Outset) (g : Origin) (sound : Bool) (l : EngineState) (story : Sto
     there_stays : IsTrue sound → AreThere later v.seen l new
     there_stays ok j is = let before = only.back j is in stay_all (holders v.seen l) before.0 j before.2 below clears.unheld (v.there ok before.0 before.1)
 
-    stocked_stays : IsTrue sound → AllByRecursion (λ (x : Holder). AreStocked later x.1) (holders v.seen l)
-    stocked_stays ok = all_also (λ (x : Holder). (id : ℕ) → Among id (named x.1) → id < next_id l) (λ (x : Holder). AreStocked v.rows x.1) (λ (x : Holder). AreStocked later x.1) (holders v.seen l)
-        (λ x low are. agree_stocked v.rows later x.1 (old_agree v.rows later (next_id l) later_id agree x.1 low) are) below (v.stocked ok).1
+    sound_rows_stays : IsTrue sound → AllByRecursion (λ (x : Holder). HaveSoundRows later x.1) (holders v.seen l)
+    sound_rows_stays ok = all_also (λ (x : Holder). (id : ℕ) → Among id (named x.1) → id < next_id l) (λ (x : Holder). HaveSoundRows v.rows x.1) (λ (x : Holder). HaveSoundRows later x.1) (holders v.seen l)
+        (λ x low are. agree_sound_rows v.rows later x.1 (old_agree v.rows later (next_id l) later_id agree x.1 low) are) below (v.sound_rows ok).1
 
   -- ---- the record is written
 
@@ -110,9 +110,9 @@ module _ (o : Outset) (g : Origin) (sound : Bool) (l : EngineState) (story : Sto
       after = recorded_state l c generation waits leases adopted end
 
       -- The device work of the turn is done, and the state has its record.
-      pub recorded_vault : KeepsInvariantTelling o sound (books_of later after) new new_held h e now told rep → (IsTrue sound → l.closed ≡ None → IsHeld new l.area bodies end c later) → (IsTrue sound → AreStocked later c) → (l.closed ≡ None → end < new.len l.area)
+      pub recorded_vault : KeepsInvariantTelling o sound (books_of later after) new new_held h e now told rep → (IsTrue sound → l.closed ≡ None → IsHeld new l.area bodies end c later) → (IsTrue sound → HaveSoundRows later c) → (l.closed ≡ None → end < new.len l.area)
           → leases.granted ≤ l.leases.granted → generation ≡ l.generation + one_if (is_of_schemas rep) → (IsTrue sound → HasSources later (written_by o g.found (h ++ e ∷ [])) c) → IsVault o g sound after new new_held (h ++ e ∷ []) now told
-      recorded_vault on stands stocked long granted counted sourced = record {
+      recorded_vault on stands sound_rows long granted counted sourced = record {
         rows = later;
         bodies = bodies;
         seen = v.seen;
@@ -141,7 +141,7 @@ module _ (o : Outset) (g : Origin) (sound : Bool) (l : EngineState) (story : Sto
         };
         read = read_stays;
         there = there_stays later recorded.agree;
-        stocked = λ ok. (stocked ok, stocked_stays later recorded.agree ok);
+        sound_rows = λ ok. (sound_rows ok, sound_rows_stays later recorded.agree ok);
         sourced = sourced;
       }
         where
@@ -177,6 +177,6 @@ module _ (o : Outset) (g : Origin) (sound : Bool) (l : EngineState) (story : Sto
     ready = λ is. absurd (let never : Some position ≡ None = is in cc);
     read = read_stays;
     there = there_stays v.rows (λ id low. refl);
-    stocked = λ ok. v.stocked ok;
+    sound_rows = λ ok. v.sound_rows ok;
     sourced = λ ok. subst (λ written. HasSources v.rows written l.catalogue) (sym (silent_leaves o.script (begins o.start) h e on.silent g.found)) (v.sourced ok);
   }

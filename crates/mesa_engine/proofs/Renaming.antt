@@ -11,12 +11,12 @@ use Rattle.mesa_record.specs.declared.record.Record.{Record}
 use Rattle.mesa_record.specs.declared.record.Record.TheVariants as record_of
 use Rattle.mesa_record.specs.Rules.{keeps_rules}
 use Rattle.mesa_invariant_spec.proofs.mesa_history_spec.Places.{same_is}
-use Rattle.mesa_catalog.specs.mesa_image_spec.Catalog.{Catalog, Delta, Stock, applied, no_stock, start_in, stock_at}
-use Rattle.mesa_catalog.specs.mesa_image_spec.Fitting.{base_deltas, delta_in, delta_shelved, deltas_of, files_shelved, fits, shelved_id, stock_shelved, view_shelved}
-use Rattle.mesa_catalog.specs.mesa_image_spec.Ids.{HasOwnIds, brought_ids, delta_ids, dropped_deltas, dropped_ids, file_ids, named, own_delta_id, own_id, recast_dropped, times}
-use Rattle.mesa_catalog.proofs.mesa_image_spec.Ids.{brought_own, counted}
-use Rattle.mesa_catalog.proofs.mesa_image_spec.Lists.{is_equal}
-use Rattle.mesa_catalog.proofs.mesa_image_spec.Moving.{kind_of}
+use Rattle.mesa_catalog.specs.mesa_store_spec.Catalog.{Catalog, Delta, TableMeta, applied, no_meta, start_in, meta_at}
+use Rattle.mesa_catalog.specs.mesa_store_spec.Fitting.{base_deltas, delta_in, delta_live, deltas_of, files_live, fits, live_id, meta_live, view_live}
+use Rattle.mesa_catalog.specs.mesa_store_spec.Ids.{HasOwnIds, brought_ids, delta_ids, dropped_deltas, dropped_ids, file_ids, named, own_delta_id, own_id, recast_dropped, times}
+use Rattle.mesa_catalog.proofs.mesa_store_spec.Ids.{brought_own, counted}
+use Rattle.mesa_catalog.proofs.mesa_store_spec.Lists.{is_equal}
+use Rattle.mesa_catalog.proofs.mesa_store_spec.Moving.{kind_of}
 use Rattle.mesa_commit.specs.Filed.{Renames}
 use Rattle.mesa_commit.specs.Holding.{Among}
 use Rattle.mesa_engine.proofs.Lists.{among_left, among_right, among_split}
@@ -65,7 +65,7 @@ module _ (id : ℕ) where
   in_front (suc n) (d ∷ ds) is = ⊎_elim (λ one. among_left id (delta_ids d) _ one) (λ more. among_right id (delta_ids d) _ (in_front n ds more)) (among_split id (delta_ids d) (flat_map delta_ids (take n ds)) is)
 
   -- the deltas whose place a new base takes are the table's
-  dropped_there : (t : Stock) (to : ℕ) → In (dropped_deltas t to) → In (deltas_of t)
+  dropped_there : (t : TableMeta) (to : ℕ) → In (dropped_deltas t to) → In (deltas_of t)
   dropped_there t to is =
       let base = base_deltas t.base in
       let cumulatives = map delta_in t.cumulatives in
@@ -84,7 +84,7 @@ module _ (id : ℕ) where
       by (Some f) (inr never) = absurd never
 
   -- and so are those whose files go with a recast
-  recast_there : (t : Stock) → Among id (recast_dropped t) → In (deltas_of t)
+  recast_there : (t : TableMeta) → Among id (recast_dropped t) → In (deltas_of t)
   recast_there t is =
       let base = base_deltas t.base in
       let cumulatives = map delta_in t.cumulatives in
@@ -94,20 +94,20 @@ module _ (id : ℕ) where
 
 -- ---- ids of tables
 
-ids_of_files : (l : Lineage) (epoch : ℕ) (files : Option Files) → map shelved_id (files_shelved l epoch files) ≡ file_ids files
+ids_of_files : (l : Lineage) (epoch : ℕ) (files : Option Files) → map live_id (files_live l epoch files) ≡ file_ids files
 ids_of_files l epoch None = refl
-ids_of_files l epoch (Some f) = ap (λ ids. f.file.id ∷ ids) (map-map shelved_id (view_shelved l) f.views)
+ids_of_files l epoch (Some f) = ap (λ ids. f.file.id ∷ ids) (map-map live_id (view_live l) f.views)
 
-ids_of_deltas : (l : Lineage) (ds : List Delta) → map shelved_id (flat_map (delta_shelved l) ds) ≡ flat_map delta_ids ds
+ids_of_deltas : (l : Lineage) (ds : List Delta) → map live_id (flat_map (delta_live l) ds) ≡ flat_map delta_ids ds
 ids_of_deltas l [] = refl
-ids_of_deltas l (d ∷ ds) = map-append shelved_id (delta_shelved l d) (flat_map (delta_shelved l) ds) ∙ (λ i. ids_of_files l d.epoch d.files i ++ ids_of_deltas l ds i)
+ids_of_deltas l (d ∷ ds) = map-append live_id (delta_live l d) (flat_map (delta_live l) ds) ∙ (λ i. ids_of_files l d.epoch d.files i ++ ids_of_deltas l ds i)
 
-table_named : (id : ℕ) (tables : List Stock) (n : ℕ) → Among id (flat_map delta_ids (deltas_of (slice_index_or tables n no_stock))) → Among id (map shelved_id (flat_map stock_shelved tables))
+table_named : (id : ℕ) (tables : List TableMeta) (n : ℕ) → Among id (flat_map delta_ids (deltas_of (slice_index_or tables n no_meta))) → Among id (map live_id (flat_map meta_live tables))
 table_named id [] n is = absurd is
 table_named id (t ∷ tables) zero is =
-    subst (Among id) (sym (map-append shelved_id (stock_shelved t) (flat_map stock_shelved tables))) (among_left id (map shelved_id (stock_shelved t)) _ (subst (Among id) (sym (ids_of_deltas t.lineage (deltas_of t))) is))
+    subst (Among id) (sym (map-append live_id (meta_live t) (flat_map meta_live tables))) (among_left id (map live_id (meta_live t)) _ (subst (Among id) (sym (ids_of_deltas t.lineage (deltas_of t))) is))
 table_named id (t ∷ tables) (suc n) is =
-    subst (Among id) (sym (map-append shelved_id (stock_shelved t) (flat_map stock_shelved tables))) (among_right id (map shelved_id (stock_shelved t)) _ (table_named id tables n is))
+    subst (Among id) (sym (map-append live_id (meta_live t) (flat_map meta_live tables))) (among_right id (map live_id (meta_live t)) _ (table_named id tables n is))
 
 -- what a record lets go was named
 dropped_named : (id : ℕ) (c : Catalog) (r : Record) → Among id (dropped_ids c r) → Among id (named c)
@@ -116,12 +116,12 @@ dropped_named id c (record_of.Table name keys values) is = absurd is
 dropped_named id c (record_of.View table name keys values) is = absurd is
 dropped_named id c (record_of.Alter table change) is = absurd is
 dropped_named id c (record_of.Publish version parts) is = absurd is
-dropped_named id c (record_of.Swap table true from to epoch files) is = table_named id c.tables table (dropped_there id (stock_at c table) to is)
+dropped_named id c (record_of.Swap table true from to epoch files) is = table_named id c.tables table (dropped_there id (meta_at c table) to is)
 dropped_named id c (record_of.Swap table false from to epoch files) is = absurd is
 dropped_named id c (record_of.Expire version) is = absurd is
 dropped_named id c (record_of.ExpireTable table version) is = absurd is
 dropped_named id c (record_of.Checkpoint k) is = absurd is
-dropped_named id c (record_of.Recast k) is = table_named id c.tables k.table (recast_there id (stock_at c k.table) is)
+dropped_named id c (record_of.Recast k) is = table_named id c.tables k.table (recast_there id (meta_at c k.table) is)
 
 -- ---- a record
 

@@ -3,9 +3,9 @@ use Rattle.std.proofs.Common.{◌≡◌, ◌+◌, ◌^◌, ◌<◌, true, arith}
 use Rattle.std.specs.Prelude.{◌==◌, nat_le}
 use Rattle.mesa_record.specs.declared.record.Record.{Record}
 use Rattle.mesa_record.specs.declared.record.Record.TheVariants as record_of
-use Rattle.mesa_catalog.specs.mesa_image_spec.Catalog.{Catalog, applied}
-use Rattle.mesa_catalog.specs.mesa_image_spec.Fitting.{fits, kind_fits, max_runs, brings_new_files}
-use Rattle.mesa_catalog.proofs.mesa_image_spec.Lists.{both_true, is_at_most}
+use Rattle.mesa_catalog.specs.mesa_store_spec.Catalog.{Catalog, applied}
+use Rattle.mesa_catalog.specs.mesa_store_spec.Fitting.{fits, kind_fits, max_runs, brings_new_files}
+use Rattle.mesa_catalog.proofs.mesa_store_spec.Lists.{both_true, is_at_most}
 
 kind_of : (c : Catalog) (r : Record) → fits c r ≡ true → kind_fits c r ≡ true
 unfolding fits

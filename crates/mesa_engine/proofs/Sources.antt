@@ -19,12 +19,12 @@ use Rattle.mesa_catalog.specs.mesa_history_spec.Run.{Place, Renewed, Stage, begi
 use Rattle.mesa_catalog.specs.mesa_history_spec.Turns.{IsDue}
 use Rattle.mesa_record.specs.declared.record.Part.{Part}
 use Rattle.mesa_record.specs.declared.record.Record.TheVariants as record_of
-use Rattle.mesa_catalog.specs.mesa_image_spec.Catalog.{Catalog, applied}
-use Rattle.mesa_catalog.specs.mesa_image_spec.Contents.{kept_of}
-use Rattle.mesa_catalog.proofs.mesa_image_spec.Accepted.{read_accepted}
-use Rattle.mesa_catalog.proofs.mesa_image_spec.AllSourced.{agree_sourced, publish_sourced}
-use Rattle.mesa_catalog.specs.mesa_image_spec.Brought.{BringsAll}
-use Rattle.mesa_catalog.specs.mesa_image_spec.Sourced.{HasSources, tables_read, written_behind}
+use Rattle.mesa_catalog.specs.mesa_store_spec.Catalog.{Catalog, applied}
+use Rattle.mesa_catalog.specs.mesa_store_spec.Contents.{kept_of}
+use Rattle.mesa_catalog.proofs.mesa_store_spec.Accepted.{read_accepted}
+use Rattle.mesa_catalog.proofs.mesa_store_spec.AllSourced.{agree_sourced, publish_sourced}
+use Rattle.mesa_catalog.specs.mesa_store_spec.Brought.{BringsAll}
+use Rattle.mesa_catalog.specs.mesa_store_spec.Sourced.{HasSources, tables_read, written_behind}
 use Rattle.mesa_catalog.specs.mesa_history_spec.Rows.{Rows}
 use Rattle.mesa_invariant_spec.specs.Causes.{told_at}
 use Rattle.mesa_invariant_spec.specs.Invariant.{Outset, run_of}

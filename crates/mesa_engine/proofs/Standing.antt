@@ -4,11 +4,11 @@ use Rattle.mesa_disk.specs.Image.{Image}
 use Rattle.mesa_disk.specs.Story.{Story, Unmoved}
 use Rattle.mesa_disk.specs.declared.area.Area.{Area}
 use Rattle.mesa_commit.specs.Images.{Has}
-use Rattle.mesa_catalog.specs.mesa_image_spec.Catalog.{Catalog}
-use Rattle.mesa_catalog.specs.mesa_image_spec.Contents.{kept_of}
-use Rattle.mesa_catalog.specs.mesa_image_spec.Fitting.{shelved}
-use Rattle.mesa_catalog.specs.mesa_image_spec.Held.{IsHeld}
-use Rattle.mesa_catalog.specs.mesa_image_spec.Sound.{StandsFor, wants}
+use Rattle.mesa_catalog.specs.mesa_store_spec.Catalog.{Catalog}
+use Rattle.mesa_catalog.specs.mesa_store_spec.Contents.{kept_of}
+use Rattle.mesa_catalog.specs.mesa_store_spec.Fitting.{live_files}
+use Rattle.mesa_catalog.specs.mesa_store_spec.Held.{IsHeld}
+use Rattle.mesa_catalog.specs.mesa_store_spec.Sound.{StandsFor, wants}
 use Rattle.mesa_catalog.specs.mesa_history_spec.Rows.{Rows}
 use Rattle.mesa_invariant_spec.specs.Invariant.{AllStand}
 use Rattle.mesa_engine.specs.EngineState.{EngineState}
@@ -18,10 +18,10 @@ use Rattle.mesa_engine.specs.Vault.{IsReady, AreThere}
 pub held_stand : (story : Story) (area : Area) (bodies : List (List ℕ)) (end : ℕ) (c : Catalog) (rows : Rows) → IsHeld story area bodies end c rows → AllStand StandsFor story (kept_of rows c)
 held_stand story area bodies end c rows is i left =
     let shows = is.stands.left i left in
-    record { bodies = bodies; catalogue = c; rows = rows; is = record { live = area; end = end; journal = record { whole = inr shows.journal; behind = shows.behind }; records = is.records; files = shows.has; rows_are = is.stocked }; same = refl }
+    record { bodies = bodies; catalogue = c; rows = rows; is = record { live = area; end = end; journal = record { whole = inr shows.journal; behind = shows.behind }; records = is.records; files = shows.has; rows_are = is.sound_rows }; same = refl }
 
 -- a read gives its files
-pub held_there : (story : Story) (area : Area) (bodies : List (List ℕ)) (end : ℕ) (c : Catalog) (rows : Rows) → IsHeld story area bodies end c rows → (i : Image) → story.told ≡ Some i → Has (wants rows (shelved c)) i
+pub held_there : (story : Story) (area : Area) (bodies : List (List ℕ)) (end : ℕ) (c : Catalog) (rows : Rows) → IsHeld story area bodies end c rows → (i : Image) → story.told ≡ Some i → Has (wants rows (live_files c)) i
 held_there story area bodies end c rows is i told = (is.stands.read i told).has
 
 -- ---- calls that move no image
@@ -31,7 +31,7 @@ module _ (story new : Story) (same : Unmoved story new) where
   held_unmoved area bodies end c rows is = record {
     bytes = is.bytes;
     records = is.records;
-    stocked = is.stocked;
+    sound_rows = is.sound_rows;
     stands = record { read = λ i told. is.stands.read i (sym same.told ∙ told); left = λ i left. is.stands.left i ((same.may_leave i).0 left) };
   }
 

@@ -6,9 +6,9 @@ use Rattle.mesa_disk.specs.Image.{Image}
 use Rattle.mesa_disk.specs.Story.{Story, Unmoved}
 use Rattle.mesa_lease.specs.Book.{Book}
 use Rattle.mesa_model.specs.declared.entries.Entry.{Entry}
-use Rattle.mesa_catalog.specs.mesa_image_spec.Contents.{kept_of}
-use Rattle.mesa_catalog.specs.mesa_image_spec.Fitting.{shelved}
-use Rattle.mesa_catalog.specs.mesa_image_spec.Sound.{StandsFor, wants}
+use Rattle.mesa_catalog.specs.mesa_store_spec.Contents.{kept_of}
+use Rattle.mesa_catalog.specs.mesa_store_spec.Fitting.{live_files}
+use Rattle.mesa_catalog.specs.mesa_store_spec.Sound.{StandsFor, wants}
 use Rattle.mesa_commit.specs.declared.trash.Hold.{Hold}
 use Rattle.mesa_invariant_spec.specs.Books.{pinned_books, released_books}
 use Rattle.mesa_invariant_spec.specs.Invariant.{Outset, KeepsInvariant, AllStand}
@@ -30,7 +30,7 @@ module _ (o : Outset) (g : Origin) (sound : Bool) (l : EngineState) (story : Sto
   pub stands_now : l.closed ≡ None → IsTrue sound → AllStand StandsFor story (kept_of v.rows l.catalogue)
   stands_now is ok = held_stand story l.area v.bodies l.end l.catalogue v.rows (v.stands ok is)
 
-  pub there_now : l.closed ≡ None → IsTrue sound → (i : Image) → story.told ≡ Some i → Has (wants v.rows (shelved l.catalogue)) i
+  pub there_now : l.closed ≡ None → IsTrue sound → (i : Image) → story.told ≡ Some i → Has (wants v.rows (live_files l.catalogue)) i
   there_now is ok i told = held_there story l.area v.bodies l.end l.catalogue v.rows (v.stands ok is) i told
 
   module _ (e : Entry) (new : Story) (new_held : Option (List ℕ)) (now told : Bool) (same : Unmoved story new) where
@@ -49,14 +49,14 @@ module _ (o : Outset) (g : Origin) (sound : Bool) (l : EngineState) (story : Sto
     pub leased_vault : (leases : Book) → leases.granted ≤ l.leases.granted + 1 → KeepsInvariant o sound (books_of v.rows (leased_state l leases)) new new_held h e now told → IsVault o g sound (leased_state l leases) new new_held (h ++ e ∷ []) now told
     leased_vault leases granted on =
         quiet_vault o g sound l story held h running refused v l.pins l.queries leases l.given l.closed e new new_held now told on same (λ is. is) granted (more_given (length h) l.given v.counts.given) v.seen
-        (record { filed = stay.filed; copies = stay.copies; versions = stay.versions; stocked = stay.stocked; there = stay.there })
+        (record { filed = stay.filed; copies = stay.copies; versions = stay.versions; sound_rows = stay.sound_rows; there = stay.there })
 
     -- It closes: a file that was built has failed, where the clock stands at its last value; a work's lease may have ended.
     pub closed_vault : (leases : Book) (position : ℕ) → leases.granted ≤ l.leases.granted → KeepsInvariant o sound (books_of v.rows (shut_state (leased_state l leases) position)) new new_held h e now told
         → IsVault o g sound (shut_state (leased_state l leases) position) new new_held (h ++ e ∷ []) now told
     closed_vault leases position granted on =
         quiet_vault o g sound l story held h running refused v l.pins l.queries leases l.given (Some position) e new new_held now told on same (λ is. absurd (let never : Some position ≡ None = is in cc)) (omega (arith, granted)) (more_given (length h) l.given v.counts.given) v.seen
-        (record { filed = stay.filed; copies = stay.copies; versions = stay.versions; stocked = stay.stocked; there = stay.there })
+        (record { filed = stay.filed; copies = stay.copies; versions = stay.versions; sound_rows = stay.sound_rows; there = stay.there })
 
     -- ---- queries
 
@@ -66,7 +66,7 @@ module _ (o : Outset) (g : Origin) (sound : Bool) (l : EngineState) (story : Sto
     queried_vault is session hold hold_is on =
         quiet_vault o g sound l story held h running refused v l.pins (l.queries ++ record { session = session; hold = hold } ∷ []) l.leases l.given l.closed e new new_held now told on same (λ o. o) (omega arith) (more_given (length h) l.given v.counts.given)
         (seen_more v.seen (length h) l.catalogue)
-        (query_kept v.rows sound story.told v.seen l (length h) kept v.shaped (λ ok. (v.stocked ok).0) (there_now is) (record { session = session; hold = hold }) hold_is)
+        (query_kept v.rows sound story.told v.seen l (length h) kept v.shaped (λ ok. (v.sound_rows ok).0) (there_now is) (record { session = session; hold = hold }) hold_is)
 
     -- Its hold is given back.
     pub answered_vault : (stays : OpenQuery → Bool) → KeepsInvariant o sound (books_of v.rows (answered_state l stays)) new new_held h e now told → IsVault o g sound (answered_state l stays) new new_held (h ++ e ∷ []) now told
@@ -83,8 +83,8 @@ module _ (o : Outset) (g : Origin) (sound : Bool) (l : EngineState) (story : Sto
     pinned_vault is session version hold hold_is versioned on =
         quiet_vault o g sound l story held h running refused v (pinned_state l session version hold).pins l.queries l.leases (pinned_state l session version hold).given l.closed e new new_held now told
         (subst (λ b. KeepsInvariant o sound b new new_held h e now told) (sym (pinned_as v.rows l session version hold)) on) same (λ o. o) (omega arith) (counted_more (length h) l.given session v.counts.given) v.seen
-        (let more = pin_kept v.rows sound story.told v.seen l (length h) kept v.shaped (λ ok. (v.stocked ok).0) (there_now is) (pin_now l session version hold) hold_is refl versioned in
-        record { filed = more.filed; copies = more.copies; versions = more.versions; stocked = more.stocked; there = more.there })
+        (let more = pin_kept v.rows sound story.told v.seen l (length h) kept v.shaped (λ ok. (v.sound_rows ok).0) (there_now is) (pin_now l session version hold) hold_is refl versioned in
+        record { filed = more.filed; copies = more.copies; versions = more.versions; sound_rows = more.sound_rows; there = more.there })
 
     -- A pin is released.
     pub released_vault : (session token : ℕ) → KeepsInvariant o sound (released_books session token (books_of v.rows l)) new new_held h e now told → IsVault o g sound (released_state l session token) new new_held (h ++ e ∷ []) now told

@@ -14,11 +14,11 @@ use Rattle.mesa_model.specs.declared.entries.Entry.{Entry}
 use Rattle.mesa_catalog.specs.mesa_history_spec.Machine.{Claim, swapped_reply}
 use Rattle.mesa_record.specs.declared.record.Files.{Files}
 use Rattle.mesa_record.specs.declared.record.Record.TheVariants as record_of
-use Rattle.mesa_catalog.specs.mesa_image_spec.Catalog.{Catalog, Delta, Stock, applied, merged_delta, no_stock, ranges_of, stock_at, stock_swapped}
-use Rattle.mesa_catalog.specs.mesa_image_spec.Contents.{kept_of}
-use Rattle.mesa_catalog.proofs.mesa_image_spec.Kept.{IsWithin, ranges_swapped, set_same as set_back, swap_moves}
-use Rattle.mesa_catalog.specs.mesa_image_spec.Brought.{Replaces, merged_of}
-use Rattle.mesa_catalog.specs.mesa_image_spec.Moves.{kept_swapped, work_of}
+use Rattle.mesa_catalog.specs.mesa_store_spec.Catalog.{Catalog, Delta, TableMeta, applied, merged_delta, no_meta, ranges_of, meta_at, meta_swapped}
+use Rattle.mesa_catalog.specs.mesa_store_spec.Contents.{kept_of}
+use Rattle.mesa_catalog.proofs.mesa_store_spec.Kept.{IsWithin, ranges_swapped, set_same as set_back, swap_moves}
+use Rattle.mesa_catalog.specs.mesa_store_spec.Brought.{Replaces, merged_of}
+use Rattle.mesa_catalog.specs.mesa_store_spec.Moves.{kept_swapped, work_of}
 use Rattle.mesa_invariant_spec.proofs.mesa_history_spec.BareLists.{set_same}
 use Rattle.mesa_catalog.specs.mesa_history_spec.Rows.{Rows}
 use Rattle.mesa_invariant_spec.specs.Books.{Books, swapped_books}
@@ -48,7 +48,7 @@ ended_granted table number book = by (last_of book table)
     by (Some lease) = ends (lease.number == number) lease
 
 -- a table keeps its projection
-swap_projection : (t : Stock) (base : Bool) (to : ℕ) (d : Delta) → projection_of (stock_swapped t base to d) ≡ projection_of t
+swap_projection : (t : TableMeta) (base : Bool) (to : ℕ) (d : Delta) → projection_of (meta_swapped t base to d) ≡ projection_of t
 swap_projection t true to d = refl
 swap_projection t false to d = refl
 
@@ -57,8 +57,8 @@ module _ (o : Outset) (g : Origin) (sound : Bool) (l : EngineState) (story : Sto
   abbrev c : Catalog
   c = l.catalogue
 
-  abbrev t : Stock
-  t = stock_at l.catalogue claim.table
+  abbrev t : TableMeta
+  t = meta_at l.catalogue claim.table
 
   abbrev x : Catalog
   x = applied l.catalogue (record_of.Swap claim.table base from to epoch files)
@@ -72,13 +72,13 @@ module _ (o : Outset) (g : Origin) (sound : Bool) (l : EngineState) (story : Sto
       ap (λ k. kept_swapped k claim.table work) (had.rows ok ∙ sym (same_kept o g sound l story held h running refused v later agree)) ∙ ap (kept_swapped (kept_of later c) claim.table) (sym work_is)
       ∙ sym (swap_moves later c claim.table base from to epoch files within (replaces ok))
 
-  projections : map projection_of (slice_set c.tables claim.table (stock_swapped t base to (merged_delta epoch files))) ≡ map projection_of c.tables
-  projections = set_same projection_of c.tables claim.table (stock_swapped t base to (merged_delta epoch files)) ∙ ap (slice_set (map projection_of c.tables) claim.table) (swap_projection t base to (merged_delta epoch files))
-      ∙ sym (set_same projection_of c.tables claim.table t) ∙ ap (map projection_of) (set_back c.tables claim.table no_stock)
+  projections : map projection_of (slice_set c.tables claim.table (meta_swapped t base to (merged_delta epoch files))) ≡ map projection_of c.tables
+  projections = set_same projection_of c.tables claim.table (meta_swapped t base to (merged_delta epoch files)) ∙ ap (slice_set (map projection_of c.tables) claim.table) (swap_projection t base to (merged_delta epoch files))
+      ∙ sym (set_same projection_of c.tables claim.table t) ∙ ap (map projection_of) (set_back c.tables claim.table no_meta)
 
-  ranges : map ranges_of (slice_set c.tables claim.table (stock_swapped t base to (merged_delta epoch files))) ≡ slice_set (map ranges_of c.tables) claim.table (swapped work (slice_index_or (map ranges_of c.tables) claim.table (ranges_of no_stock)))
-  ranges = map-set ranges_of c.tables claim.table (stock_swapped t base to (merged_delta epoch files))
-      ∙ ap (slice_set (map ranges_of c.tables) claim.table) (ranges_swapped t base from to (merged_delta epoch files) ∙ (λ i. swapped (work_is i) (sym (map_at ranges_of c.tables claim.table no_stock) i)))
+  ranges : map ranges_of (slice_set c.tables claim.table (meta_swapped t base to (merged_delta epoch files))) ≡ slice_set (map ranges_of c.tables) claim.table (swapped work (slice_index_or (map ranges_of c.tables) claim.table (ranges_of no_meta)))
+  ranges = map-set ranges_of c.tables claim.table (meta_swapped t base to (merged_delta epoch files))
+      ∙ ap (slice_set (map ranges_of c.tables) claim.table) (ranges_swapped t base from to (merged_delta epoch files) ∙ (λ i. swapped (work_is i) (sym (map_at ranges_of c.tables claim.table no_meta) i)))
 
   -- and the books are those of the state.
   pub swapped_as : (generation : ℕ) (waits : List Dropped) (adopted end : ℕ) → books_of later (recorded_state l x generation waits (ended claim.table claim.lease l.leases) adopted end) ≡ swapped_books claim work (kept_of later x) old

@@ -27,11 +27,11 @@ use Rattle.mesa_catalog.specs.mesa_history_spec.Refused.{is_refusal}
 use Rattle.mesa_catalog.specs.mesa_history_spec.Replay.{told_by}
 use Rattle.mesa_catalog.specs.mesa_history_spec.Run.{Renewed, Stage}
 use Rattle.mesa_catalog.specs.mesa_history_spec.Turns.{IsDue}
-use Rattle.mesa_catalog.specs.mesa_image_spec.Catalog.{Catalog}
-use Rattle.mesa_catalog.specs.mesa_image_spec.Contents.{kept_of}
-use Rattle.mesa_catalog.specs.mesa_image_spec.Held.{IsHeld}
-use Rattle.mesa_catalog.specs.mesa_image_spec.Sound.{AreStocked, StandsFor}
-use Rattle.mesa_catalog.specs.mesa_image_spec.Sourced.{HasSources}
+use Rattle.mesa_catalog.specs.mesa_store_spec.Catalog.{Catalog}
+use Rattle.mesa_catalog.specs.mesa_store_spec.Contents.{kept_of}
+use Rattle.mesa_catalog.specs.mesa_store_spec.Held.{IsHeld}
+use Rattle.mesa_catalog.specs.mesa_store_spec.Sound.{HaveSoundRows, StandsFor}
+use Rattle.mesa_catalog.specs.mesa_store_spec.Sourced.{HasSources}
 use Rattle.mesa_catalog.specs.mesa_history_spec.Output.{block}
 use Rattle.mesa_catalog.specs.mesa_history_spec.Rows.{Rows}
 use Rattle.mesa_invariant_spec.specs.Books.{recast_books, swapped_books}
@@ -74,12 +74,12 @@ module _ (n : Starts) (w : Rows) (sound : Bool) (l : EngineState) (story : Story
     after = recorded_state l x generation waits l.leases adopted end
 
     -- Its device work is done.
-    pub written_vault : Counts story new false → (bodies : List (List ℕ)) → (IsTrue sound → IsHeld new l.area bodies end x later) → ((i : Image) → new.told ≡ Some i → AreGone removed i) → (IsTrue sound → AreStocked later x) → end < new.len l.area
+    pub written_vault : Counts story new false → (bodies : List (List ℕ)) → (IsTrue sound → IsHeld new l.area bodies end x later) → ((i : Image) → new.told ≡ Some i → AreGone removed i) → (IsTrue sound → HaveSoundRows later x) → end < new.len l.area
         → generation ≡ l.generation + one_if (is_of_schemas rep) → (told_by o.script (run_of o h) (turn_with outcome.Stands) ≡ Some (told_at (run_of o h).position rep) → IsTrue sound → HasSources later (written_by o g.found (h ++ turn_with outcome.Stands ∷ [])) x)
         → IsPut (block (turn_with outcome.Stands) (Some (told_at at rep))) now held new_held → IsVault o g sound after new new_held (h ++ turn_with outcome.Stands ∷ []) now (refused || is_refusal rep)
-    written_vault counts bodies holds gone_now stocked long risen sources put =
+    written_vault counts bodies holds gone_now sound_rows long risen sources put =
         recorded_vault o g sound l story held h running refused v (turn_with outcome.Stands) new new_held now (refused || is_refusal rep) made adopted adopts x waits removed clears only later gone recorded gone_now generation l.leases end bodies rep
-        on (λ ok is. holds ok) stocked (λ is. long) (omega arith) risen (sources on.tells)
+        on (λ ok is. holds ok) sound_rows (λ is. long) (omega arith) risen (sources on.tells)
       where
         on : KeepsInvariantTelling o sound (books_of later after) new new_held h (turn_with outcome.Stands) now (refused || is_refusal rep) rep
         on = written_turn o sound (books_of v.rows l) story held h running refused v.invariant session number low few c stage f d due m ran at place (books_of later after) rep change writes_is new moment passes (λ ok low. stands_now o g sound l story held h running refused v was_open ok) writes now new_held
@@ -105,12 +105,12 @@ module _ (n : Starts) (w : Rows) (sound : Bool) (l : EngineState) (story : Story
     swapped_state = recorded_state l x generation waits (ended claim.table claim.lease l.leases) adopted end
 
     -- Its device work is done: the lease has ended.
-    pub swapped_vault : Counts story new false → (bodies : List (List ℕ)) → (IsTrue sound → IsHeld new l.area bodies end x later) → ((i : Image) → new.told ≡ Some i → AreGone removed i) → (IsTrue sound → AreStocked later x) → end < new.len l.area
+    pub swapped_vault : Counts story new false → (bodies : List (List ℕ)) → (IsTrue sound → IsHeld new l.area bodies end x later) → ((i : Image) → new.told ≡ Some i → AreGone removed i) → (IsTrue sound → HaveSoundRows later x) → end < new.len l.area
         → generation ≡ l.generation → (told_by o.script (run_of o h) (closes_with outcome.Stands) ≡ Some (told_at (run_of o h).position (swapped_reply work)) → IsTrue sound → HasSources later (written_by o g.found (h ++ closes_with outcome.Stands ∷ [])) x)
         → IsPut (block (closes_with outcome.Stands) (Some (told_at at (swapped_reply work)))) now held new_held → IsVault o g sound swapped_state new new_held (h ++ closes_with outcome.Stands ∷ []) now (refused || false)
-    swapped_vault counts bodies holds gone_now stocked long same sources put =
+    swapped_vault counts bodies holds gone_now sound_rows long same sources put =
         recorded_vault o g sound l story held h running refused v (closes_with outcome.Stands) new new_held now (refused || false) made adopted adopts x waits removed clears only later gone recorded gone_now generation (ended claim.table claim.lease l.leases) end bodies (swapped_reply work)
-        on (λ ok is. holds ok) stocked (λ is. long) (subst (λ q. q ≤ l.leases.granted) (sym (ended_granted claim.table claim.lease l.leases)) (omega arith)) (same ∙ no_schemas work) (sources on.tells)
+        on (λ ok is. holds ok) sound_rows (λ is. long) (subst (λ q. q ≤ l.leases.granted) (sym (ended_granted claim.table claim.lease l.leases)) (omega arith)) (same ∙ no_schemas work) (sources on.tells)
       where
         on : KeepsInvariantTelling o sound (books_of later swapped_state) new new_held h (closes_with outcome.Stands) now (refused || false) (swapped_reply work)
         on = subst (λ b. KeepsInvariantTelling o sound b new new_held h (closes_with outcome.Stands) now (refused || false) (swapped_reply work)) (sym books_are)
@@ -144,12 +144,12 @@ module _ (n : Starts) (w : Rows) (sound : Bool) (l : EngineState) (story : Story
     recast_told = recast_reply (table_at (books_of v.rows l).bare.store claim.table)
 
     -- Its device work is done: the lease has ended.
-    pub recast_vault : Counts story new false → (bodies : List (List ℕ)) → (IsTrue sound → IsHeld new l.area bodies end x later) → ((i : Image) → new.told ≡ Some i → AreGone removed i) → (IsTrue sound → AreStocked later x) → end < new.len l.area
+    pub recast_vault : Counts story new false → (bodies : List (List ℕ)) → (IsTrue sound → IsHeld new l.area bodies end x later) → ((i : Image) → new.told ≡ Some i → AreGone removed i) → (IsTrue sound → HaveSoundRows later x) → end < new.len l.area
         → generation ≡ l.generation + 1 → (told_by o.script (run_of o h) (recasts_with outcome.Stands) ≡ Some (told_at (run_of o h).position recast_told) → IsTrue sound → HasSources later (written_by o g.found (h ++ recasts_with outcome.Stands ∷ [])) x)
         → IsPut (block (recasts_with outcome.Stands) (Some (told_at at recast_told))) now held new_held → IsVault o g sound recast_state new new_held (h ++ recasts_with outcome.Stands ∷ []) now (refused || false)
-    recast_vault counts bodies holds gone_now stocked long risen sources put =
+    recast_vault counts bodies holds gone_now sound_rows long risen sources put =
         recorded_vault o g sound l story held h running refused v (recasts_with outcome.Stands) new new_held now (refused || false) made adopted adopts x waits removed clears only later gone recorded gone_now generation (ended claim.table claim.lease l.leases) end bodies recast_told
-        on (λ ok is. holds ok) stocked (λ is. long) (subst (λ q. q ≤ l.leases.granted) (sym (ended_granted claim.table claim.lease l.leases)) (omega arith)) risen (sources on.tells)
+        on (λ ok is. holds ok) sound_rows (λ is. long) (subst (λ q. q ≤ l.leases.granted) (sym (ended_granted claim.table claim.lease l.leases)) (omega arith)) risen (sources on.tells)
       where
         on : KeepsInvariantTelling o sound (books_of later recast_state) new new_held h (recasts_with outcome.Stands) now (refused || false) recast_told
         on = subst (λ b. KeepsInvariantTelling o sound b new new_held h (recasts_with outcome.Stands) now (refused || false) recast_told) (sym books_are)

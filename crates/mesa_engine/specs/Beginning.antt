@@ -5,14 +5,14 @@ use Rattle.mesa_disk.specs.declared.area.Area.{Area}
 use Rattle.mesa_catalog.specs.mesa_history_spec.Claims.{HasRanges}
 use Rattle.mesa_lease.specs.Book.{begun}
 use Rattle.mesa_model.specs.Warehouse.{max_tables}
-use Rattle.mesa_catalog.specs.mesa_image_spec.Catalog.{Catalog}
-use Rattle.mesa_catalog.specs.mesa_image_spec.Held.{IsHeld}
-use Rattle.mesa_catalog.specs.mesa_image_spec.Shape.{IsCatalog}
-use Rattle.mesa_catalog.specs.mesa_image_spec.Sound.{AreStocked}
-use Rattle.mesa_catalog.specs.mesa_image_spec.Countable.{AreCounted}
-use Rattle.mesa_catalog.specs.mesa_image_spec.Ids.{HasOwnIds, named}
-use Rattle.mesa_catalog.specs.mesa_image_spec.Recordable.{AreRecordable}
-use Rattle.mesa_catalog.specs.mesa_image_spec.Sourced.{HasSources}
+use Rattle.mesa_catalog.specs.mesa_store_spec.Catalog.{Catalog}
+use Rattle.mesa_catalog.specs.mesa_store_spec.Held.{IsHeld}
+use Rattle.mesa_catalog.specs.mesa_store_spec.Shape.{IsCatalog}
+use Rattle.mesa_catalog.specs.mesa_store_spec.Sound.{HaveSoundRows}
+use Rattle.mesa_catalog.specs.mesa_store_spec.Countable.{AreCounted}
+use Rattle.mesa_catalog.specs.mesa_store_spec.Ids.{HasOwnIds, named}
+use Rattle.mesa_catalog.specs.mesa_store_spec.Recordable.{AreRecordable}
+use Rattle.mesa_catalog.specs.mesa_store_spec.Sourced.{HasSources}
 use Rattle.mesa_catalog.specs.mesa_history_spec.Rows.{Rows}
 use Rattle.mesa_commit.specs.Holding.{Among}
 use Rattle.mesa_invariant_spec.specs.Books.{AreBooksOf}
@@ -41,6 +41,6 @@ pub record IsBegun (n : Starts) (w : Rows) (sound : Bool) (c : Catalog) (area : 
   pub sink : held ≡ n.at_start
   pub holds : IsTrue sound → IsHeld story area bodies end c w
   pub found : IsTrue sound → AllFound (outset_of n w) [] story
-  pub stocked : IsTrue sound → AreStocked w c
+  pub sound_rows : IsTrue sound → HaveSoundRows w c
   pub read : IsTrue sound → IsRead story
   pub sourced : IsTrue sound → HasSources w (n.origin w).found c

@@ -6,7 +6,7 @@ use Rattle.mesa_model.specs.declared.commands.Script.{Script}
 use Rattle.mesa_model.specs.declared.entries.Entry.{Entry}
 use Rattle.mesa_catalog.specs.mesa_history_spec.Found.{kept_of}
 use Rattle.mesa_catalog.specs.mesa_history_spec.Run.{State}
-use Rattle.mesa_catalog.specs.mesa_image_spec.Sound.{StandsFor}
+use Rattle.mesa_catalog.specs.mesa_store_spec.Sound.{StandsFor}
 use Rattle.mesa_invariant_spec.specs.Invariant.{run_at}
 
 -- Where nothing closed the warehouse, a read gives an image that is sound and stands for the state behind a history.

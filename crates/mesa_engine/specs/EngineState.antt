@@ -4,11 +4,11 @@ use Rattle.mesa_disk.specs.declared.area.Area.{Area}
 use Rattle.mesa_lease.specs.Book.{Book}
 use Rattle.mesa_model.specs.Warehouse.{Table, Store, Pin}
 use Rattle.mesa_model.specs.Pins.{store_at}
-use Rattle.mesa_catalog.specs.mesa_image_spec.Catalog.{Stock, Catalog, ranges_of}
-use Rattle.mesa_catalog.specs.mesa_image_spec.Fitting.{shelved}
-use Rattle.mesa_catalog.specs.mesa_image_spec.Contents.{kept_of}
-use Rattle.mesa_catalog.specs.mesa_image_spec.Sound.{wants}
-use Rattle.mesa_catalog.specs.mesa_image_spec.Ids.{named}
+use Rattle.mesa_catalog.specs.mesa_store_spec.Catalog.{TableMeta, Catalog, ranges_of}
+use Rattle.mesa_catalog.specs.mesa_store_spec.Fitting.{live_files}
+use Rattle.mesa_catalog.specs.mesa_store_spec.Contents.{kept_of}
+use Rattle.mesa_catalog.specs.mesa_store_spec.Sound.{wants}
+use Rattle.mesa_catalog.specs.mesa_store_spec.Ids.{named}
 use Rattle.mesa_catalog.specs.mesa_history_spec.Rows.{Rows}
 use Rattle.mesa_commit.specs.declared.trash.Dropped.{Dropped}
 use Rattle.mesa_commit.specs.declared.trash.Hold.{Hold}
@@ -46,7 +46,7 @@ pub record EngineState : Type 0 where
 -- ---- what it stands for
 
 -- a table without its contents
-abbrev pub projection_of : Stock → Table
+abbrev pub projection_of : TableMeta → Table
 projection_of t = record { name = t.name; lineage = t.lineage; totals = t.totals; oldest = t.oldest; contents = [] }
 
 -- a catalogue's tables without their contents
@@ -54,7 +54,7 @@ abbrev pub projections : Catalog → Store
 projections c = record { tables = map projection_of c.tables; floor = c.floor }
 
 -- the same of one version alone
-abbrev pub projection_at : ℕ → Stock → Table
+abbrev pub projection_at : ℕ → TableMeta → Table
 projection_at version t = record { name = t.name; lineage = t.lineage; totals = t.totals; oldest = version; contents = [] }
 
 abbrev pub projections_at : ℕ → Catalog → Store
@@ -121,4 +121,4 @@ ids_held x = (x.0, named x.1)
 
 -- these files, with the bytes that their rows make
 abbrev pub files_held : Rows → Holder → PinFiles
-files_held rows x = (x.0, wants rows (shelved x.1))
+files_held rows x = (x.0, wants rows (live_files x.1))

@@ -3,7 +3,7 @@ use Rattle.std.specs.Prelude.{ℕ, ◌+◌, ◌<◌, ◌≤◌, ◌^◌, List, �
 use Rattle.std.specs.declared.alloc.Global.{Global}
 use Rattle.mesa_commit.specs.declared.trash.Hold.{Hold}
 use Rattle.mesa_record.specs.declared.record.Record.{Record}
-use Rattle.mesa_catalog.specs.mesa_image_spec.Fitting.{fits}
+use Rattle.mesa_catalog.specs.mesa_store_spec.Fitting.{fits}
 use Rattle.mesa_commit.specs.declared.trash.Dropped.{Dropped}
 use Rattle.mesa_catalog.specs.Kept.{Reserved}
 use Rattle.mesa_engine.specs.EngineState.{HeldPin, OpenQuery}

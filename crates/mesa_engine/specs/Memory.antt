@@ -4,7 +4,7 @@ use Rattle.mesa_disk.specs.declared.area.Area.{Area}
 use Rattle.mesa_lease.specs.Book.{Book, begun}
 use Rattle.mesa_model.specs.Warehouse.{max_tables}
 use Rattle.mesa_record.specs.declared.record.Record.{Record}
-use Rattle.mesa_catalog.specs.mesa_image_spec.Catalog.{Catalog}
+use Rattle.mesa_catalog.specs.mesa_store_spec.Catalog.{Catalog}
 use Rattle.mesa_commit.specs.declared.trash.Hold.{Hold}
 use Rattle.mesa_catalog.specs.Lookups.{generation_of}
 use Rattle.mesa_engine.specs.EngineState.{OpenQuery, EngineState, next_id}

@@ -1,12 +1,12 @@
 -- What a record does to a vault's memory.
 use Rattle.std.specs.Prelude.{◌≡◌, ℕ, ◌+◌, ◌<◌, ◌≤◌, List, ◌++◌, map, Option, Some}
 use Rattle.mesa_commit.specs.Turn.{made_ids}
-use Rattle.mesa_catalog.specs.mesa_image_spec.Catalog.{Catalog}
-use Rattle.mesa_catalog.specs.mesa_image_spec.Shape.{IsCatalog}
+use Rattle.mesa_catalog.specs.mesa_store_spec.Catalog.{Catalog}
+use Rattle.mesa_catalog.specs.mesa_store_spec.Shape.{IsCatalog}
 use Rattle.mesa_lease.specs.Book.{Book}
-use Rattle.mesa_catalog.specs.mesa_image_spec.Countable.{AreCounted}
-use Rattle.mesa_catalog.specs.mesa_image_spec.Ids.{HasOwnIds, named}
-use Rattle.mesa_catalog.specs.mesa_image_spec.Recordable.{AreRecordable}
+use Rattle.mesa_catalog.specs.mesa_store_spec.Countable.{AreCounted}
+use Rattle.mesa_catalog.specs.mesa_store_spec.Ids.{HasOwnIds, named}
+use Rattle.mesa_catalog.specs.mesa_store_spec.Recordable.{AreRecordable}
 use Rattle.mesa_catalog.specs.mesa_history_spec.Rows.{Rows}
 use Rattle.mesa_commit.specs.declared.trash.Dropped.{Dropped}
 use Rattle.mesa_commit.specs.declared.trash.Hold.{Hold}

@@ -10,14 +10,14 @@ use Rattle.mesa_catalog.specs.mesa_history_spec.Claims.{HasRanges}
 use Rattle.mesa_catalog.specs.mesa_history_spec.Law.{written_in}
 use Rattle.mesa_catalog.specs.mesa_history_spec.Run.{State, begins}
 use Rattle.mesa_catalog.specs.mesa_history_spec.Sources.{Written}
-use Rattle.mesa_catalog.specs.mesa_image_spec.Catalog.{Catalog}
-use Rattle.mesa_catalog.specs.mesa_image_spec.Held.{IsHeld}
-use Rattle.mesa_catalog.specs.mesa_image_spec.Shape.{IsCatalog}
-use Rattle.mesa_catalog.specs.mesa_image_spec.Sound.{AreStocked, StandsFor}
-use Rattle.mesa_catalog.specs.mesa_image_spec.Countable.{AreCounted as AreColumnsCounted}
-use Rattle.mesa_catalog.specs.mesa_image_spec.Ids.{HasOwnIds, named}
-use Rattle.mesa_catalog.specs.mesa_image_spec.Recordable.{AreRecordable}
-use Rattle.mesa_catalog.specs.mesa_image_spec.Sourced.{HasSources}
+use Rattle.mesa_catalog.specs.mesa_store_spec.Catalog.{Catalog}
+use Rattle.mesa_catalog.specs.mesa_store_spec.Held.{IsHeld}
+use Rattle.mesa_catalog.specs.mesa_store_spec.Shape.{IsCatalog}
+use Rattle.mesa_catalog.specs.mesa_store_spec.Sound.{HaveSoundRows, StandsFor}
+use Rattle.mesa_catalog.specs.mesa_store_spec.Countable.{AreCounted as AreColumnsCounted}
+use Rattle.mesa_catalog.specs.mesa_store_spec.Ids.{HasOwnIds, named}
+use Rattle.mesa_catalog.specs.mesa_store_spec.Recordable.{AreRecordable}
+use Rattle.mesa_catalog.specs.mesa_store_spec.Sourced.{HasSources}
 use Rattle.mesa_catalog.specs.mesa_history_spec.Rows.{Rows}
 use Rattle.mesa_commit.specs.Filed.{AreFresh, AreNamedOrWait, PinFiles}
 use Rattle.mesa_commit.specs.Holding.{AreFiled, ids_of}
@@ -53,8 +53,8 @@ abbrev pub AreShaped : (ℕ → Catalog) → EngineState → Type 0
 AreShaped seen l = AllByRecursion (λ (x : Holder). IsCatalog x.1) (holders seen l)
 
 -- The rows of these catalogues' files are such as a sound store has.
-abbrev pub AllStocked : Rows → (ℕ → Catalog) → EngineState → Type 0
-AllStocked rows seen l = AreStocked rows l.catalogue × AllByRecursion (λ (x : Holder). AreStocked rows x.1) (holders seen l)
+abbrev pub AllHaveSoundRows : Rows → (ℕ → Catalog) → EngineState → Type 0
+AllHaveSoundRows rows seen l = HaveSoundRows rows l.catalogue × AllByRecursion (λ (x : Holder). HaveSoundRows rows x.1) (holders seen l)
 
 -- A pin's version is one that all tables of its copy of the catalogue have.
 abbrev pub IsVersioned : HeldPin → Type 0
@@ -93,7 +93,7 @@ pub record IsVault (o : Outset) (g : Origin) (sound : Bool) (l : EngineState) (s
   pub ready : l.closed ≡ None → IsReady l story
   pub read : IsTrue sound → IsRead story
   pub there : IsTrue sound → AreThere rows seen l story
-  pub stocked : IsTrue sound → AllStocked rows seen l
+  pub sound_rows : IsTrue sound → AllHaveSoundRows rows seen l
   pub sourced : IsTrue sound → HasSources rows (written_by o g.found h) l.catalogue
 
 -- ---- a family of starts

@@ -1,7 +1,7 @@
 // The record of a turn: memory first, then a change that takes none and can't fail.
 ghost use Rattle.std.specs.Prelude.{◌≡◌, ◌+◌, ◌<◌, ◌^◌, length, IsTrue, IfOk, OnErr, OnOk, None, Some};
-ghost use Rattle.mesa_catalog.specs.mesa_image_spec.Catalog.{applied};
-ghost use Rattle.mesa_catalog.specs.mesa_image_spec.Fitting.{fits};
+ghost use Rattle.mesa_catalog.specs.mesa_store_spec.Catalog.{applied};
+ghost use Rattle.mesa_catalog.specs.mesa_store_spec.Fitting.{fits};
 ghost use Rattle.mesa_catalog.specs.Lookups.{generation_of, turns_generation};
 ghost use Rattle.mesa_engine.specs.Recorded.{failed_state, left_by, recorded_state, removed_by};
 ghost use Rattle.mesa_engine.specs.Memory.{HasRoomFor, with_state};

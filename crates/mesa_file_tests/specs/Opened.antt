@@ -1,15 +1,15 @@
 -- Files that were opened to be merged.
 use Rattle.std.specs.Prelude.{◌≡◌, ℕ, List, [], ◌∷◌, Option, None}
 use Rattle.std.specs.List.{AllByRecursion}
-use Rattle.mesa_tasks.specs.mesa_file.declared.file_ref.FileRef.{FileRef}
+use Rattle.mesa_open_files.specs.mesa_file.declared.file_ref.FileRef.{FileRef}
 use Rattle.mesa_schema.specs.Changes.{Lineage, columns_of}
 use Rattle.mesa_delta.specs.declared.input.Input.{Input}
 use Rattle.mesa_scan.specs.Cursors.{IsInput}
-use Rattle.mesa_tasks.specs.Inputs.{lineage_of}
-use Rattle.mesa_tasks.specs.Spares.{IsReferredBy}
-use Rattle.mesa_tasks.specs.Tasks.{AreTaskViews}
-use Rattle.mesa_tasks.specs.declared.merging.Spare.{Spare}
-use Rattle.mesa_tasks.specs.declared.merging.TaskView.{TaskView}
+use Rattle.mesa_open_files.specs.Inputs.{lineage_of}
+use Rattle.mesa_open_files.specs.Spares.{IsReferredBy}
+use Rattle.mesa_open_files.specs.Tasks.{AreTaskViews}
+use Rattle.mesa_open_files.specs.declared.merging.Spare.{Spare}
+use Rattle.mesa_open_files.specs.declared.merging.TaskView.{TaskView}
 
 -- An input is of the file of this reference, which was written at the first epoch of this table.
 pub record IsOpened {R : Type 0} (bytes : R → Option (List ℕ)) (file : FileRef) (l : Lineage) (i : Input R) : Type 0 where

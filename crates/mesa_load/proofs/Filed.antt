@@ -1,11 +1,11 @@
 -- Parts that get their files one after another.
 use Rattle.std.proofs.Common.{◌≡◌, ℕ, ◌+◌, List, [], ◌∷◌, ◌++◌, Bool, true, false, length, ap, flat_map, refl, sym, subst, ◌∙◌, arith, append_assoc, append-nil, Option}
 use Rattle.std.proofs.lemmas.List.{map-append}
-use Rattle.mesa_tasks.specs.Batches.{AreParts, HasFiles, IsPart, Share, batch_ids, files_ids, made_ids, view_ids}
-use Rattle.mesa_tasks.specs.Made.{AreMadeViews, Content, IsMadeFile}
-use Rattle.mesa_tasks.specs.declared.made.MadeFile.{MadeFile}
-use Rattle.mesa_tasks.specs.declared.made.MadeView.{MadeView}
-use Rattle.mesa_tasks.specs.declared.prepared.PreparedPart.{PreparedPart}
+use Rattle.mesa_open_files.specs.Batches.{AreParts, HasFiles, IsPart, Share, batch_ids, files_ids, made_ids, view_ids}
+use Rattle.mesa_open_files.specs.Made.{AreMadeViews, Content, IsMadeFile}
+use Rattle.mesa_open_files.specs.declared.made.MadeFile.{MadeFile}
+use Rattle.mesa_open_files.specs.declared.made.MadeView.{MadeView}
+use Rattle.mesa_open_files.specs.declared.prepared.PreparedPart.{PreparedPart}
 use Rattle.mesa_load.specs.Plans.{AreMade, ArePlanned, HaveFiles, contents_of}
 use Rattle.mesa_load.specs.declared.planning.Planned.{Planned}
 

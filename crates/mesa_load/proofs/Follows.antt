@@ -14,8 +14,8 @@ use Rattle.mesa_schema.specs.Columns.{Columns, aggs_of}
 use Rattle.mesa_schema.specs.Folded.{row_combined, combined_from}
 use Rattle.mesa_schema.specs.Rows.{AreRowsOf, IsRowOf}
 use Rattle.mesa_batch.specs.Totals.{abs_total, sum_bound}
-use Rattle.mesa_tasks.specs.mesa_block.Rows.{Rise}
-use Rattle.mesa_tasks.specs.mesa_block.Spelling.{key_of}
+use Rattle.mesa_open_files.specs.mesa_block.Rows.{Rise}
+use Rattle.mesa_open_files.specs.mesa_block.Spelling.{key_of}
 use Rattle.mesa_delta.specs.Summary.{all_noted, aggregates, values_of, AllCombine}
 use Rattle.mesa_delta.specs.Writing.{MayFollow}
 use Rattle.mesa_load.specs.Filing.{AreFileRows}

@@ -2,26 +2,26 @@
 use Rattle.std.proofs.Common.{◌≡◌, ℕ, ◌≤◌, List, [], ◌∷◌, ◌++◌, map, Ok, Err, sym, ap, subst, ◌∙◌, arith, append_assoc}
 use Rattle.std.specs.Prelude.{Result, IfErr, OnOk}
 use Rattle.std.proofs.lemmas.List.{map-append}
-use Rattle.mesa_tasks.specs.declared.made.MadeFile.{MadeFile}
-use Rattle.mesa_tasks.specs.declared.prepared.LoadError.{LoadError}
-use Rattle.mesa_tasks.specs.declared.prepared.LoadError.TheVariants as load
+use Rattle.mesa_open_files.specs.declared.made.MadeFile.{MadeFile}
+use Rattle.mesa_open_files.specs.declared.prepared.LoadError.{LoadError}
+use Rattle.mesa_open_files.specs.declared.prepared.LoadError.TheVariants as load
 use Rattle.mesa_load.specs.Collected.{IsKept, IsUnwritten, finished, graver}
-use Rattle.mesa_load.specs.declared.building.Progress.{Progress}
-use Rattle.mesa_load.specs.declared.building.Progress.TheVariants as progress
+use Rattle.mesa_load.specs.declared.building.WriteState.{WriteState}
+use Rattle.mesa_load.specs.declared.building.WriteState.TheVariants as progress
 
 module _ {M T : Type 0} where
-  one_more : (written : List (Progress M T)) (files more : List (MadeFile M)) (file : Progress M T) (left : List (Progress M T))
+  one_more : (written : List (WriteState M T)) (files more : List (MadeFile M)) (file : WriteState M T) (left : List (WriteState M T))
       → written ≡ map finished files ++ file ∷ left → IsKept files file more → written ≡ map finished more ++ left
   one_more written files more (progress.Finished made) left so_far kept =
       so_far
       ∙ sym (append_assoc (map finished files) (finished made ∷ []) left)
-      ∙ ap (λ (fs : List (Progress M T)). fs ++ left) (sym (ap (map finished) kept ∙ map-append finished files (made ∷ [])))
+      ∙ ap (λ (fs : List (WriteState M T)). fs ++ left) (sym (ap (map finished) kept ∙ map-append finished files (made ∷ [])))
   one_more written files more (progress.Failed error draft) left so_far kept = absurd kept
   one_more written files more (progress.Begun id draft) left so_far kept = absurd kept
   one_more written files more progress.Lent left so_far kept = absurd kept
 
   -- the files with one more are those of one draft more
-  pub kept_more : {A : Type 0} (written : List (Progress M T)) (so_far next : Result A LoadError) (files more : List (MadeFile M)) (file : Progress M T) (left : List (Progress M T))
+  pub kept_more : {A : Type 0} (written : List (WriteState M T)) (so_far next : Result A LoadError) (files more : List (MadeFile M)) (file : WriteState M T) (left : List (WriteState M T))
       → OnOk so_far (written ≡ map finished files ++ file ∷ left) → OnOk next (IsKept files file more) → OnOk (graver so_far next) (written ≡ map finished more ++ left)
   kept_more written (Err (load.Batch r)) next files more file left was kept = tt
   kept_more written (Err load.Draft) next files more file left was kept = tt

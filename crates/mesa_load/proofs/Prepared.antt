@@ -6,11 +6,11 @@ use Rattle.mesa_batch.specs.declared.words.BatchError.{BatchError}
 use Rattle.mesa_batch.specs.Batch.{Placed}
 use Rattle.mesa_batch.specs.Gathered.{Batched}
 use Rattle.mesa_batch.specs.Glance.{Sight}
-use Rattle.mesa_tasks.specs.Batches.{AreParts, Share, is_over, shares}
-use Rattle.mesa_tasks.specs.Made.{Content}
-use Rattle.mesa_tasks.specs.declared.made.MadeFile.{MadeFile}
-use Rattle.mesa_tasks.specs.declared.prepared.PreparedPart.{PreparedPart}
-use Rattle.mesa_load.specs.Jobs.{content_in}
+use Rattle.mesa_open_files.specs.Batches.{AreParts, Share, is_over, shares}
+use Rattle.mesa_open_files.specs.Made.{Content}
+use Rattle.mesa_open_files.specs.declared.made.MadeFile.{MadeFile}
+use Rattle.mesa_open_files.specs.declared.prepared.PreparedPart.{PreparedPart}
+use Rattle.mesa_load.specs.FilesToWrite.{content_in}
 use Rattle.mesa_load.specs.Plans.{ArePlanned, HaveFiles, IsBatched, IsPlan, IsRead, contents_of}
 use Rattle.mesa_load.specs.declared.planning.Plan.{Plan}
 

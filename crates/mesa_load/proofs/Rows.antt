@@ -18,8 +18,8 @@ use Rattle.mesa_schema.specs.Folded.{folded, folded_at, keys_of, regrouped, rows
 use Rattle.mesa_schema.specs.Rows.{keys_rise}
 use Rattle.mesa_schema.specs.Views.{view_key_places, view_rows, view_value_places}
 use Rattle.mesa_batch.specs.Totals.{abs_total, abs_totals, sum_bound, sum_places}
-use Rattle.mesa_tasks.specs.mesa_block.Rows.{Rise}
-use Rattle.mesa_tasks.specs.mesa_block.Spelling.{key_of}
+use Rattle.mesa_open_files.specs.mesa_block.Rows.{Rise}
+use Rattle.mesa_open_files.specs.mesa_block.Spelling.{key_of}
 use Rattle.mesa_answer.specs.Answering.{KeepsSums}
 
 -- ---- some rows

@@ -16,9 +16,9 @@ use Rattle.mesa_batch.specs.Batch.{Placed, columns_at, rows_for}
 use Rattle.mesa_batch.specs.Gathered.{Batched, columns_for, rows_at}
 use Rattle.mesa_batch.specs.Glance.{Known, Sight, columns_in, tables_of}
 use Rattle.mesa_batch.specs.Totals.{abs_totals, capped, sum_bound}
-use Rattle.mesa_tasks.specs.Batches.{Share, is_over, share_of, shares_from}
+use Rattle.mesa_open_files.specs.Batches.{Share, is_over, share_of, shares_from}
 use Rattle.mesa_load.specs.Filing.{AreFileRows}
-use Rattle.mesa_load.specs.Jobs.{IsFit, content_in}
+use Rattle.mesa_load.specs.FilesToWrite.{IsFit, content_in}
 use Rattle.mesa_load.specs.Plans.{ArePlanned, IsBatched, IsPlan, IsPlanned, contents_of, table_contents}
 use Rattle.mesa_load.specs.declared.planning.Plan.{Plan}
 use Rattle.mesa_load.specs.declared.planning.Planned.{Planned}

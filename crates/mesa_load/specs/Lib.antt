@@ -1,5 +1,5 @@
 pub mod Filing
-pub mod Jobs
+pub mod FilesToWrite
 pub mod Collected
 pub mod Plans
 pub mod Preparing

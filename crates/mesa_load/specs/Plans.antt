@@ -12,10 +12,10 @@ use Rattle.mesa_batch.specs.declared.words.BatchError.{BatchError}
 use Rattle.mesa_batch.specs.Gathered.{Batched, rows_at}
 use Rattle.mesa_batch.specs.Glance.{Known, Sight, columns_in, tables_of}
 use Rattle.mesa_batch.specs.Totals.{abs_totals, capped}
-use Rattle.mesa_tasks.specs.Made.{Content, IsMadeFile, content_of}
-use Rattle.mesa_tasks.specs.Batches.{Share, is_over, shares_from}
-use Rattle.mesa_tasks.specs.declared.made.MadeFile.{MadeFile}
-use Rattle.mesa_load.specs.Jobs.{IsFit, content_in}
+use Rattle.mesa_open_files.specs.Made.{Content, IsMadeFile, content_of}
+use Rattle.mesa_open_files.specs.Batches.{Share, is_over, shares_from}
+use Rattle.mesa_open_files.specs.declared.made.MadeFile.{MadeFile}
+use Rattle.mesa_load.specs.FilesToWrite.{IsFit, content_in}
 use Rattle.mesa_load.specs.declared.planning.Plan.{Plan}
 use Rattle.mesa_load.specs.declared.planning.Planned.{Planned}
 

@@ -4,10 +4,10 @@ ghost use Rattle.std.specs.List.{AllByRecursion};
 ghost use Rattle.std.specs.Thread.{IsSend};
 ghost use Rattle.mesa_schema.specs.Rows.{AreRowsOf};
 ghost use Rattle.mesa_batch.specs.Gathered.{rows_at};
-ghost use Rattle.mesa_load.specs.declared.building.Job.{Job as AnyJob};
+ghost use Rattle.mesa_load.specs.declared.building.FileToWrite.{FileToWrite as AnyFileToWrite};
 ghost use Rattle.mesa_load.specs.Collected.{HasCause, IsBegun};
 ghost use Rattle.mesa_load.specs.Filing.{AreFileRows, file_rows};
-ghost use Rattle.mesa_load.specs.Jobs.{AreDone, HasFiled, HaveIds, HasWritten, IsFit, IsReady, ProgressOf, content_in, view_in};
+ghost use Rattle.mesa_load.specs.FilesToWrite.{AreDone, HasFiled, HaveIds, HasWritten, IsFit, IsReady, ProgressOf, content_in, view_in};
 ghost use Rattle.mesa_schema.specs.Changes.{columns_of};
 ghost use Rattle.mesa_schema.specs.Views.{view_columns, view_rows};
 
@@ -19,7 +19,7 @@ use mesa_delta::WriteError;
 use mesa_disk::{Draft, Made};
 use mesa_file::FileId;
 use mesa_schema::{Evolving, RowList, Schema, groups_rise};
-use mesa_tasks::MadeFile;
+use mesa_open_files::MadeFile;
 use std::alloc::{AllocError, Global};
 use std::thread::Threads;
 use std::{mem, thread};
@@ -29,7 +29,7 @@ const THREADS: usize = 8;
 
 /// A file of a batch that is to be written: of a table's rows, or of one of its views over them.
 #[derive(Drop)]
-pub(crate) struct Job<'a> {
+pub(crate) struct FileToWrite<'a> {
     pub evolving: &'a Evolving,
     pub view: Option<u8>,
     pub batch: &'a Batch,
@@ -37,7 +37,7 @@ pub(crate) struct Job<'a> {
 }
 
 /// How far a file is.
-pub(crate) enum Progress<M, T> {
+pub(crate) enum WriteState<M, T> {
     /// Its draft, which will have this id, is empty.
     Begun(FileId, T),
     Finished(MadeFile<M>),
@@ -53,7 +53,7 @@ fn write_rows<M: Made, T: Draft<M>>(
     draft: T,
     schema: &Schema,
     rows: FileRows,
-) -> Progress<M, T>
+) -> WriteState<M, T>
     requires empty { (bytes : List ℕ) → T.bytes draft ≡ Some bytes → bytes ≡ [] }
     requires own { T.id_of draft ≡ id }
     requires some { 0 < length (file_rows rows) }
@@ -61,8 +61,8 @@ fn write_rows<M: Made, T: Draft<M>>(
     ensures { HasWritten M.bytes M.id_of T.faults (record { columns = schema.now; rows = file_rows rows.entry }) id draft result }
 {
     match write_file(alloc, draft, id, schema, rows) {
-        Ok(file) => Progress::Finished(file),
-        Err((error, draft)) => Progress::Failed(error, draft),
+        Ok(file) => WriteState::Finished(file),
+        Err((error, draft)) => WriteState::Failed(error, draft),
     }
 }
 
@@ -91,10 +91,10 @@ fn view_content(
 // Writes the file of a job through this draft.
 fn write_draft<M: Made, T: Draft<M>>(
     alloc: Global,
-    job: &Job,
+    job: &FileToWrite,
     id: FileId,
     draft: T,
-) -> Progress<M, T>
+) -> WriteState<M, T>
     requires empty { (bytes : List ℕ) → T.bytes draft ≡ Some bytes → bytes ≡ [] }
     requires own { T.id_of draft ≡ id }
     requires fit { IsFit job.now }
@@ -113,31 +113,31 @@ fn write_draft<M: Made, T: Draft<M>>(
             let rows = FileRows::Listed(found.as_slice());
             write_rows(alloc, id, draft, &schema, rows)
         }
-        Err(_) => Progress::Failed(WriteError::Memory, draft),
+        Err(_) => WriteState::Failed(WriteError::Memory, draft),
     }
 }
 
 // Writes the file of a job.
-fn write_job<M: Made, T: Draft<M>>(alloc: Global, job: &Job, progress: &mut Progress<M, T>)
+fn write_job<M: Made, T: Draft<M>>(alloc: Global, job: &FileToWrite, progress: &mut WriteState<M, T>)
     requires { IsReady T.bytes T.id_of job.now progress.old }
     ensures { HasFiled M.bytes M.id_of T.faults job.now progress.old progress.new }
 {
-    let before = mem::replace(progress, Progress::Lent);
-    let Progress::Begun(id, draft) = before else {
+    let before = mem::replace(progress, WriteState::Lent);
+    let WriteState::Begun(id, draft) = before else {
         unreachable!()
     };
     let after = write_draft(alloc, job, id, draft);
     let lent = mem::replace(progress, after);
-    let Progress::Lent = lent else { unreachable!() };
+    let WriteState::Lent = lent else { unreachable!() };
 }
 
 /// Writes the files of all jobs through these drafts, in a few threads.
 pub(crate) fn write_all<R: Threads + Sync, M: Made, T: Draft<M>>(
     rt: &R,
     alloc: Global,
-    jobs: &[Job],
-    mut files: Vec<Progress<M, T>>,
-) -> Vec<Progress<M, T>>
+    jobs: &[FileToWrite],
+    mut files: Vec<WriteState<M, T>>,
+) -> Vec<WriteState<M, T>>
     requires each { length files.items ≡ length jobs.now }
     requires begun { AllByRecursion (IsBegun T.bytes T.id_of T.faults) files.items }
     requires fit { AllByRecursion IsFit jobs.now }
@@ -154,16 +154,16 @@ pub(crate) fn write_all<R: Threads + Sync, M: Made, T: Draft<M>>(
 fn write_jobs<R: Threads + Sync, M: Made, T: Draft<M>>(
     rt: &R,
     alloc: Global,
-    jobs: &[Job],
-    files: &mut [Progress<M, T>],
+    jobs: &[FileToWrite],
+    files: &mut [WriteState<M, T>],
 )
     requires each { length files.old ≡ length jobs.now }
-    requires ready { (i : ℕ) (j : AnyJob) (p : ProgressOf M T) → i < length jobs.now → IsReady T.bytes T.id_of (slice_index_or jobs.now i j) (slice_index_or files.old i p) }
-    ensures { (i : ℕ) (j : AnyJob) (p : ProgressOf M T) → i < length jobs.now → HasFiled M.bytes M.id_of T.faults (slice_index_or jobs.now i j) (slice_index_or files.old i p) (slice_index_or files.new i p) }
+    requires ready { (i : ℕ) (j : AnyFileToWrite) (p : ProgressOf M T) → i < length jobs.now → IsReady T.bytes T.id_of (slice_index_or jobs.now i j) (slice_index_or files.old i p) }
+    ensures { (i : ℕ) (j : AnyFileToWrite) (p : ProgressOf M T) → i < length jobs.now → HasFiled M.bytes M.id_of T.faults (slice_index_or jobs.now i j) (slice_index_or files.old i p) (slice_index_or files.new i p) }
 {
-    let write = |i: usize, file: &mut Progress<M, T>|
-        requires { IsSend M.row × IsSend T.row × (i < length jobs.now) × ((j : AnyJob) → IsReady T.bytes T.id_of (slice_index_or jobs.now i j) file.now) }
-        ensures { (j : AnyJob) → HasFiled M.bytes M.id_of T.faults (slice_index_or jobs.entry.now i j) file.entry.now file.exit.now }
+    let write = |i: usize, file: &mut WriteState<M, T>|
+        requires { IsSend M.row × IsSend T.row × (i < length jobs.now) × ((j : AnyFileToWrite) → IsReady T.bytes T.id_of (slice_index_or jobs.now i j) file.now) }
+        ensures { (j : AnyFileToWrite) → HasFiled M.bytes M.id_of T.faults (slice_index_or jobs.entry.now i j) file.entry.now file.exit.now }
     { write_job(alloc, &jobs[i], file) };
     thread::for_each_mut(rt, files, THREADS, &write);
 }

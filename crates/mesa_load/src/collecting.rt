@@ -3,15 +3,15 @@ ghost use Rattle.std.specs.Prelude.{◌≡◌, ◌≤◌, ◌<◌, ◌+◌, [], 
 ghost use Rattle.std.specs.List.{AllByRecursion};
 ghost use Rattle.mesa_load.specs.Collected.{HasCause, IsKept, IsUnwritten, finished, graver as graver_of};
 
-use crate::building::Progress;
+use crate::building::WriteState;
 use mesa_disk::{Bench, Made};
-use mesa_tasks::{LoadError, MadeFile};
+use mesa_open_files::{LoadError, MadeFile};
 use std::collections::VecDeque;
 
 /// The files of a batch in their order, in this list, which has room for them; or why there are none, a draft's fault before want of memory. Each draft that isn't finished is given back.
 pub(crate) fn collect<M: Made, B: Bench<M>>(
     bench: &mut B,
-    written: Vec<Progress<M, B::Draft>>,
+    written: Vec<WriteState<M, B::Draft>>,
     mut files: Vec<MadeFile<M>>,
 ) -> Result<Vec<MadeFile<M>>, LoadError>
     requires told { AllByRecursion (HasCause B.Draft.faults) written.items }
@@ -53,7 +53,7 @@ fn graver(first: Result<(), LoadError>, next: Result<(), LoadError>) -> Result<(
 fn keep<M: Made, B: Bench<M>>(
     bench: &mut B,
     files: &mut Vec<MadeFile<M>>,
-    file: Progress<M, B::Draft>,
+    file: WriteState<M, B::Draft>,
 ) -> Result<(), LoadError>
     requires told { HasCause B.Draft.faults file }
     requires room { length files.old.items < vec_capacity files.old }
@@ -65,18 +65,18 @@ fn keep<M: Made, B: Bench<M>>(
     ensures refused { IfErr result (IsUnwritten (B.faults bench.old) (B.faults bench.new)) }
 {
     match file {
-        Progress::Finished(made) => {
+        WriteState::Finished(made) => {
             files.push_reserved(made);
             Ok(())
         }
-        Progress::Failed(error, draft) => {
+        WriteState::Failed(error, draft) => {
             bench.spoil(draft);
             Err(LoadError::from(error))
         }
-        Progress::Begun(_, draft) => {
+        WriteState::Begun(_, draft) => {
             bench.spoil(draft);
             Err(LoadError::Memory)
         }
-        Progress::Lent => Err(LoadError::Memory),
+        WriteState::Lent => Err(LoadError::Memory),
     }
 }

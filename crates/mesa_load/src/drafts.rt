@@ -2,12 +2,12 @@
 ghost use Rattle.std.specs.Prelude.{◌≡◌, ◌≤◌, ℕ, length, IfOk, IfErr, OnOk};
 ghost use Rattle.std.specs.List.{AllByRecursion};
 ghost use Rattle.mesa_load.specs.Collected.{IsBegun, IsUnwritten};
-ghost use Rattle.mesa_load.specs.Jobs.{HaveIds};
-ghost use Rattle.mesa_tasks.specs.Serials.{after_drafts, next_ids};
+ghost use Rattle.mesa_load.specs.FilesToWrite.{HaveIds};
+ghost use Rattle.mesa_open_files.specs.Serials.{after_drafts, next_ids};
 
-use crate::building::Progress;
+use crate::building::WriteState;
 use mesa_disk::{Bench, DraftError, Made};
-use mesa_tasks::{LoadError, Serials};
+use mesa_open_files::{LoadError, Serials};
 use std::alloc::Global;
 
 /// So many empty drafts. Where one can't be made, those before it are given back.
@@ -16,7 +16,7 @@ pub(crate) fn open_drafts<M: Made, B: Bench<M>>(
     bench: &mut B,
     ids: &mut Serials,
     count: usize,
-) -> Result<Vec<Progress<M, B::Draft>>, LoadError>
+) -> Result<Vec<WriteState<M, B::Draft>>, LoadError>
     ensures count { IfOk result (λ drafts. length drafts.items ≡ count) }
     ensures begun { IfOk result (λ drafts. AllByRecursion (IsBegun B.Draft.bytes B.Draft.id_of B.Draft.faults) drafts.items) }
     ensures numbered { IfOk result (λ drafts. HaveIds M.id_of (next_ids count ids.old) drafts.items × (ids.new ≡ after_drafts count ids.old)) }
@@ -31,7 +31,7 @@ pub(crate) fn open_drafts<M: Made, B: Bench<M>>(
     'drafts: for _ in 0..count {
         let id = ids.draw();
         match bench.draft(id) {
-            Ok(draft) => drafts.push_reserved(Progress::Begun(id, draft)),
+            Ok(draft) => drafts.push_reserved(WriteState::Begun(id, draft)),
             Err(DraftError::Failed) => {
                 spoil_all(bench, drafts);
                 return Err(LoadError::Draft);
@@ -46,7 +46,7 @@ pub(crate) fn open_drafts<M: Made, B: Bench<M>>(
 }
 
 // Gives back drafts that are empty.
-fn spoil_all<M: Made, B: Bench<M>>(bench: &mut B, mut files: Vec<Progress<M, B::Draft>>)
+fn spoil_all<M: Made, B: Bench<M>>(bench: &mut B, mut files: Vec<WriteState<M, B::Draft>>)
     requires { AllByRecursion (IsBegun B.Draft.bytes B.Draft.id_of B.Draft.faults) files.items }
     ensures { B.faults bench.new ≡ B.faults bench.old }
 {
@@ -57,14 +57,14 @@ fn spoil_all<M: Made, B: Bench<M>>(bench: &mut B, mut files: Vec<Progress<M, B::
 }
 
 // Gives back the empty draft of a file.
-fn spoil<M: Made, B: Bench<M>>(bench: &mut B, file: Progress<M, B::Draft>)
+fn spoil<M: Made, B: Bench<M>>(bench: &mut B, file: WriteState<M, B::Draft>)
     requires { IsBegun B.Draft.bytes B.Draft.id_of B.Draft.faults file }
     ensures { B.faults bench.new ≡ B.faults bench.old }
 {
     match file {
-        Progress::Begun(_, draft) => bench.spoil(draft),
-        Progress::Failed(_, draft) => bench.spoil(draft),
-        Progress::Finished(_) => {}
-        Progress::Lent => {}
+        WriteState::Begun(_, draft) => bench.spoil(draft),
+        WriteState::Failed(_, draft) => bench.spoil(draft),
+        WriteState::Finished(_) => {}
+        WriteState::Lent => {}
     }
 }

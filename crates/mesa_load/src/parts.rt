@@ -1,12 +1,12 @@
 // The parts of a batch, with their files.
 ghost use Rattle.std.specs.Prelude.{◌≡◌, ◌++◌, List, Bool, length, flat_map, IfOk};
-ghost use Rattle.mesa_tasks.specs.Batches.{AreParts, HasFiles, Share as AnyShare, batch_ids, files_ids, made_ids, view_ids};
-ghost use Rattle.mesa_tasks.specs.Made.{AreMadeViews, Content as AnyContent};
+ghost use Rattle.mesa_open_files.specs.Batches.{AreParts, HasFiles, Share as AnyShare, batch_ids, files_ids, made_ids, view_ids};
+ghost use Rattle.mesa_open_files.specs.Made.{AreMadeViews, Content as AnyContent};
 ghost use Rattle.mesa_load.specs.Plans.{AreMade, ArePlanned, HaveFiles, contents_of};
 
 use crate::planning::Planned;
 use mesa_disk::Made;
-use mesa_tasks::{MadeFile, MadeFiles, MadeView, PreparedPart};
+use mesa_open_files::{MadeFile, MadeFiles, MadeView, PreparedPart};
 use std::alloc::{AllocError, Global};
 use std::collections::VecDeque;
 

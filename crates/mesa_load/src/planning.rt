@@ -6,10 +6,10 @@ ghost use Rattle.mesa_batch.specs.Batch.{Placed as PlacedRow};
 ghost use Rattle.mesa_batch.specs.Gathered.{rows_at};
 ghost use Rattle.mesa_batch.specs.Totals.{sum_bound};
 ghost use Rattle.mesa_load.specs.Filing.{AreFileRows};
-ghost use Rattle.mesa_load.specs.Jobs.{IsFit, content_in};
+ghost use Rattle.mesa_load.specs.FilesToWrite.{IsFit, content_in};
 ghost use Rattle.mesa_load.specs.Plans.{IsBatched, IsPlan, table_contents};
 
-use crate::building::Job;
+use crate::building::FileToWrite;
 use mesa_batch::{Batch, Glance, OVER_BOUND};
 use mesa_schema::{Evolving, Totals, folds_by_key};
 use std::alloc::{AllocError, Global};
@@ -27,7 +27,7 @@ pub(crate) struct Planned {
 #[derive(Drop)]
 pub(crate) struct Plan<'a> {
     pub parts: Vec<Planned>,
-    pub jobs: Vec<Job<'a>>,
+    pub jobs: Vec<FileToWrite<'a>>,
     /// A total of the batch passes the bound by itself: it is to have no file.
     pub over: bool,
 }
@@ -90,7 +90,7 @@ fn is_over(totals: &Totals) -> bool
 
 // Adds the files of a table with these rows: its own, and then its views'.
 fn add_jobs<'a>(
-    jobs: &mut Vec<Job<'a>>,
+    jobs: &mut Vec<FileToWrite<'a>>,
     evolving: &'a Evolving,
     batch: &'a Batch,
     table: u16,
@@ -99,14 +99,14 @@ fn add_jobs<'a>(
     ensures contents { OnOk result (map content_in jobs.new.items ≡ map content_in jobs.old.items ++ table_contents evolving.now (rows_at table batch.now)) }
     ensures fit { OnOk result (AreFileRows (columns_of evolving.now) (rows_at table batch.now) → AllByRecursion IsFit jobs.old.items → AllByRecursion IsFit jobs.new.items) }
 {
-    jobs.push(Job {
+    jobs.push(FileToWrite {
         evolving,
         view: None,
         batch,
         table,
     })?;
     'views: for view in 0..evolving.views() {
-        jobs.push(Job {
+        jobs.push(FileToWrite {
             evolving,
             view: Some(view),
             batch,

@@ -8,7 +8,7 @@ ghost use Rattle.mesa_schema.specs.Views.{view_columns, view_rows};
 ghost use Rattle.mesa_batch.specs.Gathered.{rows_at};
 ghost use Rattle.mesa_answer.specs.Answering.{KeepsSums};
 ghost use Rattle.mesa_answer.specs.Gathered.{HasPut, wanted_of};
-ghost use Rattle.mesa_load.specs.Jobs.{view_in};
+ghost use Rattle.mesa_load.specs.FilesToWrite.{view_in};
 
 use mesa_answer::{GroupError, Groups, Regrouping};
 use mesa_batch::Batch;

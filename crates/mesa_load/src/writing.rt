@@ -1,19 +1,19 @@
 // One file of rows.
 ghost use Rattle.std.specs.Prelude.{◌≡◌, ◌<◌, ℕ, List, [], Some, length, IfOk, IfErr, OnOk};
-ghost use Rattle.mesa_tasks.specs.mesa_io.Causes.{HasFaultCause};
+ghost use Rattle.mesa_open_files.specs.mesa_io.Causes.{HasFaultCause};
 ghost use Rattle.mesa_delta.specs.declared.error.WriteError.TheVariants.{Draft as DraftFault};
 ghost use Rattle.mesa_delta.specs.Writing.{HasTaken, columns_of, draft_of, id_of};
 ghost use Rattle.mesa_schema.specs.declared.rows.Row.{Row as AnyRow};
-ghost use Rattle.mesa_tasks.specs.Made.{IsMadeFile};
+ghost use Rattle.mesa_open_files.specs.Made.{IsMadeFile};
 ghost use Rattle.mesa_load.specs.Filing.{AreFileRows, file_rows};
-ghost use Rattle.mesa_load.specs.Jobs.{IsCause};
+ghost use Rattle.mesa_load.specs.FilesToWrite.{IsCause};
 
 use crate::file_rows::FileRows;
 use mesa_delta::{DeltaWriter, WriteError};
 use mesa_disk::{Draft, Made};
 use mesa_file::FileId;
 use mesa_schema::Schema;
-use mesa_tasks::MadeFile;
+use mesa_open_files::MadeFile;
 use std::alloc::Global;
 
 /// Writes the file of these rows through an empty draft.

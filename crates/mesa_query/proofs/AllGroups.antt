@@ -14,8 +14,8 @@ use Rattle.mesa_model.specs.Query.{answer_rows}
 use Rattle.mesa_answer.specs.Answering.{AnswersParts, grouped_columns}
 use Rattle.mesa_answer.specs.Gathering.{Wanted, first_groups}
 use Rattle.mesa_answer.proofs.Steps.{all_groups}
-use Rattle.mesa_tasks.specs.Pins.{IsPinnedInput}
-use Rattle.mesa_tasks.specs.declared.querying.PinnedInput.{PinnedInput}
+use Rattle.mesa_open_files.specs.Pins.{IsPinnedInput}
+use Rattle.mesa_open_files.specs.declared.querying.PinnedInput.{PinnedInput}
 use Rattle.mesa_file.specs.declared.damage.Damage.{Damage}
 use Rattle.mesa_query.specs.Files.{IsDamageIn}
 use Rattle.mesa_query.specs.Relation.{parts_pinned, parts_ungrouped}

@@ -21,9 +21,9 @@ use Rattle.mesa_model.specs.Page.{last_key, page_from, page_of, rows_after}
 use Rattle.mesa_model.specs.Query.{answer_rows}
 use Rattle.mesa_answer.specs.Answering.{AnswersParts, KeepsSums}
 use Rattle.mesa_answer.specs.Gathering.{Wanted, wanted_by}
-use Rattle.mesa_tasks.specs.Inputs.{lineage_of}
-use Rattle.mesa_tasks.specs.Pins.{IsOfRelation, IsPinnedInput}
-use Rattle.mesa_tasks.specs.declared.querying.PinnedInput.{PinnedInput}
+use Rattle.mesa_open_files.specs.Inputs.{lineage_of}
+use Rattle.mesa_open_files.specs.Pins.{IsOfRelation, IsPinnedInput}
+use Rattle.mesa_open_files.specs.declared.querying.PinnedInput.{PinnedInput}
 use Rattle.mesa_file.specs.declared.damage.Damage.{Damage}
 use Rattle.mesa_query.specs.Files.{IsDamageIn}
 use Rattle.mesa_query.specs.Relation.{page_over, parts_pinned, parts_ungrouped}

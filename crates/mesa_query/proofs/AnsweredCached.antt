@@ -19,8 +19,8 @@ use Rattle.mesa_answer.specs.Answering.{KeepsSums, grouped_columns}
 use Rattle.mesa_answer.specs.Gathering.{wanted_by}
 use Rattle.mesa_merge.specs.Faults.{HaveFaultCause, faults_of}
 use Rattle.mesa_merge.specs.Inputs.{Known, AreTold, knowns_of}
-use Rattle.mesa_tasks.specs.Pins.{IsPinned}
-use Rattle.mesa_tasks.specs.declared.querying.Pinned.{Pinned}
+use Rattle.mesa_open_files.specs.Pins.{IsPinned}
+use Rattle.mesa_open_files.specs.declared.querying.Pinned.{Pinned}
 use Rattle.mesa_query.specs.Cooled.{cooled}
 use Rattle.mesa_query.proofs.Cooling.{damage_cooled, faults_cooled, known_cooled, parts_cooled, pinned_warm, sum_cooled, through, ungrouped_cooled}
 

@@ -24,7 +24,7 @@ use Rattle.mesa_delta.proofs.Packing.{blocks_rows}
 use Rattle.mesa_scan.specs.Cursors.{IsSameInput, lift_by, reader_in}
 use Rattle.mesa_merge.specs.Inputs.{IsTold, known_of}
 use Rattle.mesa_scan.specs.declared.scanning.Scan.{Scan}
-use Rattle.mesa_scan.specs.Matching.{matching_rows}
+use Rattle.mesa_scan.specs.MatchingRows.{matching_rows}
 use Rattle.mesa_scan.specs.Scanning.{HasScanned, filter_of, next_of}
 use Rattle.mesa_scan.proofs.Blocks.{all_passing}
 use Rattle.mesa_answer.specs.declared.groups.Groups.{Groups}

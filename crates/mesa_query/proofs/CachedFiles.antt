@@ -9,8 +9,8 @@ use Rattle.mesa_schema.specs.Columns.{Columns}
 use Rattle.mesa_query.specs.Files.{inputs_in, owns_in}
 use Rattle.mesa_merge.specs.Inputs.{Known, known_of, knowns_of}
 use Rattle.mesa_scan.specs.Cursors.{IsInput, reader_in}
-use Rattle.mesa_tasks.specs.Pins.{IsOfRelation, IsPinnedInput}
-use Rattle.mesa_tasks.specs.declared.querying.PinnedInput.{PinnedInput}
+use Rattle.mesa_open_files.specs.Pins.{IsOfRelation, IsPinnedInput}
+use Rattle.mesa_open_files.specs.declared.querying.PinnedInput.{PinnedInput}
 use Rattle.mesa_query.specs.Same.{AreReadable, AreSameFiles, readers_in}
 
 module _ {R : Type 0} (bytes : R → Option (List ℕ)) where

@@ -14,7 +14,7 @@ use Rattle.mesa_merge.specs.Inputs.{AreTold, IsTold, known_of, knowns_of}
 use Rattle.mesa_merge.proofs.Inputs.{told_at}
 use Rattle.mesa_answer.specs.Answering.{KeepsSums}
 use Rattle.mesa_view.proofs.Sums.{sums_front}
-use Rattle.mesa_tasks.specs.declared.querying.PinnedInput.{PinnedInput}
+use Rattle.mesa_open_files.specs.declared.querying.PinnedInput.{PinnedInput}
 use Rattle.mesa_query.specs.Files.{inputs_in}
 use Rattle.mesa_query.specs.Relation.{parts_ungrouped, rows_ungrouped}
 use Rattle.mesa_query.proofs.Files.{input_here, input_within}

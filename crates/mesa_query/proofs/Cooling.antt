@@ -21,9 +21,9 @@ use Rattle.mesa_answer.specs.Gathering.{Wanted}
 use Rattle.mesa_merge.specs.Inputs.{AreTold, Known, known_of, knowns_of}
 use Rattle.mesa_scan.specs.Damaged.{IsDamaged}
 use Rattle.mesa_scan.specs.Cursors.{IsInput, reader_in}
-use Rattle.mesa_tasks.specs.Pins.{IsPinned, IsPinnedInput, rows_pinned}
-use Rattle.mesa_tasks.specs.declared.querying.Pinned.{Pinned}
-use Rattle.mesa_tasks.specs.declared.querying.PinnedInput.{PinnedInput}
+use Rattle.mesa_open_files.specs.Pins.{IsPinned, IsPinnedInput, rows_pinned}
+use Rattle.mesa_open_files.specs.declared.querying.Pinned.{Pinned}
+use Rattle.mesa_open_files.specs.declared.querying.PinnedInput.{PinnedInput}
 use Rattle.mesa_query.specs.Cooled.{cooled, cooled_file, cooled_input, cooled_reader}
 
 -- what is told of an inner reader is told of it with a cache

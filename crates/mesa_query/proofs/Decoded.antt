@@ -5,8 +5,8 @@ use Rattle.std.specs.List.{AllByRecursion}
 use Rattle.std.proofs.lemmas.List.{take_all, take_more}
 use Rattle.mesa_schema.specs.declared.lifting.Lift.{Lift}
 use Rattle.mesa_merge.specs.Inputs.{Known, known_of, knowns_of}
-use Rattle.mesa_tasks.proofs.Retired.{all_append}
-use Rattle.mesa_tasks.specs.declared.querying.PinnedInput.{PinnedInput}
+use Rattle.mesa_open_files.proofs.Retired.{all_append}
+use Rattle.mesa_open_files.specs.declared.querying.PinnedInput.{PinnedInput}
 use Rattle.mesa_query.specs.declared.decoding.Decoding.{Decoding}
 use Rattle.mesa_query.specs.Pieces.{AreDecodingsOf, AreLiftsOf, IsDecodingOf, IsLiftOf}
 use Rattle.mesa_query.specs.Files.{inputs_in}

@@ -1,7 +1,7 @@
 -- Damage that is told of a query's files: what is found differs from what was wanted.
 use Rattle.std.proofs.Common.{◌≡◌, inl, inr, ⊎_elim, ℕ, ◌<◌, List, [], ◌∷◌, sym, ap, subst, arith}
 use Rattle.std.specs.Prelude.{◌⊎◌, Option}
-use Rattle.mesa_tasks.specs.mesa_io.Causes.{Rose}
+use Rattle.mesa_open_files.specs.mesa_io.Causes.{Rose}
 use Rattle.mesa_file.specs.declared.damage.Damage.{Damage}
 use Rattle.mesa_file.specs.declared.damage.Seen.{Seen}
 use Rattle.mesa_file.specs.declared.damage.Seen.TheVariants as seen
@@ -16,9 +16,9 @@ use Rattle.mesa_scan.specs.Cursors.{reader_in}
 use Rattle.mesa_scan.specs.Damaged.{IsDamaged}
 use Rattle.mesa_merge.specs.Faults.{SomeRose, faults_of}
 use Rattle.mesa_view.specs.SumDamage.{IsSumDamage}
-use Rattle.mesa_tasks.specs.declared.querying.PinnedInput.{PinnedInput}
-use Rattle.mesa_tasks.specs.Errors.{Differs}
-use Rattle.mesa_tasks.specs.GivingBack.{SomeFailed}
+use Rattle.mesa_open_files.specs.declared.querying.PinnedInput.{PinnedInput}
+use Rattle.mesa_open_files.specs.Errors.{Differs}
+use Rattle.mesa_open_files.specs.GivingBack.{SomeFailed}
 use Rattle.mesa_query.specs.Files.{IsDamageIn}
 use Rattle.mesa_query.specs.Sums.{IsSumIn}
 

@@ -5,7 +5,7 @@ use Rattle.std.specs.List.{AllByRecursion}
 use Rattle.std.proofs.Math.ListN.{get_or-map}
 use Rattle.std.proofs.Math.Seq.{map-set_same}
 use Rattle.std.proofs.lemmas.List.{length-map, length-set, map-set}
-use Rattle.mesa_tasks.specs.mesa_io.Causes.{HasFaultCause}
+use Rattle.mesa_open_files.specs.mesa_io.Causes.{HasFaultCause}
 use Rattle.mesa_file.specs.declared.damage.Damage.{Damage}
 use Rattle.mesa_schema.specs.declared.rows.Row.{Row}
 use Rattle.mesa_schema.specs.Columns.{Columns}
@@ -24,8 +24,8 @@ use Rattle.mesa_merge.specs.Faults.{HaveFaultCause, faults_of}
 use Rattle.mesa_merge.specs.Inputs.{IsTold, Known, known_of, knowns_of}
 use Rattle.mesa_merge.proofs.Causing.{cause_kept}
 use Rattle.mesa_merge.proofs.Inputs.{SameEnd, cause_at, faults_same, known_set}
-use Rattle.mesa_tasks.specs.declared.querying.PinnedInput.{PinnedInput}
-use Rattle.mesa_tasks.specs.Pins.{IsPinnedInput}
+use Rattle.mesa_open_files.specs.declared.querying.PinnedInput.{PinnedInput}
+use Rattle.mesa_open_files.specs.Pins.{IsPinnedInput}
 use Rattle.mesa_view.specs.declared.error.GatherError.{GatherError}
 use Rattle.mesa_view.specs.declared.error.GatherError.TheVariants as gather
 use Rattle.mesa_query.specs.Files.{AreMoved, IsDamageIn, IsMoved, inputs_in, owns_in, tolds_of}

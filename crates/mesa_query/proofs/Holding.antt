@@ -16,7 +16,7 @@ use Rattle.mesa_answer.specs.Gathering.{Wanted}
 use Rattle.mesa_answer.specs.Sums.{HasGroup, SumLeavesAmong}
 use Rattle.mesa_answer.proofs.Leaving.{group_before, leaves_behind, leaves_group}
 use Rattle.mesa_view.specs.SumDamage.{IsSumDamage}
-use Rattle.mesa_tasks.specs.declared.querying.PinnedInput.{PinnedInput}
+use Rattle.mesa_open_files.specs.declared.querying.PinnedInput.{PinnedInput}
 use Rattle.mesa_query.specs.Files.{AreMoved, IsDamageIn, IsMoved, inputs_in}
 use Rattle.mesa_query.specs.Sums.{HoldsGroup, IsNewestFrom, IsSumIn, LacksGroup, rows_matching}
 use Rattle.mesa_query.specs.Relation.{parts_ungrouped}

@@ -25,9 +25,9 @@ use Rattle.mesa_answer.specs.Gathered.{HasPut, wanted_of}
 use Rattle.mesa_answer.specs.Gathering.{Wanted}
 use Rattle.mesa_answer.specs.declared.groups.Groups.{Groups}
 use Rattle.mesa_answer.proofs.Forms.{row_spells}
-use Rattle.mesa_scan.specs.Matching.{matching_rows}
+use Rattle.mesa_scan.specs.MatchingRows.{matching_rows}
 use Rattle.mesa_scan.proofs.Blocks.{lifted_forms}
-use Rattle.mesa_tasks.proofs.Retired.{all_append}
+use Rattle.mesa_open_files.proofs.Retired.{all_append}
 use Rattle.mesa_query.specs.declared.decoding.Decoding.{Decoding}
 use Rattle.mesa_query.specs.declared.jobs.Job.{Job}
 use Rattle.mesa_query.specs.declared.pieces.Piece.{Piece}

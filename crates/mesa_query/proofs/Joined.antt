@@ -9,7 +9,7 @@ use Rattle.mesa_merge.specs.Inputs.{AreTold, Known}
 use Rattle.mesa_answer.specs.Gathered.{HasPut, wanted_of}
 use Rattle.mesa_answer.specs.Gathering.{Wanted}
 use Rattle.mesa_answer.specs.declared.groups.Groups.{Groups}
-use Rattle.mesa_tasks.proofs.Retired.{all_back}
+use Rattle.mesa_open_files.proofs.Retired.{all_back}
 use Rattle.mesa_query.specs.declared.jobs.Job.{Job}
 use Rattle.mesa_query.specs.Jobs.{IsJob, pieces_in}
 use Rattle.mesa_query.specs.Pieces.{rows_of_pieces}

@@ -12,9 +12,9 @@ use Rattle.mesa_filter.specs.Filter.{filtered}
 use Rattle.mesa_scan.specs.Cursors.{IsInput, IsSameInput}
 use Rattle.mesa_merge.specs.Inputs.{AreAlike, knowns_of}
 use Rattle.mesa_answer.specs.Answering.{KeepsSums}
-use Rattle.mesa_tasks.specs.Inputs.{lineage_of}
-use Rattle.mesa_tasks.specs.Pins.{HasViewOf, IsOfRelation, IsPinnedInput, view_at}
-use Rattle.mesa_tasks.specs.declared.querying.PinnedInput.{PinnedInput}
+use Rattle.mesa_open_files.specs.Inputs.{lineage_of}
+use Rattle.mesa_open_files.specs.Pins.{HasViewOf, IsOfRelation, IsPinnedInput, view_at}
+use Rattle.mesa_open_files.specs.declared.querying.PinnedInput.{PinnedInput}
 use Rattle.mesa_query.specs.Files.{inputs_in}
 use Rattle.mesa_query.specs.Relation.{rows_under, under_some, under_view}
 

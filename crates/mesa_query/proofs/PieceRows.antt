@@ -18,11 +18,11 @@ use Rattle.mesa_delta.specs.Spread.{blocks_of}
 use Rattle.mesa_delta.specs.declared.input.Input.{Input}
 use Rattle.mesa_scan.proofs.Lifted.{block_forms, lifts_all}
 use Rattle.mesa_merge.specs.Inputs.{AreTold, IsTold, Known, known_of, lifted_in}
-use Rattle.mesa_scan.specs.Matching.{matching_rows}
+use Rattle.mesa_scan.specs.MatchingRows.{matching_rows}
 use Rattle.mesa_scan.specs.Scanning.{matching, matching_block}
 use Rattle.mesa_scan.proofs.Blocks.{matching_more}
 use Rattle.mesa_scan.proofs.Onwards.{all_matching}
-use Rattle.mesa_tasks.proofs.Retired.{all_append}
+use Rattle.mesa_open_files.proofs.Retired.{all_append}
 use Rattle.mesa_query.specs.declared.pieces.Piece.{Piece}
 use Rattle.mesa_query.specs.Pieces.{ArePiecesOf, IsPieceOf, rows_at, rows_in, rows_of_pieces}
 

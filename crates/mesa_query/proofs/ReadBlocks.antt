@@ -13,7 +13,7 @@ use Rattle.mesa_merge.specs.Inputs.{Known, known_of, knowns_of}
 use Rattle.mesa_answer.specs.Gathered.{HasPut, wanted_of}
 use Rattle.mesa_answer.specs.Gathering.{Wanted}
 use Rattle.mesa_answer.specs.declared.groups.Groups.{Groups}
-use Rattle.mesa_tasks.specs.declared.querying.PinnedInput.{PinnedInput}
+use Rattle.mesa_open_files.specs.declared.querying.PinnedInput.{PinnedInput}
 use Rattle.mesa_query.specs.declared.jobs.Job.{Job}
 use Rattle.mesa_query.specs.declared.pieces.Piece.{Piece}
 use Rattle.mesa_query.specs.Files.{AreMoved, inputs_in, tolds_of}

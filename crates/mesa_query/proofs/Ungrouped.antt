@@ -11,9 +11,9 @@ use Rattle.mesa_schema.specs.Views.{view_columns, view_rows, view_value_places}
 use Rattle.mesa_schema.proofs.Refolds.{refolded}
 use Rattle.mesa_answer.proofs.Picked.{chosen-map}
 use Rattle.std.specs.List.{AllByRecursion}
-use Rattle.mesa_tasks.specs.Inputs.{lifted_in, lineage_of}
-use Rattle.mesa_tasks.specs.Pins.{HasViewOf, IsOfRelation, IsPinnedInput, derived, relation_rows, view_at}
-use Rattle.mesa_tasks.specs.declared.querying.PinnedInput.{PinnedInput}
+use Rattle.mesa_open_files.specs.Inputs.{lifted_in, lineage_of}
+use Rattle.mesa_open_files.specs.Pins.{HasViewOf, IsOfRelation, IsPinnedInput, derived, relation_rows, view_at}
+use Rattle.mesa_open_files.specs.declared.querying.PinnedInput.{PinnedInput}
 use Rattle.mesa_query.specs.Laws.{FoldsUngrouped}
 use Rattle.mesa_query.specs.Relation.{parts_pinned, parts_ungrouped, rows_ungrouped, rows_under, under_some, under_view}
 

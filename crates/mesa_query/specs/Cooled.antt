@@ -3,8 +3,8 @@ use Rattle.std.specs.Vec.Covariant.{in_vec}
 use Rattle.mesa_cache.specs.Reading.{Reading}
 use Rattle.mesa_delta.specs.declared.input.Input.{Input}
 use Rattle.mesa_delta.specs.declared.reader.DeltaReader.{DeltaReader}
-use Rattle.mesa_tasks.specs.declared.querying.Pinned.{Pinned}
-use Rattle.mesa_tasks.specs.declared.querying.PinnedInput.{PinnedInput}
+use Rattle.mesa_open_files.specs.declared.querying.Pinned.{Pinned}
+use Rattle.mesa_open_files.specs.declared.querying.PinnedInput.{PinnedInput}
 
 -- a file's reader, which reads by the cache's inner reader
 abbrev pub cooled_reader : {R : Type 0} → DeltaReader (Reading R) → DeltaReader R

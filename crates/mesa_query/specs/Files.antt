@@ -7,7 +7,7 @@ use Rattle.mesa_scan.specs.Cursors.{reader_in}
 use Rattle.mesa_scan.specs.Damaged.{IsDamaged}
 use Rattle.mesa_scan.specs.Moving.{moved_to}
 use Rattle.mesa_merge.specs.Inputs.{Known}
-use Rattle.mesa_tasks.specs.declared.querying.PinnedInput.{PinnedInput}
+use Rattle.mesa_open_files.specs.declared.querying.PinnedInput.{PinnedInput}
 
 -- the inputs that read them
 abbrev pub inputs_in : {R : Type 0} → List (PinnedInput R) → List (Input R)

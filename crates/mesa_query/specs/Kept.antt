@@ -3,9 +3,9 @@ use Rattle.std.specs.Prelude.{◌≡◌, ◌≤◌, ℕ, List, Option, Vec, vec_
 use Rattle.std.specs.declared.alloc.Global.{Global}
 use Rattle.mesa_cache.specs.Reading.{Reading}
 use Rattle.mesa_schema.specs.Columns.{Columns}
-use Rattle.mesa_tasks.specs.Pins.{IsPinned}
-use Rattle.mesa_tasks.specs.declared.querying.Pinned.{Pinned}
-use Rattle.mesa_tasks.specs.declared.querying.PinnedInput.{PinnedInput}
+use Rattle.mesa_open_files.specs.Pins.{IsPinned}
+use Rattle.mesa_open_files.specs.declared.querying.Pinned.{Pinned}
+use Rattle.mesa_open_files.specs.declared.querying.PinnedInput.{PinnedInput}
 use Rattle.mesa_query.specs.Cooled.{cooled}
 
 -- Without the caches it can be answered, and there is room for each of its files without one.

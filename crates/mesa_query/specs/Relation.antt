@@ -10,9 +10,9 @@ use Rattle.mesa_filter.specs.Query.{BuiltQuery}
 use Rattle.mesa_model.specs.declared.replies.Page.{Page}
 use Rattle.mesa_model.specs.Page.{page_of}
 use Rattle.mesa_model.specs.Query.{answer_rows}
-use Rattle.mesa_tasks.specs.Inputs.{lifted_in, lineage_of}
-use Rattle.mesa_tasks.specs.Pins.{rows_pinned, view_at}
-use Rattle.mesa_tasks.specs.declared.querying.PinnedInput.{PinnedInput}
+use Rattle.mesa_open_files.specs.Inputs.{lifted_in, lineage_of}
+use Rattle.mesa_open_files.specs.Pins.{rows_pinned, view_at}
+use Rattle.mesa_open_files.specs.declared.querying.PinnedInput.{PinnedInput}
 
 -- The relation's rows in each pinned file, by the rows of the files: its own, or its table's grouped by the view.
 abbrev pub parts_pinned : {R : Type 0} → Option ℕ → List (PinnedInput R) → List (List Row) → List (List Row)

@@ -5,9 +5,9 @@ use Rattle.mesa_schema.specs.Columns.{Columns}
 use Rattle.mesa_query.specs.Files.{inputs_in, owns_in}
 use Rattle.mesa_merge.specs.Inputs.{knowns_of}
 use Rattle.mesa_scan.specs.Cursors.{IsInput, reader_in}
-use Rattle.mesa_tasks.specs.Pins.{IsPinned}
-use Rattle.mesa_tasks.specs.declared.querying.Pinned.{Pinned}
-use Rattle.mesa_tasks.specs.declared.querying.PinnedInput.{PinnedInput}
+use Rattle.mesa_open_files.specs.Pins.{IsPinned}
+use Rattle.mesa_open_files.specs.declared.querying.Pinned.{Pinned}
+use Rattle.mesa_open_files.specs.declared.querying.PinnedInput.{PinnedInput}
 
 -- the readers of a query's files
 abbrev pub readers_in : {R : Type 0} → List (PinnedInput R) → List R

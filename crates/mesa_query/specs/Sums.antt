@@ -11,7 +11,7 @@ use Rattle.mesa_merge.specs.Inputs.{AreTold, IsTold, known_of, knowns_of}
 use Rattle.mesa_answer.specs.Gathering.{Wanted}
 use Rattle.mesa_answer.specs.Sums.{HasGroup, SumLeavesAmong}
 use Rattle.mesa_view.specs.SumDamage.{IsSumDamage}
-use Rattle.mesa_tasks.specs.declared.querying.PinnedInput.{PinnedInput}
+use Rattle.mesa_open_files.specs.declared.querying.PinnedInput.{PinnedInput}
 use Rattle.mesa_query.specs.Files.{inputs_in}
 use Rattle.mesa_query.specs.Relation.{parts_ungrouped, rows_ungrouped}
 

@@ -12,7 +12,7 @@ ghost use Rattle.mesa_merge.specs.Faults.{HaveFaultCause, faults_of};
 ghost use Rattle.mesa_merge.specs.Inputs.{AreTold, knowns_of};
 ghost use Rattle.mesa_answer.specs.Answering.{KeepsSums, grouped_columns};
 ghost use Rattle.mesa_answer.specs.Gathering.{wanted_by};
-ghost use Rattle.mesa_tasks.specs.Pins.{IsPinned, IsPinnedInput};
+ghost use Rattle.mesa_open_files.specs.Pins.{IsPinned, IsPinnedInput};
 ghost use Rattle.mesa_query.specs.Files.{IsDamageIn, inputs_in, owns_in};
 ghost use Rattle.mesa_query.specs.Relation.{page_over, parts_pinned, parts_ungrouped};
 ghost use Rattle.mesa_query.specs.Sums.{IsSumIn};
@@ -25,7 +25,7 @@ use mesa_disk::FileReader;
 use mesa_filter::Query;
 use mesa_list::Items;
 use mesa_model::Page;
-use mesa_tasks::{Pinned, PinnedInput};
+use mesa_open_files::{Pinned, PinnedInput};
 use std::alloc::Global;
 use std::thread::Threads;
 

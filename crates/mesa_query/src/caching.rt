@@ -7,7 +7,7 @@ ghost use Rattle.mesa_query.specs.Same.{AreReadable, AreSameFiles};
 use mesa_cache::Cached;
 use mesa_delta::{DeltaReader, Input};
 use mesa_disk::FileReader;
-use mesa_tasks::PinnedInput;
+use mesa_open_files::PinnedInput;
 use std::alloc::{AllocError, Global};
 
 // A query's files.

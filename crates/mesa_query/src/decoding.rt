@@ -9,7 +9,7 @@ ghost use Rattle.mesa_query.specs.Pieces.{AreDecodingsOf, AreLiftsOf};
 use mesa_delta::Index;
 use mesa_disk::FileReader;
 use mesa_schema::Lift;
-use mesa_tasks::PinnedInput;
+use mesa_open_files::PinnedInput;
 use std::alloc::{AllocError, Global};
 
 /// How a file's blocks are decoded. It doesn't read the file.

@@ -1,7 +1,7 @@
 // Pinned files put into the groups of a query.
 ghost use Rattle.std.specs.Prelude.{◌≡◌, ◌⊎◌, ◌+◌, ◌++◌, ◌<◌, [], ℕ, List, drop, length, slice_get, Err, OnOk, IfErr, IsTrue, Some};
 ghost use Rattle.std.specs.List.{AllByRecursion};
-ghost use Rattle.mesa_tasks.specs.mesa_io.Causes.{HasFaultCause};
+ghost use Rattle.mesa_open_files.specs.mesa_io.Causes.{HasFaultCause};
 ghost use Rattle.mesa_file.specs.declared.damage.Damage.{Damage as AnyDamage};
 ghost use Rattle.mesa_schema.specs.declared.rows.Row.{Row as AnyRow};
 ghost use Rattle.mesa_schema.specs.Columns.{kinds_of};
@@ -19,7 +19,7 @@ ghost use Rattle.mesa_merge.specs.Inputs.{AreTold, IsTold, known_of, knowns_of};
 ghost use Rattle.mesa_answer.specs.Answering.{KeepsSums};
 ghost use Rattle.mesa_answer.specs.Gathered.{HasPut, key_at_hand, wanted_of};
 ghost use Rattle.mesa_answer.specs.Sums.{SumLeavesAmong};
-ghost use Rattle.mesa_tasks.specs.Pins.{IsPinnedInput};
+ghost use Rattle.mesa_open_files.specs.Pins.{IsPinnedInput};
 ghost use Rattle.mesa_query.specs.Files.{AreMoved, IsDamageIn, IsMoved, inputs_in, owns_in, tolds_of};
 ghost use Rattle.mesa_query.specs.Relation.{parts_ungrouped, rows_ungrouped};
 ghost use Rattle.mesa_query.specs.Sums.{IsNewestFrom, IsSumIn, rows_matching};
@@ -34,7 +34,7 @@ use mesa_delta::{Ahead, FileError};
 use mesa_disk::FileReader;
 use mesa_filter::Filter;
 use mesa_scan::read_ahead;
-use mesa_tasks::PinnedInput;
+use mesa_open_files::PinnedInput;
 use mesa_view::{GatherError, gather, sum_damage};
 use std::alloc::Global;
 use std::thread::Threads;

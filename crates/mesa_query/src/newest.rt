@@ -1,7 +1,7 @@
 // The newest file that holds a group whose sum leaves its type.
 ghost use Rattle.std.specs.Prelude.{◌≡◌, ◌+◌, ◌<◌, ◌↔◌, List, drop, length, slice_get, IfOk, IfErr, IsTrue, Some};
 ghost use Rattle.std.specs.List.{AllByRecursion};
-ghost use Rattle.mesa_tasks.specs.mesa_io.Causes.{HasFaultCause};
+ghost use Rattle.mesa_open_files.specs.mesa_io.Causes.{HasFaultCause};
 ghost use Rattle.mesa_file.specs.declared.damage.Damage.{Damage as AnyDamage};
 ghost use Rattle.mesa_schema.specs.declared.rows.Row.{Row as AnyRow};
 ghost use Rattle.mesa_schema.specs.Columns.{kinds_of};
@@ -16,7 +16,7 @@ ghost use Rattle.mesa_merge.specs.Faults.{HaveFaultCause, faults_of};
 ghost use Rattle.mesa_merge.specs.Inputs.{IsTold, known_of, knowns_of};
 ghost use Rattle.mesa_answer.specs.Gathered.{key_at_hand, wanted_of};
 ghost use Rattle.mesa_answer.specs.Sums.{HasGroup};
-ghost use Rattle.mesa_tasks.specs.Pins.{IsPinnedInput};
+ghost use Rattle.mesa_open_files.specs.Pins.{IsPinnedInput};
 ghost use Rattle.mesa_query.specs.Files.{IsDamageIn, inputs_in, owns_in, tolds_of};
 ghost use Rattle.mesa_query.specs.Sums.{IsNewestFrom, rows_matching};
 
@@ -26,7 +26,7 @@ use mesa_delta::{Ahead, FileError};
 use mesa_disk::FileReader;
 use mesa_file::FileId;
 use mesa_filter::Filter;
-use mesa_tasks::PinnedInput;
+use mesa_open_files::PinnedInput;
 use mesa_view::GatherError;
 use std::alloc::Global;
 

@@ -8,8 +8,8 @@ ghost use Rattle.mesa_filter.specs.Filter.{filtered};
 ghost use Rattle.mesa_merge.specs.Inputs.{AreTold, known_of, knowns_of};
 ghost use Rattle.mesa_scan.specs.Cursors.{IsInput};
 ghost use Rattle.mesa_scan.specs.Scanning.{IsFilterOf};
-ghost use Rattle.mesa_tasks.specs.Pins.{IsPinnedInput};
-ghost use Rattle.mesa_tasks.specs.declared.querying.PinnedInput.{PinnedInput as AnyPinned};
+ghost use Rattle.mesa_open_files.specs.Pins.{IsPinnedInput};
+ghost use Rattle.mesa_open_files.specs.declared.querying.PinnedInput.{PinnedInput as AnyPinned};
 ghost use Rattle.mesa_query.specs.declared.pieces.Piece.{Piece as AnyPiece};
 ghost use Rattle.mesa_query.specs.Files.{inputs_in};
 ghost use Rattle.mesa_query.specs.Pieces.{ArePiecesOf, IsPieceOf, rows_of_pieces};
@@ -19,7 +19,7 @@ use mesa_delta::Input;
 use mesa_disk::FileReader;
 use mesa_filter::Filter;
 use mesa_scan::allows;
-use mesa_tasks::PinnedInput;
+use mesa_open_files::PinnedInput;
 use std::alloc::{AllocError, Global};
 
 /// A block of a file, which is known by its place among those that are read.

@@ -1,6 +1,6 @@
 // The blocks of jobs read, by the one reader of each file.
 ghost use Rattle.std.specs.Prelude.{◌≡◌, ◌<◌, ◌+◌, ◌++◌, [], ◌∷◌, length, map, false, true, IfOk, OnErr};
-ghost use Rattle.mesa_tasks.specs.mesa_io.Causes.{HasFaultCause};
+ghost use Rattle.mesa_open_files.specs.mesa_io.Causes.{HasFaultCause};
 ghost use Rattle.mesa_delta.specs.declared.error.FileError.TheVariants as file_error;
 ghost use Rattle.mesa_delta.specs.Ahead.{IsOfFile, Untested as AnyUntested};
 ghost use Rattle.mesa_delta.specs.Reading.{index_of};
@@ -17,7 +17,7 @@ use crate::pieces::Piece;
 use mesa_delta::{Ahead, FileError};
 use mesa_disk::FileReader;
 use mesa_filter::Filter;
-use mesa_tasks::PinnedInput;
+use mesa_open_files::PinnedInput;
 
 /// Reads the next blocks of each job, and says whether all were read.
 pub(crate) fn read_jobs<R: FileReader>(

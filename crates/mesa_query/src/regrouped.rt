@@ -1,7 +1,7 @@
 // A table's file put into the groups of one of its views.
 ghost use Rattle.std.specs.Prelude.{◌≡◌, ◌++◌, [], ◌∷◌, List, map, slice_get, OnOk, IfErr, IsTrue, Some};
 ghost use Rattle.std.specs.List.{AllByRecursion};
-ghost use Rattle.mesa_tasks.specs.mesa_io.Causes.{HasFaultCause};
+ghost use Rattle.mesa_open_files.specs.mesa_io.Causes.{HasFaultCause};
 ghost use Rattle.mesa_file.specs.declared.damage.Damage.{Damage as AnyDamage};
 ghost use Rattle.mesa_view.specs.mesa_key.Spelling.{is_spelling};
 ghost use Rattle.mesa_schema.specs.declared.rows.Row.{Row as AnyRow};
@@ -18,7 +18,7 @@ ghost use Rattle.mesa_delta.specs.Reading.{index_of};
 ghost use Rattle.mesa_scan.specs.Cursors.{IsInput, IsSameInput, lift_by, reader_in};
 ghost use Rattle.mesa_merge.specs.Inputs.{IsTold, known_of};
 ghost use Rattle.mesa_scan.specs.Damaged.{IsDamaged};
-ghost use Rattle.mesa_scan.specs.Matching.{matching_rows};
+ghost use Rattle.mesa_scan.specs.MatchingRows.{matching_rows};
 ghost use Rattle.mesa_scan.specs.Moving.{told_in};
 ghost use Rattle.mesa_scan.specs.Scanning.{IsFilterOf};
 ghost use Rattle.mesa_answer.specs.Answering.{KeepsSums};
@@ -33,7 +33,7 @@ use mesa_answer::{GroupError, Groups, Hand, Regrouping};
 use mesa_delta::{Ahead, Input};
 use mesa_disk::FileReader;
 use mesa_filter::Filter;
-use mesa_scan::{Matching, Scan};
+use mesa_scan::{MatchingRows, Scan};
 use mesa_schema::LentRow;
 use mesa_view::{GatherError, every_row};
 use std::alloc::Global;
@@ -126,7 +126,7 @@ fn gather_each_block<R: FileReader>(
 // Puts a table's rows that match, as rows of a view, into that view's groups.
 fn put_regrouped(
     groups: &mut Groups,
-    block: &Matching,
+    block: &MatchingRows,
     regrouping: &Regrouping,
     filter: &Filter,
     hand: &mut Hand,

@@ -2,13 +2,13 @@
 ghost use Rattle.std.specs.Prelude.{◌≡◌, ℕ, IfOk, Option, List};
 ghost use Rattle.mesa_schema.specs.Changes.{columns_of};
 ghost use Rattle.mesa_schema.specs.Columns.{Columns};
-ghost use Rattle.mesa_tasks.specs.Inputs.{lineage_of};
-ghost use Rattle.mesa_tasks.specs.Pins.{IsOfRelation};
+ghost use Rattle.mesa_open_files.specs.Inputs.{lineage_of};
+ghost use Rattle.mesa_open_files.specs.Pins.{IsOfRelation};
 
 use mesa_disk::FileReader;
 use mesa_list::TryCopy;
 use mesa_schema::Schema;
-use mesa_tasks::PinnedInput;
+use mesa_open_files::PinnedInput;
 use std::alloc::AllocError;
 
 // The columns of the relation of this file: its own, or those of its table's view of this number.

@@ -11,7 +11,7 @@ ghost use Rattle.mesa_delta.specs.declared.error.FileError.TheVariants as file_e
 ghost use Rattle.mesa_merge.specs.Faults.{HaveFaultCause, faults_of};
 ghost use Rattle.mesa_merge.specs.Inputs.{AreTold, knowns_of};
 ghost use Rattle.mesa_answer.specs.Answering.{KeepsSums, grouped_columns};
-ghost use Rattle.mesa_tasks.specs.Pins.{IsPinned, IsPinnedInput};
+ghost use Rattle.mesa_open_files.specs.Pins.{IsPinned, IsPinnedInput};
 ghost use Rattle.mesa_query.specs.Files.{IsDamageIn, inputs_in, owns_in};
 ghost use Rattle.mesa_query.specs.Relation.{parts_pinned, parts_ungrouped};
 ghost use Rattle.mesa_query.specs.Sums.{IsSumIn};
@@ -25,7 +25,7 @@ use mesa_disk::FileReader;
 use mesa_filter::Query;
 use mesa_list::Items;
 use mesa_schema::RowList;
-use mesa_tasks::{Pinned, PinnedInput};
+use mesa_open_files::{Pinned, PinnedInput};
 use std::alloc::Global;
 
 /// All rows of the answer to a pinned query, without a page's cut, from its files in the order of their versions.

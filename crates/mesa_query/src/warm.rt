@@ -13,7 +13,7 @@ ghost use Rattle.mesa_merge.specs.Inputs.{AreTold, knowns_of};
 ghost use Rattle.mesa_query.specs.Files.{IsDamageIn, inputs_in, owns_in};
 ghost use Rattle.mesa_query.specs.Relation.{page_over, parts_pinned, parts_ungrouped};
 ghost use Rattle.mesa_query.specs.Sums.{IsSumIn};
-ghost use Rattle.mesa_tasks.specs.Pins.{IsPinned};
+ghost use Rattle.mesa_open_files.specs.Pins.{IsPinned};
 ghost use Rattle.mesa_query.specs.Same.{IsSamePin};
 
 use crate::caching::{cool_all, warm_all};
@@ -22,7 +22,7 @@ use mesa_delta::FileError;
 use mesa_disk::FileReader;
 use mesa_model::Page;
 use crate::answer;
-use mesa_tasks::{Pinned, PinnedInput};
+use mesa_open_files::{Pinned, PinnedInput};
 use std::alloc::{AllocError, Global};
 use std::marker::Model;
 use std::thread::Threads;
@@ -37,7 +37,7 @@ pub struct Warm<R: FileReader> {
 }
 
 impl<R: FileReader> Model for Warm<R> {
-    ghost use Rattle.mesa_tasks.specs.declared.querying.Pinned.{Pinned as AnyPinned};
+    ghost use Rattle.mesa_open_files.specs.declared.querying.Pinned.{Pinned as AnyPinned};
     ghost use Rattle.mesa_query.specs.Cooled.{cooled};
     ghost use Rattle.mesa_query.specs.Kept.{IsKept};
 

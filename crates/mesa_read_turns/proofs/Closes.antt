@@ -3,7 +3,7 @@ use Rattle.std.proofs.Common.{◌≡◌, inl, inr, ℕ, ◌<◌, ◌≤◌, ◌^
 use Rattle.std.specs.Prelude.{is_some, vec_capacity}
 use Rattle.std.specs.List.{AllByRecursion}
 use Rattle.mesa_read_turns.specs.Closing.{IsPageOf, IsSomePageOf, IsToClose, cause_if, closing_entry, closing_text}
-use Rattle.mesa_plans.specs.mesa_scan.Cursors.{reader_in}
+use Rattle.mesa_pick_files.specs.mesa_scan.Cursors.{reader_in}
 use Rattle.mesa_delta.specs.declared.error.FileError.{FileError}
 use Rattle.mesa_delta.specs.declared.error.FileError.TheVariants as file_error
 use Rattle.mesa_delta.specs.declared.input.Input.{Input}
@@ -31,7 +31,7 @@ use Rattle.mesa_model.specs.declared.entries.Kind.TheVariants as kind
 use Rattle.mesa_engine.specs.mesa_history_spec.Output.{block}
 use Rattle.mesa_script.specs.declared.rendered.Rendered.{Rendered}
 use Rattle.mesa_engine.specs.mesa_history_spec.Rows.{Rows}
-use Rattle.mesa_tasks.specs.GivingBack.{GivesBack, SomeFailed}
+use Rattle.mesa_open_files.specs.GivingBack.{GivesBack, SomeFailed}
 use Rattle.mesa_engine.proofs.mesa_invariant_spec.Asking.{close_turn}
 use Rattle.mesa_engine.proofs.mesa_invariant_spec.Going.{close_takes}
 use Rattle.mesa_engine.specs.mesa_invariant_spec.Causes.{Cause}

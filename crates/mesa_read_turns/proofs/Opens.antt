@@ -34,7 +34,7 @@ use Rattle.mesa_model.specs.declared.entries.Kind.TheVariants as kind
 use Rattle.mesa_model.specs.declared.entries.Outcome.TheVariants as outcome
 use Rattle.mesa_engine.specs.mesa_history_spec.Output.{block}
 use Rattle.mesa_engine.specs.mesa_history_spec.Rows.{Rows, no_rows}
-use Rattle.mesa_tasks.specs.Opening.{Counted}
+use Rattle.mesa_open_files.specs.Opening.{Counted}
 use Rattle.mesa_engine.proofs.mesa_invariant_spec.Asking.{pinned_open, pinned_turn, unpinned_ends, unpinned_turn}
 use Rattle.mesa_engine.proofs.mesa_invariant_spec.Going.{takes_as}
 use Rattle.mesa_engine.specs.mesa_invariant_spec.Causes.{Cause, Replies, Unread, Damaged, Unwritten, NoMemory, is_read_fault, outcome_of, reply_of, told_at}

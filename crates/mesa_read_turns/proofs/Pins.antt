@@ -8,9 +8,9 @@ use Rattle.std.proofs.lemmas.Simd.{map-map}
 use Rattle.mesa_disk.specs.Story.{Story}
 use Rattle.mesa_filter.specs.declared.words.VersionWord.{VersionWord}
 use Rattle.mesa_filter.specs.declared.words.VersionWord.TheVariants as asks
-use Rattle.mesa_engine.specs.mesa_image_spec.Catalog.{Catalog, Stock}
-use Rattle.mesa_engine.specs.mesa_image_spec.Shape.{IsCatalog, IsShaped}
-use Rattle.mesa_plans.specs.mesa_list.Checks.{◌>>=◌, ◌>>◌, refuse_if}
+use Rattle.mesa_engine.specs.mesa_store_spec.Catalog.{Catalog, TableMeta}
+use Rattle.mesa_engine.specs.mesa_store_spec.Shape.{IsCatalog, IsShaped}
+use Rattle.mesa_pick_files.specs.mesa_list.Checks.{◌>>=◌, ◌>>◌, refuse_if}
 use Rattle.mesa_model.specs.Pins.{count_at, make_pin, next_token, with_pin}
 use Rattle.mesa_model.specs.Refusals.{refuse_closed}
 use Rattle.mesa_model.specs.Versions.{common_oldest, oldest_among, version_asked}
@@ -26,7 +26,7 @@ use Rattle.mesa_model.specs.declared.replies.Reply.TheVariants as reply
 use Rattle.mesa_engine.specs.mesa_history_spec.Run.{First}
 use Rattle.mesa_engine.specs.mesa_history_spec.Turns.{IsDue}
 use Rattle.mesa_engine.specs.mesa_history_spec.Output.{block}
-use Rattle.mesa_rules.specs.Seen.{HasCatalog, known_of}
+use Rattle.mesa_validate.specs.Seen.{HasCatalog, known_of}
 use Rattle.mesa_engine.specs.mesa_history_spec.Rows.{Rows}
 use Rattle.mesa_engine.specs.Engine.{most_turns}
 use Rattle.mesa_engine.specs.mesa_invariant_spec.Causes.{told_at}
@@ -119,7 +119,7 @@ module _ (w : Warehouse) where
 
 -- ---- the first version that all tables have is there, where any is
 
-among_there : (floor next : ℕ) (tables : List Stock) → AllByRecursion (IsShaped floor next) tables → (floor < next) ⊎ ((floor ≡ 0) × (next ≡ 0))
+among_there : (floor next : ℕ) (tables : List TableMeta) → AllByRecursion (IsShaped floor next) tables → (floor < next) ⊎ ((floor ≡ 0) × (next ≡ 0))
     → (oldest_among floor (map projection_of tables) < next) ⊎ ((oldest_among floor (map projection_of tables) ≡ 0) × (next ≡ 0))
 among_there floor next [] all there = there
 among_there floor next (t ∷ tables) all there =

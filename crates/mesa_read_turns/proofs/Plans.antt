@@ -6,7 +6,7 @@ use Rattle.mesa_binding.specs.declared.failure.Failure.{Failure}
 use Rattle.mesa_binding.specs.declared.failure.Failure.TheVariants as failure
 use Rattle.mesa_disk.specs.Story.{Story}
 use Rattle.mesa_engine.specs.Failing.{is_of_device}
-use Rattle.mesa_plans.specs.mesa_list.Checks.{◌>>=◌, ◌>>◌}
+use Rattle.mesa_pick_files.specs.mesa_list.Checks.{◌>>=◌, ◌>>◌}
 use Rattle.mesa_model.specs.Orders.{order_asked}
 use Rattle.mesa_model.specs.Refusals.{no_such_table, refuse_closed}
 use Rattle.mesa_model.specs.Relations.{Relation, relation_of}

@@ -3,7 +3,7 @@ use Rattle.std.proofs.Common.{◌≡◌, ℕ, ◌<◌, ◌^◌, List, [], ◌∷
 use Rattle.std.specs.Prelude.{find, is_none, option_map}
 use Rattle.mesa_disk.specs.Story.{Story}
 use Rattle.mesa_model.specs.Pins.{pin_of, release_pin, is_pin}
-use Rattle.mesa_plans.specs.mesa_list.Checks.{◌>>◌, refuse_if}
+use Rattle.mesa_pick_files.specs.mesa_list.Checks.{◌>>◌, refuse_if}
 use Rattle.mesa_model.specs.Refusals.{refuse_closed}
 use Rattle.mesa_model.specs.Warehouse.{Warehouse}
 use Rattle.mesa_model.specs.declared.commands.Command.TheVariants as command

@@ -8,10 +8,10 @@ use Rattle.mesa_engine.specs.mesa_catalog.Lookups.{known_as}
 use Rattle.mesa_filter.specs.declared.words.QueryWords.{QueryWords}
 use Rattle.mesa_filter.specs.declared.words.VersionWord.{VersionWord}
 use Rattle.mesa_filter.specs.declared.words.VersionWord.TheVariants as asks
-use Rattle.mesa_engine.specs.mesa_image_spec.Catalog.{Catalog}
+use Rattle.mesa_engine.specs.mesa_store_spec.Catalog.{Catalog}
 use Rattle.mesa_engine.specs.EngineState.{HeldPin, EngineState, bare_held, books_of, projection_at, projection_of, projections, projections_at}
 use Rattle.mesa_engine.specs.Turned.{is_held_pin}
-use Rattle.mesa_plans.specs.mesa_list.Checks.{◌>>=◌, ◌>>◌}
+use Rattle.mesa_pick_files.specs.mesa_list.Checks.{◌>>=◌, ◌>>◌}
 use Rattle.mesa_model.specs.Pins.{is_pin}
 use Rattle.mesa_model.specs.Query.{Answer, query_answer, store_asked, version_seen}
 use Rattle.mesa_model.specs.Refusals.{refuse_closed}
@@ -19,9 +19,9 @@ use Rattle.mesa_model.specs.Versions.{version_asked}
 use Rattle.mesa_model.specs.Warehouse.{Pin, Store, Table, Warehouse, table_at}
 use Rattle.mesa_model.specs.declared.replies.Refusal.{Refusal}
 use Rattle.mesa_model.specs.declared.replies.Refusal.TheVariants as no
-use Rattle.mesa_rules.proofs.Seen.{oldest_there}
-use Rattle.mesa_rules.specs.Found.{Sees, of_catalog, version_in}
-use Rattle.mesa_rules.specs.Seen.{HasCatalog, known_in, known_of}
+use Rattle.mesa_validate.proofs.Seen.{oldest_there}
+use Rattle.mesa_validate.specs.Found.{Sees, of_catalog, version_in}
+use Rattle.mesa_validate.specs.Seen.{HasCatalog, known_in, known_of}
 use Rattle.mesa_engine.specs.mesa_history_spec.Rows.{Rows}
 
 -- the tables of a catalogue without their contents

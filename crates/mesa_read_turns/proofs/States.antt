@@ -4,30 +4,30 @@ use Rattle.std.specs.Prelude.{find, option_map}
 use Rattle.std.specs.List.{AllByRecursion}
 use Rattle.std.specs.Option.{ok_or}
 use Rattle.mesa_read_turns.specs.Seeing.{catalogue_asked, pinned_asked}
-use Rattle.mesa_plans.proofs.Contents.{HasContents, kept_catalog, pinned_contents, present_contents}
+use Rattle.mesa_pick_files.proofs.Contents.{HasContents, kept_catalog, pinned_contents, present_contents}
 use Rattle.mesa_read_turns.proofs.Sees.{asked_there}
 use Rattle.mesa_read_turns.proofs.Versions.{common_most, version_there}
-use Rattle.mesa_plans.proofs.mesa_catalog.Loads.{find_mapped, found_holds}
-use Rattle.mesa_plans.proofs.mesa_catalog.Stocks.{all_at}
+use Rattle.mesa_pick_files.proofs.mesa_catalog.Loads.{find_mapped, found_holds}
+use Rattle.mesa_pick_files.proofs.mesa_catalog.TableMetas.{all_at}
 use Rattle.mesa_filter.specs.declared.words.QueryWords.{QueryWords}
 use Rattle.mesa_filter.specs.declared.words.VersionWord.{VersionWord}
 use Rattle.mesa_filter.specs.declared.words.VersionWord.TheVariants as asks
 use Rattle.mesa_engine.specs.mesa_history_spec.Found.{Kept}
 use Rattle.mesa_engine.specs.mesa_history_spec.Run.{State}
-use Rattle.mesa_engine.specs.mesa_image_spec.Catalog.{Catalog, no_stock, stock_at}
-use Rattle.mesa_engine.specs.mesa_image_spec.Contents.{Rows, kept_of}
-use Rattle.mesa_engine.specs.mesa_image_spec.Shape.{IsCatalog, IsShaped}
+use Rattle.mesa_engine.specs.mesa_store_spec.Catalog.{Catalog, no_meta, meta_at}
+use Rattle.mesa_engine.specs.mesa_store_spec.Contents.{Rows, kept_of}
+use Rattle.mesa_engine.specs.mesa_store_spec.Shape.{IsCatalog, IsShaped}
 use Rattle.mesa_engine.specs.EngineState.{HeldPin, EngineState, books_of, held_with}
 use Rattle.mesa_engine.specs.Turned.{is_held_pin}
 use Rattle.mesa_engine.specs.Vault.{IsVersioned}
-use Rattle.mesa_plans.specs.mesa_list.Checks.{◌>>=◌}
+use Rattle.mesa_pick_files.specs.mesa_list.Checks.{◌>>=◌}
 use Rattle.mesa_model.specs.Pins.{is_pin, store_at}
 use Rattle.mesa_model.specs.Query.{store_asked, version_seen}
 use Rattle.mesa_model.specs.Warehouse.{Pin, Store, Warehouse, table_at}
 use Rattle.mesa_model.specs.declared.replies.Refusal.{Refusal}
 use Rattle.mesa_model.specs.declared.replies.Refusal.TheVariants as no
-use Rattle.mesa_rules.specs.Found.{Sees, of_catalog, version_in}
-use Rattle.mesa_rules.specs.Seen.{HasCatalog}
+use Rattle.mesa_validate.specs.Found.{Sees, of_catalog, version_in}
+use Rattle.mesa_validate.specs.Seen.{HasCatalog}
 use Rattle.mesa_engine.specs.mesa_history_spec.Rows.{no_rows}
 use Rattle.mesa_engine.specs.mesa_invariant_spec.Books.{AreBooksOf}
 
@@ -43,11 +43,11 @@ module _ (l : EngineState) (session : ℕ) (words : QueryWords) (c : Catalog) (a
   -- ---- the version is one that the table has
 
   abbrev HasIt : Catalog → ℕ → Type 0
-  HasIt x n = ((stock_at x number).oldest ≤ n) × (n < x.next)
+  HasIt x n = ((meta_at x number).oldest ≤ n) × (n < x.next)
 
   range : (v : VersionWord) → catalogue_asked l session v ≡ Some c → version_in c (pinned_asked l session v) v number ≡ Ok version → IsCatalog c → AllByRecursion IsVersioned l.pins → HasIt c version
-  range asks.Latest found is shaped pins = version_there (of_catalog c) (stock_at c number).oldest asks.Latest version is (all_at (IsShaped c.floor c.next) c.tables number no_stock shaped.tables there).oldest
-  range (asks.At n) found is shaped pins = version_there (of_catalog c) (stock_at c number).oldest (asks.At n) version is (all_at (IsShaped c.floor c.next) c.tables number no_stock shaped.tables there).oldest
+  range asks.Latest found is shaped pins = version_there (of_catalog c) (meta_at c number).oldest asks.Latest version is (all_at (IsShaped c.floor c.next) c.tables number no_meta shaped.tables there).oldest
+  range (asks.At n) found is shaped pins = version_there (of_catalog c) (meta_at c number).oldest (asks.At n) version is (all_at (IsShaped c.floor c.next) c.tables number no_meta shaped.tables there).oldest
   range (asks.Pin token) found is shaped pins = by (find (is_held_pin session token) l.pins) refl found is
     where
       by : (o : Option HeldPin) → find (is_held_pin session token) l.pins ≡ o → option_map (λ (p : HeldPin). p.copy) o ≡ Some c → version_in c (option_map (λ (p : HeldPin). p.version) o) (asks.Pin token) number ≡ Ok version → HasIt c version
@@ -65,7 +65,7 @@ module _ (l : EngineState) (session : ℕ) (words : QueryWords) (c : Catalog) (a
 
   -- ---- what it sees of a state
 
-  module _ (sees : Sees c (pinned_asked l session words.version) words session (books_of no_rows l).bare) (rows : Rows) (low : (stock_at c number).oldest ≤ version) (high : version < c.next) (s : State) (are : AreBooksOf true (books_of rows l) s) where
+  module _ (sees : Sees c (pinned_asked l session words.version) words session (books_of no_rows l).bare) (rows : Rows) (low : (meta_at c number).oldest ≤ version) (high : version < c.next) (s : State) (are : AreBooksOf true (books_of rows l) s) where
     abbrev w : Warehouse
     w = s.warehouse
 

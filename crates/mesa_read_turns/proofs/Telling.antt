@@ -4,12 +4,12 @@ use Rattle.std.specs.Prelude.{find, option_map}
 use Rattle.std.specs.List.{AllByRecursion}
 use Rattle.mesa_read_turns.specs.Opening.{HasItsFiles, HasUnsoundFile, IsHeaded, read_in, tells_damage}
 use Rattle.mesa_read_turns.specs.Seeing.{catalogue_asked}
-use Rattle.mesa_plans.proofs.Contents.{columns_found, seen_columns, seen_content}
+use Rattle.mesa_pick_files.proofs.Contents.{columns_found, seen_columns, seen_content}
 use Rattle.mesa_read_turns.proofs.Opens.{Answers, one_answer, opened_from}
 use Rattle.mesa_read_turns.proofs.States.{sees_state, version_range}
-use Rattle.mesa_plans.proofs.There.{name_there}
-use Rattle.mesa_plans.proofs.mesa_catalog.Loads.{found_holds}
-use Rattle.mesa_plans.proofs.mesa_catalog.Stocks.{all_at}
+use Rattle.mesa_pick_files.proofs.There.{name_there}
+use Rattle.mesa_pick_files.proofs.mesa_catalog.Loads.{found_holds}
+use Rattle.mesa_pick_files.proofs.mesa_catalog.TableMetas.{all_at}
 use Rattle.mesa_engine.specs.mesa_commit.Images.{Has}
 use Rattle.mesa_disk.specs.Image.{Image}
 use Rattle.mesa_disk.specs.Story.{Story, Unmoved}
@@ -19,12 +19,12 @@ use Rattle.mesa_filter.specs.declared.words.VersionWord.{VersionWord}
 use Rattle.mesa_filter.specs.declared.words.VersionWord.TheVariants as asks
 use Rattle.mesa_engine.specs.mesa_history_spec.Run.{First, State}
 use Rattle.mesa_engine.specs.mesa_history_spec.Turns.{IsDue}
-use Rattle.mesa_engine.specs.mesa_image_spec.Catalog.{Catalog, no_stock, stock_at}
-use Rattle.mesa_engine.specs.mesa_image_spec.Fitting.{delta_shelved, deltas_of, shelved}
-use Rattle.mesa_engine.proofs.mesa_image_spec.Lists.{all_unflat}
-use Rattle.mesa_engine.specs.mesa_image_spec.Planned.{planned}
-use Rattle.mesa_engine.specs.mesa_image_spec.Shape.{IsCatalog, IsShaped}
-use Rattle.mesa_engine.specs.mesa_image_spec.Sound.{AreStocked, IsStocked, wants}
+use Rattle.mesa_engine.specs.mesa_store_spec.Catalog.{Catalog, no_meta, meta_at}
+use Rattle.mesa_engine.specs.mesa_store_spec.Fitting.{delta_live, deltas_of, live_files}
+use Rattle.mesa_engine.proofs.mesa_store_spec.Lists.{all_unflat}
+use Rattle.mesa_engine.specs.mesa_store_spec.Planned.{planned}
+use Rattle.mesa_engine.specs.mesa_store_spec.Shape.{IsCatalog, IsShaped}
+use Rattle.mesa_engine.specs.mesa_store_spec.Sound.{HaveSoundRows, HasSoundRows, wants}
 use Rattle.mesa_engine.proofs.Holding.{pins_of}
 use Rattle.mesa_engine.proofs.Lists.{map_all}
 use Rattle.mesa_engine.proofs.Staying.{there_now}
@@ -38,22 +38,22 @@ use Rattle.mesa_model.specs.declared.commands.Command.TheVariants as command
 use Rattle.mesa_model.specs.declared.entries.Entry.{Entry}
 use Rattle.mesa_model.specs.declared.entries.Kind.TheVariants as kind
 use Rattle.mesa_model.specs.declared.entries.Outcome.TheVariants as outcome
-use Rattle.mesa_plans.specs.Told.{Tells}
+use Rattle.mesa_pick_files.specs.Told.{Tells}
 use Rattle.mesa_engine.specs.declared.failure.Failure.{Failure}
-use Rattle.mesa_plans.proofs.Given.{AreGiven, IsGiven, all_given}
-use Rattle.mesa_plans.proofs.Ordered.{IsAllowed, read_rows, read_view}
-use Rattle.mesa_plans.proofs.Reading.{columns_read}
-use Rattle.mesa_plans.proofs.Telling.{content_form, content_read, pinned_tells, stock_given}
-use Rattle.mesa_rules.proofs.ReadBy.{read_limit, read_prefix, read_resume, read_version}
+use Rattle.mesa_pick_files.proofs.Given.{AreGiven, IsGiven, all_given}
+use Rattle.mesa_pick_files.proofs.Ordered.{IsAllowed, read_rows, read_view}
+use Rattle.mesa_pick_files.proofs.Reading.{columns_read}
+use Rattle.mesa_pick_files.proofs.Telling.{content_form, content_read, pinned_tells, meta_given}
+use Rattle.mesa_validate.proofs.ReadBy.{read_limit, read_prefix, read_resume, read_version}
 use Rattle.mesa_schema.specs.Columns.{Columns}
-use Rattle.mesa_plans.proofs.Unsound.{seen_sound}
-use Rattle.mesa_plans.specs.Read.{relation_read}
-use Rattle.mesa_plans.proofs.Among.{all_planned}
-use Rattle.mesa_rules.specs.Found.{answer_found}
+use Rattle.mesa_pick_files.proofs.Unsound.{seen_sound}
+use Rattle.mesa_pick_files.specs.Read.{relation_read}
+use Rattle.mesa_pick_files.proofs.Among.{all_planned}
+use Rattle.mesa_validate.specs.Found.{answer_found}
 use Rattle.mesa_engine.proofs.mesa_history_spec.BareSteps.{query-bare}
 use Rattle.mesa_engine.specs.mesa_history_spec.Bare.{bare_answer, bare_result}
 use Rattle.mesa_engine.specs.mesa_history_spec.Rows.{Rows, no_rows}
-use Rattle.mesa_tasks.specs.declared.querying.Pinned.{Pinned}
+use Rattle.mesa_open_files.specs.declared.querying.Pinned.{Pinned}
 use Rattle.mesa_engine.specs.mesa_commit.Filed.{PinFiles}
 use Rattle.mesa_engine.specs.mesa_invariant_spec.Books.{AreBooksOf}
 use Rattle.mesa_engine.specs.mesa_invariant_spec.Queries.{IsOpen, IsPinned}
@@ -77,26 +77,26 @@ asked_shaped o g sound l story held h running refused v session (asks.Pin token)
 
 -- Its rows are such as a sound store has, and a read gives its files.
 pub record IsRead (rows : Rows) (image : Image) (c : Catalog) : Type 0 where
-  pub stocked : AreStocked rows c
-  pub has : Has (wants rows (shelved c)) image
+  pub sound_rows : HaveSoundRows rows c
+  pub has : Has (wants rows (live_files c)) image
 
 module _ (o : Outset) (g : Origin) (sound : Bool) (l : EngineState) (story : Story) (held : Option (List ℕ)) (h : List Entry) (running refused : Bool) (v : IsVault o g sound l story held h running refused) (ok : IsTrue sound) (was_open : l.closed ≡ None) where
   asked_read : (image : Image) → story.told ≡ Some image → (session : ℕ) (asked : VersionWord) (c : Catalog) → catalogue_asked l session asked ≡ Some c → IsRead v.rows image c
   asked_read image told session asked c = by asked
     where
       present : l.catalogue ≡ c → IsRead v.rows image c
-      present same = subst (IsRead v.rows image) same (record { stocked = (v.stocked ok).0; has = there_now o g sound l story held h running refused v was_open ok image told })
+      present same = subst (IsRead v.rows image) same (record { sound_rows = (v.sound_rows ok).0; has = there_now o g sound l story held h running refused v was_open ok image told })
 
-      held_files : AllByRecursion (λ (x : HeldPin). Has (wants v.rows (shelved x.copy)) image) l.pins
-      held_files = pins_of (λ (x : Holder). Has (wants v.rows (shelved x.1)) image) v.seen l (map_all (λ (p : PinFiles). Has p.1 image) (files_held v.rows) (holders v.seen l) (v.there ok image told))
+      held_files : AllByRecursion (λ (x : HeldPin). Has (wants v.rows (live_files x.copy)) image) l.pins
+      held_files = pins_of (λ (x : Holder). Has (wants v.rows (live_files x.1)) image) v.seen l (map_all (λ (p : PinFiles). Has p.1 image) (files_held v.rows) (holders v.seen l) (v.there ok image told))
 
       pinned : (token : ℕ) (found : Option HeldPin) → find (is_held_pin session token) l.pins ≡ found → option_map (λ (p : HeldPin). p.copy) found ≡ Some c → IsRead v.rows image c
       pinned token None there e = absurd cc
       pinned token (Some p) there e =
           let same : p.copy ≡ c = cc in
           subst (IsRead v.rows image) same (record {
-            stocked = found_holds (λ (x : HeldPin). AreStocked v.rows x.copy) (is_held_pin session token) l.pins p (pins_of (λ (x : Holder). AreStocked v.rows x.1) v.seen l (v.stocked ok).1) there;
-            has = found_holds (λ (x : HeldPin). Has (wants v.rows (shelved x.copy)) image) (is_held_pin session token) l.pins p held_files there;
+            sound_rows = found_holds (λ (x : HeldPin). HaveSoundRows v.rows x.copy) (is_held_pin session token) l.pins p (pins_of (λ (x : Holder). HaveSoundRows v.rows x.1) v.seen l (v.sound_rows ok).1) there;
+            has = found_holds (λ (x : HeldPin). Has (wants v.rows (live_files x.copy)) image) (is_held_pin session token) l.pins p held_files there;
           })
 
       by : (x : VersionWord) → catalogue_asked l session x ≡ Some c → IsRead v.rows image c
@@ -109,15 +109,15 @@ module _ (o : Outset) (g : Origin) (sound : Bool) (l : EngineState) (story : Sto
   asked_sound session words has =
       let c = has.catalogue in
       let f = has.found in
-      let t = stock_at c f.relation.table in
+      let t = meta_at c f.relation.table in
       let image = (v.read ok).0 in
       let told = (v.read ok).1 in
       let read = asked_read image told session words.version c has.asked in
       let there = name_there c words.relation f.relation has.relation in
-      let given = stock_given v.rows c image f.relation.table read.stocked read.has there.0 in
+      let given = meta_given v.rows c image f.relation.table read.sound_rows read.has there.0 in
       let q = read_in c f in
       seen_sound v.rows image story.told told (relation_read t.lineage q.relation.view (planned t q.query.version))
-      (all_given v.rows image t.lineage q.relation.view (read_view t.lineage f there.1) (planned t q.query.version) (all_planned (AreGiven v.rows image t.lineage) t (all_unflat (IsGiven v.rows image) (delta_shelved t.lineage) (deltas_of t) given) q.query.version)) has.unsound
+      (all_given v.rows image t.lineage q.relation.view (read_view t.lineage f there.1) (planned t q.query.version) (all_planned (AreGiven v.rows image t.lineage) t (all_unflat (IsGiven v.rows image) (delta_live t.lineage) (deltas_of t) given) q.query.version)) has.unsound
 
   -- Its files tell the answer that each state gives of which the vault's books are.
   pub asked_tells : {R : Type 0} (bytes : R → Option (List ℕ)) (faults : R → ℕ) (session : ℕ) (words : QueryWords) (p : Pinned R) → HasItsFiles bytes faults story.told l session words p
@@ -125,7 +125,7 @@ module _ (o : Outset) (g : Origin) (sound : Bool) (l : EngineState) (story : Sto
   asked_tells bytes faults session words p has s answer are is =
       let c = has.catalogue in
       let f = has.found in
-      let t = stock_at c f.relation.table in
+      let t = meta_at c f.relation.table in
       let image = (v.read ok).0 in
       let told = (v.read ok).1 in
       let shaped = asked_shaped o g sound l story held h running refused v session words.version c has.asked in
@@ -139,17 +139,17 @@ module _ (o : Outset) (g : Origin) (sound : Bool) (l : EngineState) (story : Sto
       let columns = seen_columns v.rows c f.query.version sees.sees.store f.relation sees.has in
       let content = seen_content v.rows c f.query.version sees.sees.store f.relation sees.has in
       let q = read_in c f in
-      let its = all_at (IsShaped c.floor c.next) c.tables f.relation.table no_stock shaped.tables there.0 in
-      let stocked = all_at (IsStocked v.rows) c.tables f.relation.table no_stock read.stocked there.0 in
-      let given = stock_given v.rows c image f.relation.table read.stocked read.has there.0 in
+      let its = all_at (IsShaped c.floor c.next) c.tables f.relation.table no_meta shaped.tables there.0 in
+      let sound_rows = all_at (HasSoundRows v.rows) c.tables f.relation.table no_meta read.sound_rows there.0 in
+      let given = meta_given v.rows c image f.relation.table read.sound_rows read.has there.0 in
       let allowed : IsAllowed t.lineage f = record {
         query = subst (λ (s : Columns). IsQueryOf s f.query) (columns_found c f.relation) has.query;
         within = has.within;
         views = its.lineage.views;
         there = there.1;
       } in
-      let formed = content_form v.rows c.floor c.next t its stocked f.query.version None tt in
-      pinned_tells bytes faults story.told t q p has.files (read_view t.lineage f there.1) v.rows image told c.floor c.next its stocked given answer
+      let formed = content_form v.rows c.floor c.next t its sound_rows f.query.version None tt in
+      pinned_tells bytes faults story.told t q p has.files (read_view t.lineage f there.1) v.rows image told c.floor c.next its sound_rows given answer
       (ap (λ (a : Answer). a.page) (sym same) ∙ (λ j. page_of f.query.version f.query.limit f.query.resume (answer_rows (columns j) f.query.asked (content j)))
       ∙ (λ j. page_of (sym (read_version t.lineage f) j) (sym (read_limit t.lineage f) j) (sym (read_resume t.lineage f) j) (sym (read_rows v.rows t f f.query.version allowed formed) j))
       ∙ ap (λ n. page_of q.query.version q.query.limit q.query.resume (answer_rows (columns_read t.lineage q.relation.view) q.query.asked (content_read v.rows t q.relation.view n))) (sym (read_version t.lineage f)))
@@ -164,7 +164,7 @@ files_headed : {R : Type 0} (bytes : R → Option (List ℕ)) (faults : R → �
     → (sound : Bool) (rows : Rows) (s : State) (answer : Answer) → AreBooksOf sound (books_of rows l) s → query_answer s.warehouse session words ≡ Ok answer → IsHeaded p.query p.version answer
 files_headed bytes faults told l session words p has sound rows s answer are is =
     let f = has.found in
-    let l' = (stock_at has.catalogue f.relation.table).lineage in
+    let l' = (meta_at has.catalogue f.relation.table).lineage in
     let found = answer_found has.sees.store f in
     let both : Ok (bare_answer answer) ≡ Ok (bare_answer found) =
     ap (bare_result bare_answer) (sym is) ∙ query-bare s.warehouse session words ∙ ap (λ (x : Warehouse). bare_result bare_answer (query_answer x session words)) are.projection ∙ ap (bare_result bare_answer) (has.answered (books_of no_rows l).bare session has.sees) in

@@ -3,9 +3,9 @@ use Rattle.std.proofs.Common.{◌≡◌, ℕ, zero, suc, ◌-◌, ◌<◌, ◌�
 use Rattle.std.proofs.lemmas.Bool.{leb-false, ltb-false}
 use Rattle.mesa_filter.specs.declared.words.VersionWord.{VersionWord}
 use Rattle.mesa_filter.specs.declared.words.VersionWord.TheVariants as asks
-use Rattle.mesa_engine.specs.mesa_image_spec.Catalog.{Catalog, Stock, no_stock, stock_at}
+use Rattle.mesa_engine.specs.mesa_store_spec.Catalog.{Catalog, TableMeta, no_meta, meta_at}
 use Rattle.mesa_engine.specs.EngineState.{projection_of, projections}
-use Rattle.mesa_plans.specs.mesa_list.Checks.{◌>>◌, refuse_if}
+use Rattle.mesa_pick_files.specs.mesa_list.Checks.{◌>>◌, refuse_if}
 use Rattle.mesa_model.specs.Versions.{common_oldest, oldest_among, version_asked}
 use Rattle.mesa_model.specs.Warehouse.{Warehouse, newest_of}
 use Rattle.mesa_model.specs.declared.replies.Refusal.TheVariants as no
@@ -38,11 +38,11 @@ module _ (w : Warehouse) (oldest : ℕ) where
 
 -- ---- a pin's version
 
-among_most : (floor number : ℕ) (tables : List Stock) → number < length tables → (get_or tables number no_stock).oldest ≤ oldest_among floor (map projection_of tables)
+among_most : (floor number : ℕ) (tables : List TableMeta) → number < length tables → (get_or tables number no_meta).oldest ≤ oldest_among floor (map projection_of tables)
 among_most floor number [] there = absurd (omega arith)
 among_most floor zero (t ∷ tables) there = omega arith
 among_most floor (suc number) (t ∷ tables) there = let rest = among_most floor number tables (omega arith) in omega (arith, rest)
 
 -- no table has an oldest version above the first that all have
-pub common_most : (c : Catalog) (number : ℕ) → number < length c.tables → (stock_at c number).oldest ≤ common_oldest (projections c)
+pub common_most : (c : Catalog) (number : ℕ) → number < length c.tables → (meta_at c number).oldest ≤ common_oldest (projections c)
 common_most c number there = among_most c.floor number c.tables there

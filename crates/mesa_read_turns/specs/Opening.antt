@@ -10,7 +10,7 @@ use Rattle.mesa_filter.specs.Query.{BuiltQuery, IsQueryOf, group_kinds}
 use Rattle.mesa_filter.specs.declared.words.QueryWords.{QueryWords}
 use Rattle.mesa_filter.specs.declared.words.VersionWord.{VersionWord}
 use Rattle.mesa_filter.specs.declared.words.VersionWord.TheVariants as asks
-use Rattle.mesa_engine.specs.mesa_image_spec.Catalog.{Catalog, stock_at}
+use Rattle.mesa_engine.specs.mesa_store_spec.Catalog.{Catalog, meta_at}
 use Rattle.mesa_engine.specs.EngineState.{EngineState, books_of}
 use Rattle.mesa_engine.specs.Turned.{queried_state}
 use Rattle.mesa_engine.specs.Failure.{cause_in}
@@ -18,14 +18,14 @@ use Rattle.mesa_engine.specs.declared.failure.Failure.{Failure}
 use Rattle.mesa_engine.specs.Memory.{hold_now}
 use Rattle.mesa_model.specs.Query.{Answer}
 use Rattle.mesa_model.specs.declared.replies.Reply.TheVariants as reply
-use Rattle.mesa_engine.specs.mesa_image_spec.Planned.{planned}
-use Rattle.mesa_plans.specs.Read.{IsPinnedFor, SomeUnsound, relation_read}
-use Rattle.mesa_plans.specs.Files.{want_in}
-use Rattle.mesa_rules.specs.Found.{IsAnswered, Sees, columns_at, version_in}
-use Rattle.mesa_rules.specs.Ordered.{as_read}
-use Rattle.mesa_rules.specs.declared.found.Found.{Found}
+use Rattle.mesa_engine.specs.mesa_store_spec.Planned.{planned}
+use Rattle.mesa_pick_files.specs.Read.{IsPinnedFor, SomeUnsound, relation_read}
+use Rattle.mesa_pick_files.specs.Files.{want_in}
+use Rattle.mesa_validate.specs.Found.{IsAnswered, Sees, columns_at, version_in}
+use Rattle.mesa_validate.specs.Ordered.{as_read}
+use Rattle.mesa_validate.specs.declared.found.Found.{Found}
 use Rattle.mesa_engine.specs.mesa_history_spec.Rows.{no_rows}
-use Rattle.mesa_tasks.specs.declared.querying.Pinned.{Pinned}
+use Rattle.mesa_open_files.specs.declared.querying.Pinned.{Pinned}
 use Rattle.mesa_engine.specs.mesa_invariant_spec.Causes.{Cause, NoMemory, Replies, is_read_fault, outcome_of}
 use Rattle.mesa_engine.specs.mesa_invariant_spec.Undamaged.{is_damaged}
 
@@ -47,7 +47,7 @@ asked_state l session (asks.Pin token) position = l
 
 -- what is found in a catalogue, as it is read: a query of a table by the order that is chosen for it
 abbrev pub read_in : Catalog → Found → Found
-read_in c f = as_read (stock_at c f.relation.table).lineage f
+read_in c f = as_read (meta_at c f.relation.table).lineage f
 
 -- A session's query has the files of what it finds in the catalogue that it sees, as it is read, at the version that it asks of its table.
 pub record HasItsFiles {R : Type 0} (bytes : R → Option (List ℕ)) (faults : R → ℕ) (told : Option Image) (l : EngineState) (session : ℕ) (words : QueryWords) (p : Pinned R) : Type 0 where
@@ -61,7 +61,7 @@ pub record HasItsFiles {R : Type 0} (bytes : R → Option (List ℕ)) (faults : 
   pub query : IsQueryOf (columns_at catalogue found.relation) found.query
   pub within : IsTrue (are_within found.query.kinds found.query.asked.terms)
   pub kinds : group_kinds (read_in catalogue found).query ≡ group_kinds found.query
-  pub files : IsPinnedFor bytes faults told (stock_at catalogue found.relation.table) (read_in catalogue found) p
+  pub files : IsPinnedFor bytes faults told (meta_at catalogue found.relation.table) (read_in catalogue found) p
 
 -- An answer's page is of this version, under the heading of this query.
 pub record IsHeaded (query : BuiltQuery) (version : ℕ) (answer : Answer) : Type 0 where
@@ -75,7 +75,7 @@ pub record HasUnsoundFile (told : Option Image) (l : EngineState) (session : ℕ
   pub asked : catalogue_asked l session words.version ≡ Some catalogue
   pub found : Found
   pub relation : relation_of catalogue words.relation ≡ Some found.relation
-  pub unsound : SomeUnsound told (map want_in (relation_read (stock_at catalogue found.relation.table).lineage (read_in catalogue found).relation.view (planned (stock_at catalogue found.relation.table) (read_in catalogue found).query.version)))
+  pub unsound : SomeUnsound told (map want_in (relation_read (meta_at catalogue found.relation.table).lineage (read_in catalogue found).relation.view (planned (meta_at catalogue found.relation.table) (read_in catalogue found).query.version)))
 
 -- whether damage is why there is nothing
 abbrev pub tells_damage : Failure → Bool

@@ -4,10 +4,10 @@ use Rattle.mesa_read_turns.specs.declared.seeing.Seen.{Seen}
 use Rattle.mesa_filter.specs.declared.words.QueryWords.{QueryWords}
 use Rattle.mesa_filter.specs.declared.words.VersionWord.{VersionWord}
 use Rattle.mesa_filter.specs.declared.words.VersionWord.TheVariants as asks
-use Rattle.mesa_engine.specs.mesa_image_spec.Catalog.{Catalog}
+use Rattle.mesa_engine.specs.mesa_store_spec.Catalog.{Catalog}
 use Rattle.mesa_engine.specs.EngineState.{HeldPin, EngineState}
 use Rattle.mesa_engine.specs.Turned.{is_held_pin}
-use Rattle.mesa_rules.specs.Found.{Sees}
+use Rattle.mesa_validate.specs.Found.{Sees}
 use Rattle.mesa_engine.specs.mesa_invariant_spec.Books.{Books}
 
 -- A session's query sees these tables in the books, and where they are a pin's, this version of each of them.

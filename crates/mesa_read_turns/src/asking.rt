@@ -7,14 +7,14 @@ ghost use Rattle.mesa_engine.specs.mesa_catalog.Lookups.{relation_of};
 ghost use Rattle.mesa_filter.specs.Query.{IsQueryOf};
 ghost use Rattle.mesa_engine.specs.EngineState.{books_of};
 ghost use Rattle.mesa_model.specs.Query.{query_answer};
-ghost use Rattle.mesa_rules.specs.Found.{IsAnswered, Sees, columns_at, version_in};
+ghost use Rattle.mesa_validate.specs.Found.{IsAnswered, Sees, columns_at, version_in};
 ghost use Rattle.mesa_engine.specs.mesa_history_spec.Rows.{Rows};
 
 use crate::{Seen, seen_by};
 use mesa_binding::Failure;
 use mesa_engine::{Catalog, Metadata};
 use mesa_filter::QueryWords;
-use mesa_rules::Found;
+use mesa_validate::Found;
 use std::alloc::Global;
 
 /// A query that the rules allow: the tables that it sees, and what it asks of them.
@@ -40,6 +40,6 @@ pub fn ask<'a>(
     ensures opened { IfErr result (λ failure. failure ≡ WantOfMemory → metadata.now.state.closed ≡ None) }
 {
     let Seen { catalog, pinned } = seen_by(metadata, session, words.version)?;
-    let found = mesa_rules::query(alloc, catalog, pinned, words)?;
+    let found = mesa_validate::query(alloc, catalog, pinned, words)?;
     Ok(Asked { catalog, found })
 }

@@ -1,7 +1,7 @@
 // A query's last turn.
 ghost use Rattle.std.specs.Prelude.{◌≡◌, ◌<◌, ◌≤◌, ◌||◌, ◌++◌, ◌∷◌, [], true, false, not, is_some, length, vec_capacity, vec_len, IfErr};
 ghost use Rattle.mesa_read_turns.specs.Closing.{IsPageOf, IsSomePageOf, IsToClose, cause_if, cause_of, closing_entry, closing_text};
-ghost use Rattle.mesa_tasks.specs.Errors.{HasDiffered};
+ghost use Rattle.mesa_open_files.specs.Errors.{HasDiffered};
 ghost use Rattle.mesa_engine.specs.mesa_history_spec.Run.{Finished};
 ghost use Rattle.mesa_engine.specs.Turned.{answered_state};
 ghost use Rattle.mesa_engine.specs.Failure.{cause_in};
@@ -10,7 +10,7 @@ ghost use Rattle.mesa_engine.specs.Memory.{is_of_another};
 ghost use Rattle.mesa_model.specs.Entry.{IsShort};
 ghost use Rattle.mesa_model.specs.declared.entries.Kind.TheVariants as kind;
 ghost use Rattle.mesa_engine.specs.mesa_history_spec.Rows.{Rows, no_rows};
-ghost use Rattle.mesa_tasks.specs.GivingBack.{SomeFailed, pinned_inputs};
+ghost use Rattle.mesa_open_files.specs.GivingBack.{SomeFailed, pinned_inputs};
 ghost use Rattle.mesa_engine.specs.mesa_invariant_spec.Printing.{IsPut};
 ghost use Rattle.mesa_engine.specs.mesa_invariant_spec.Queries.{closing_fault, closing_outcome};
 ghost use Rattle.mesa_engine.specs.mesa_invariant_spec.Turns.{AnswersDisk, SomeRose, Takes};
@@ -25,7 +25,7 @@ use mesa_engine::{Engine, Failure, Log, Naming, Who};
 use mesa_io::Sink;
 use mesa_model::{Kind, Outcome};
 use mesa_script::Rendered;
-use mesa_tasks::{Pinned, retire_pinned};
+use mesa_open_files::{Pinned, retire_pinned};
 
 // Why a query has no answer.
 pub(crate) fn failed(error: FileError) -> Failure

@@ -1,8 +1,8 @@
 // Damage, as it can be told.
 ghost use Rattle.std.specs.Prelude.{◌≡◌, ◌<◌, ◌^◌, length, IfErr};
-ghost use Rattle.mesa_tasks.specs.Errors.{Differs, HasDiffered};
+ghost use Rattle.mesa_open_files.specs.Errors.{Differs, HasDiffered};
 ghost use Rattle.mesa_read_turns.specs.Closing.{cause_if};
-ghost use Rattle.mesa_plans.specs.mesa_key.Spelling.{AreBytes};
+ghost use Rattle.mesa_pick_files.specs.mesa_key.Spelling.{AreBytes};
 ghost use Rattle.mesa_engine.specs.mesa_history_spec.Output.{IsDamage, IsSeen};
 ghost use Rattle.mesa_engine.specs.mesa_invariant_spec.Queries.{MayClose};
 

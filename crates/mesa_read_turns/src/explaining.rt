@@ -5,7 +5,7 @@ ghost use Rattle.mesa_engine.specs.mesa_history_spec.Machine.{explained};
 ghost use Rattle.mesa_engine.specs.mesa_history_spec.Replay.{no_rows as no_heading};
 ghost use Rattle.mesa_engine.specs.mesa_history_spec.Run.{First, Finished};
 ghost use Rattle.mesa_engine.specs.mesa_history_spec.Turns.{IsDue};
-ghost use Rattle.mesa_engine.specs.mesa_image_spec.Shape.{IsCatalog};
+ghost use Rattle.mesa_engine.specs.mesa_store_spec.Shape.{IsCatalog};
 ghost use Rattle.mesa_engine.specs.EngineState.{books_of};
 ghost use Rattle.mesa_engine.specs.Failure.{cause_in};
 ghost use Rattle.mesa_model.specs.declared.commands.Command.TheVariants as command;
@@ -51,7 +51,7 @@ fn planned(alloc: Global, metadata: &Metadata, words: &ExplainWords) -> Result<T
     if let Some(position) = metadata.closed() {
         return Err(Failure::Refused(Refusal::Closed { position }));
     }
-    let reply = match mesa_rules::explain(alloc, metadata.catalog(), words) {
+    let reply = match mesa_validate::explain(alloc, metadata.catalog(), words) {
         Ok(reply) => reply,
         Err(failure) => return Err(failed(failure)),
     };

@@ -5,7 +5,7 @@ ghost use Rattle.mesa_engine.specs.mesa_invariant_spec.Turns.{NoneFell};
 use mesa_disk::{Disk, Made};
 use mesa_engine::{Engine, Naming};
 use mesa_io::Sink;
-use mesa_tasks::{Pinned, retire_pinned};
+use mesa_open_files::{Pinned, retire_pinned};
 
 /// Gives back the readers of a query. Those that have failed are counted by the disk.
 pub fn give_back<N: Naming, M: Made, D: Disk<M>, K: Sink>(

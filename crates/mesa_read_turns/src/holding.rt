@@ -3,14 +3,14 @@ ghost use Rattle.std.specs.Prelude.{◌≡◌, true, IfErr, IfOk, OnErr, OnOk, S
 ghost use Rattle.mesa_read_turns.specs.Opening.{HasItsFiles, HasUnsoundFile, asked_state, is_unread, tells_damage};
 ghost use Rattle.mesa_read_turns.specs.Seeing.{catalogue_asked};
 ghost use Rattle.mesa_disk.specs.Story.{Unmoved};
-ghost use Rattle.mesa_engine.specs.mesa_image_spec.Catalog.{Catalog as AnyCatalog};
-ghost use Rattle.mesa_engine.specs.mesa_image_spec.Shape.{IsCatalog};
+ghost use Rattle.mesa_engine.specs.mesa_store_spec.Catalog.{Catalog as AnyCatalog};
+ghost use Rattle.mesa_engine.specs.mesa_store_spec.Shape.{IsCatalog};
 ghost use Rattle.mesa_engine.specs.EngineState.{books_of};
 ghost use Rattle.mesa_engine.specs.Failure.{cause_in};
 ghost use Rattle.mesa_engine.specs.Memory.{with_state};
 ghost use Rattle.mesa_schema.specs.Columns.{Columns};
 ghost use Rattle.mesa_engine.specs.mesa_history_spec.Rows.{no_rows};
-ghost use Rattle.mesa_tasks.specs.Pins.{IsPinned};
+ghost use Rattle.mesa_open_files.specs.Pins.{IsPinned};
 ghost use Rattle.mesa_engine.specs.mesa_invariant_spec.Queries.{HasNoAnswer};
 ghost use Rattle.mesa_engine.specs.mesa_invariant_spec.Invariant.{Counts};
 
@@ -18,7 +18,7 @@ use crate::opening::files_asked;
 use mesa_disk::{Disk, Made};
 use mesa_engine::{Failure, Metadata};
 use mesa_filter::{QueryWords, VersionWord};
-use mesa_tasks::{Pinned, retire_pinned};
+use mesa_open_files::{Pinned, retire_pinned};
 use std::alloc::{AllocError, Global};
 
 // The files that answer a session's query, for a reply at the position of this turn, held until it is closed; or why it isn't answered.

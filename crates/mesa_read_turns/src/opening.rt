@@ -6,20 +6,20 @@ ghost use Rattle.mesa_read_turns.specs.Seeing.{catalogue_asked};
 ghost use Rattle.mesa_delta.specs.declared.error.FileError.TheVariants as file_error;
 ghost use Rattle.mesa_disk.specs.Story.{Unmoved};
 ghost use Rattle.mesa_file.specs.declared.damage.Damage.{Damage as AnyDamage};
-ghost use Rattle.mesa_engine.specs.mesa_image_spec.Catalog.{Catalog as AnyCatalog, stock_at};
+ghost use Rattle.mesa_engine.specs.mesa_store_spec.Catalog.{Catalog as AnyCatalog, meta_at};
 ghost use Rattle.mesa_filter.specs.Filter.{are_within};
 ghost use Rattle.mesa_filter.specs.Query.{IsQueryOf, group_kinds};
-ghost use Rattle.mesa_engine.specs.mesa_image_spec.Planned.{planned as planned_of};
-ghost use Rattle.mesa_plans.specs.Read.{IsPinnedFor, SomeUnsound, relation_read};
-ghost use Rattle.mesa_plans.specs.Files.{want_in};
-ghost use Rattle.mesa_rules.specs.Found.{columns_at};
-ghost use Rattle.mesa_engine.specs.mesa_image_spec.Shape.{IsCatalog};
+ghost use Rattle.mesa_engine.specs.mesa_store_spec.Planned.{planned as planned_of};
+ghost use Rattle.mesa_pick_files.specs.Read.{IsPinnedFor, SomeUnsound, relation_read};
+ghost use Rattle.mesa_pick_files.specs.Files.{want_in};
+ghost use Rattle.mesa_validate.specs.Found.{columns_at};
+ghost use Rattle.mesa_engine.specs.mesa_store_spec.Shape.{IsCatalog};
 ghost use Rattle.mesa_engine.specs.EngineState.{books_of};
 ghost use Rattle.mesa_engine.specs.Failure.{cause_in};
 ghost use Rattle.mesa_schema.specs.Columns.{Columns};
 ghost use Rattle.mesa_engine.specs.mesa_history_spec.Rows.{no_rows};
-ghost use Rattle.mesa_tasks.specs.Opening.{Counted, is_read_fault};
-ghost use Rattle.mesa_tasks.specs.Pins.{IsPinned};
+ghost use Rattle.mesa_open_files.specs.Opening.{Counted, is_read_fault};
+ghost use Rattle.mesa_open_files.specs.Pins.{IsPinned};
 ghost use Rattle.mesa_engine.specs.mesa_invariant_spec.Queries.{HasNoAnswer, IsUnanswered};
 
 use crate::closing::failed;
@@ -28,9 +28,9 @@ use mesa_delta::FileError;
 use mesa_disk::{Disk, Made};
 use mesa_engine::{Catalog, Failure, Metadata};
 use mesa_filter::QueryWords;
-use mesa_plans::open_files;
-use mesa_rules::{Found, ordered};
-use mesa_tasks::Pinned;
+use mesa_pick_files::open_files;
+use mesa_validate::{Found, ordered};
+use mesa_open_files::Pinned;
 use std::alloc::{AllocError, Global};
 
 // The files that answer a session's query, for a reply at a position, or why it isn't answered.
@@ -74,7 +74,7 @@ fn open_found<M: Made, D: Disk<M>>(
 ) -> Result<Pinned<D::Reader>, FileError>
     requires shaped { IsCatalog catalog.now.catalogue }
     requires there { found.relation.table < length catalog.now.catalogue.tables }
-    requires view { IfSome found.relation.view (λ view. view < length (stock_at catalog.now.catalogue found.relation.table).lineage.views) }
+    requires view { IfSome found.relation.view (λ view. view < length (meta_at catalog.now.catalogue found.relation.table).lineage.views) }
     requires sound { IsQueryOf (columns_at catalog.now.catalogue found.relation) found.query }
     ensures unmoved { Unmoved (D.story disk.old) (D.story disk.new) }
     ensures counted { Counted (D.story disk.old) (D.story disk.new) (is_read_fault result) }
@@ -82,10 +82,10 @@ fn open_found<M: Made, D: Disk<M>>(
     ensures pinned { IfOk result (λ p. (s : Columns) × IsPinned D.Reader.bytes s p) }
     ensures within { IsTrue (are_within found.query.kinds found.query.asked.terms) }
     ensures kinds { group_kinds (read_in catalog.now.catalogue found).query ≡ group_kinds found.query }
-    ensures files { IfOk result (IsPinnedFor D.Reader.bytes D.Reader.faults (D.story disk.old).told (stock_at catalog.now.catalogue found.relation.table) (read_in catalog.now.catalogue found)) }
+    ensures files { IfOk result (IsPinnedFor D.Reader.bytes D.Reader.faults (D.story disk.old).told (meta_at catalog.now.catalogue found.relation.table) (read_in catalog.now.catalogue found)) }
     ensures damage { IfErr result (λ e. (d : AnyDamage) → e ≡ file_error.Damaged d → d.want ≢ d.found) }
     ensures unsound { IfErr result (λ e. (d : AnyDamage) → e ≡ file_error.Damaged d
-        → SomeUnsound (D.story disk.old).told (map want_in (relation_read (stock_at catalog.now.catalogue found.relation.table).lineage (read_in catalog.now.catalogue found).relation.view (planned_of (stock_at catalog.now.catalogue found.relation.table) (read_in catalog.now.catalogue found).query.version)))) }
+        → SomeUnsound (D.story disk.old).told (map want_in (relation_read (meta_at catalog.now.catalogue found.relation.table).lineage (read_in catalog.now.catalogue found).relation.view (planned_of (meta_at catalog.now.catalogue found.relation.table) (read_in catalog.now.catalogue found).query.version)))) }
 {
     match ordered(catalog, found) {
         Ok(found) => {

@@ -26,7 +26,7 @@ fn version_for(metadata: &Metadata, asked: VersionWord) -> Result<u32, Refusal>
     if let Some(position) = metadata.closed() {
         return Err(Refusal::Closed { position });
     }
-    mesa_rules::pin(metadata.catalog(), asked, metadata.pins())
+    mesa_validate::pin(metadata.catalog(), asked, metadata.pins())
 }
 
 /// The turn of a pin: the session keeps a version, with its files, until it releases it.

@@ -5,10 +5,10 @@ ghost use Rattle.mesa_engine.specs.mesa_history_spec.Run.{First, Finished};
 ghost use Rattle.mesa_engine.specs.mesa_history_spec.Turns.{IsDue};
 ghost use Rattle.mesa_model.specs.declared.commands.Command.TheVariants as command;
 ghost use Rattle.mesa_model.specs.declared.entries.Kind.TheVariants as kind;
-ghost use Rattle.mesa_plans.specs.Told.{Tells};
+ghost use Rattle.mesa_pick_files.specs.Told.{Tells};
 ghost use Rattle.mesa_schema.specs.Columns.{Columns};
 ghost use Rattle.mesa_engine.specs.mesa_history_spec.Rows.{no_rows};
-ghost use Rattle.mesa_tasks.specs.Pins.{IsPinned};
+ghost use Rattle.mesa_open_files.specs.Pins.{IsPinned};
 ghost use Rattle.mesa_engine.specs.mesa_invariant_spec.Queries.{IsOpen};
 ghost use Rattle.mesa_engine.specs.mesa_invariant_spec.Turns.{AnswersDisk, IsSeen, IsTurn, SomeRose, Takes};
 ghost use Rattle.mesa_engine.specs.mesa_invariant_spec.Invariant.{run_at};
@@ -19,7 +19,7 @@ use mesa_engine::{Engine, Naming, Who};
 use mesa_filter::QueryWords;
 use mesa_io::Sink;
 use mesa_model::{Kind, Outcome};
-use mesa_tasks::Pinned;
+use mesa_open_files::Pinned;
 
 /// The turn that opens a query: the files that answer it, which are held until it is closed, unless the rules answer none, or a file couldn't be opened.
 pub fn pin_query<N: Naming, M: Made, D: Disk<M>, K: Sink>(

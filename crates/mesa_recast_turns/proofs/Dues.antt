@@ -8,7 +8,7 @@ use Rattle.mesa_work_turns.specs.mesa_history_spec.Claims.{HasClaimAt, HasErrand
 use Rattle.mesa_work_turns.specs.mesa_history_spec.Machine.{Claim, Errand, Machine, Recasts, still_checked}
 use Rattle.mesa_work_turns.specs.mesa_history_spec.Run.{Place, Renewed}
 use Rattle.mesa_work_turns.specs.mesa_history_spec.Turns.{IsDue}
-use Rattle.mesa_engine.specs.mesa_image_spec.Catalog.{ranges_of}
+use Rattle.mesa_engine.specs.mesa_store_spec.Catalog.{ranges_of}
 use Rattle.mesa_engine.specs.EngineState.{EngineState}
 use Rattle.mesa_engine.specs.Vault.{Origin, IsVault}
 use Rattle.mesa_engine.proofs.BeforeTurns.{vault_claims}

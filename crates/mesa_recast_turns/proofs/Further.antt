@@ -9,20 +9,20 @@ use Rattle.mesa_work_turns.specs.mesa_schema.Changes.{Lineage, columns_of, epoch
 use Rattle.mesa_work_turns.specs.mesa_schema.Columns.{Columns}
 use Rattle.mesa_work_turns.specs.mesa_schema.Recasts.{Recast}
 use Rattle.mesa_work_turns.specs.mesa_history_spec.Rows.{Rows}
-use Rattle.mesa_tasks.specs.Inputs.{AreInputsTo, IsMergeOf}
-use Rattle.mesa_tasks.specs.Opening.{Counted}
-use Rattle.mesa_tasks.specs.Recasts.{AreRangesOf, AreRewritten, own}
-use Rattle.mesa_tasks.specs.declared.recasting.RecastRange.{RecastRange}
-use Rattle.mesa_tasks.specs.declared.recasting.RecastedRange.{RecastedRange}
+use Rattle.mesa_open_files.specs.Inputs.{AreInputsTo, IsMergeOf}
+use Rattle.mesa_open_files.specs.Opening.{Counted}
+use Rattle.mesa_open_files.specs.Recasts.{AreRangesOf, AreRewritten, own}
+use Rattle.mesa_open_files.specs.declared.recasting.RecastRange.{RecastRange}
+use Rattle.mesa_open_files.specs.declared.recasting.RecastedRange.{RecastedRange}
 use Rattle.mesa_work_turns.specs.mesa_invariant_spec.Turns.{SomeRose, faults_of}
 use Rattle.mesa_work_turns.specs.mesa_invariant_spec.Invariant.{HasCounted}
 use Rattle.mesa_engine.proofs.Lists.{all_joined, all_so}
 use Rattle.mesa_work_turns.specs.mesa_copy.Copying.{AreRangesBounded, known_range, known_ranges}
 use Rattle.mesa_work_turns.specs.mesa_compact.Bounded.{AreBounded}
 use Rattle.mesa_work_turns.specs.mesa_merge.Inputs.{knowns_of}
-use Rattle.mesa_work_turns.specs.mesa_publishing.Grown.{HasSameColumns}
-use Rattle.mesa_work_turns.specs.mesa_publishing.Recasts.{HasItsRange, sources_at}
-use Rattle.mesa_work_turns.proofs.mesa_publishing.Rewriting.{same_columns, same_range}
+use Rattle.mesa_work_turns.specs.mesa_file_records.Grown.{HasSameColumns}
+use Rattle.mesa_work_turns.specs.mesa_file_records.Recasts.{HasItsRange, sources_at}
+use Rattle.mesa_work_turns.proofs.mesa_file_records.Rewriting.{same_columns, same_range}
 use Rattle.mesa_work_turns.proofs.mesa_copy.Rewriting.{rewritten_front}
 use Rattle.mesa_work_turns.proofs.Grants.{fault_counts}
 use Rattle.mesa_recast_turns.specs.Rested.{HasFurther}

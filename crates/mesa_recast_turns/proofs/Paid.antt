@@ -16,9 +16,9 @@ use Rattle.mesa_work_turns.specs.mesa_history_spec.Legal.{is_answered}
 use Rattle.mesa_work_turns.specs.mesa_history_spec.Machine.{Claim}
 use Rattle.mesa_work_turns.specs.mesa_invariant_spec.Works.{closing_stage}
 use Rattle.mesa_work_turns.specs.mesa_invariant_spec.Causes.{outcome_of}
-use Rattle.mesa_tasks.specs.GivingBack.{GivesBack, SomeFailed}
-use Rattle.mesa_tasks.specs.declared.merging.CompactError.{CompactError}
-use Rattle.mesa_tasks.specs.declared.merging.CompactError.TheVariants as compact
+use Rattle.mesa_open_files.specs.GivingBack.{GivesBack, SomeFailed}
+use Rattle.mesa_open_files.specs.declared.merging.CompactError.{CompactError}
+use Rattle.mesa_open_files.specs.declared.merging.CompactError.TheVariants as compact
 
 -- the story with these counts
 abbrev with_counts : Story → ℕ → ℕ → Story

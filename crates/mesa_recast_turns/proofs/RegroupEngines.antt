@@ -16,12 +16,12 @@ use Rattle.mesa_work_turns.specs.mesa_history_spec.Run.{Renewed}
 use Rattle.mesa_work_turns.specs.mesa_history_spec.Turns.{IsDue}
 use Rattle.mesa_engine.specs.mesa_record.Reading.{record_at}
 use Rattle.mesa_engine.specs.mesa_record.Rules.{IsTyped}
-use Rattle.mesa_engine.specs.mesa_image_spec.Catalog.{applied}
-use Rattle.mesa_engine.specs.mesa_image_spec.Ids.{dropped_ids}
+use Rattle.mesa_engine.specs.mesa_store_spec.Catalog.{applied}
+use Rattle.mesa_engine.specs.mesa_store_spec.Ids.{dropped_ids}
 use Rattle.mesa_engine.specs.mesa_catalog.Lookups.{generation_of, turns_generation}
 use Rattle.mesa_work_turns.specs.mesa_history_spec.Rows.{Rows, no_rows}
-use Rattle.mesa_tasks.specs.Recasts.{claim_of_recast, recast_in}
-use Rattle.mesa_tasks.specs.declared.recasting.Recast.{Recast}
+use Rattle.mesa_open_files.specs.Recasts.{claim_of_recast, recast_in}
+use Rattle.mesa_open_files.specs.declared.recasting.Recast.{Recast}
 use Rattle.mesa_work_turns.specs.mesa_invariant_spec.Causes.{Unwritten, reply_of, told_at}
 use Rattle.mesa_work_turns.specs.mesa_invariant_spec.Turns.{entry}
 use Rattle.mesa_work_turns.specs.mesa_invariant_spec.Invariant.{Counts, run_at}
@@ -34,9 +34,9 @@ use Rattle.mesa_engine.specs.Printing.{PrintsBlock}
 use Rattle.mesa_engine.specs.Memory.{Memory}
 use Rattle.mesa_engine.specs.Engine.{IsEngine}
 use Rattle.mesa_engine.proofs.Turning.{told_engine}
-use Rattle.mesa_work_turns.specs.mesa_publishing.Published.{AllTell}
-use Rattle.mesa_work_turns.specs.mesa_publishing.Recasts.{HasItsRanges, IsRecastIn, stock_of_recast}
-use Rattle.mesa_work_turns.specs.mesa_publishing.declared.swapping.Swapped.{Swapped}
+use Rattle.mesa_work_turns.specs.mesa_file_records.Published.{AllTell}
+use Rattle.mesa_work_turns.specs.mesa_file_records.Recasts.{HasItsRanges, IsRecastIn, meta_of_recast}
+use Rattle.mesa_work_turns.specs.mesa_file_records.declared.swapping.Swapped.{Swapped}
 use Rattle.mesa_work_turns.proofs.mesa_write_turns.Written.{IsWhole, IsWorked, absent_yet}
 use Rattle.mesa_recast_turns.proofs.Regroups.{recast_ends, recast_fails, told_of}
 
@@ -54,7 +54,7 @@ module _ {K : Type 0} (held : K → Option (List ℕ)) (faults : K → ℕ) (n :
 
   module _ (session number : ℕ) (low : session < 2 ^ 16) (few : number < 2 ^ 32) (ran : not log.printer.broken ≡ true) (typed : IsTyped s.entry)
       (words : RecastWords) (due : (w : Rows) → IsDue n.script (run_at n.script (n.start w) log.history.items) session number (command.Recast words) (Renewed (claim_of_recast t)))
-      (still : still_checked (stock_of_recast m.state t).lineage t.epoch (recast_in t) ≡ Ok tt)
+      (still : still_checked (meta_of_recast m.state t).lineage t.epoch (recast_in t) ≡ Ok tt)
       (ranges : (w : Rows) → n.sound w → HasItsRanges read t (written_by (outset_of n w) (n.origin w).found log.history.items t.table)) (tell : (w : Rows) → n.sound w → AllTell bytes s.made.items)
       (body : List ℕ) (are : AreBytes body) (reads : record_at body ≡ Ok s.entry)
       (new : Story) (worked : IsWorked story new m.state.area m.state.end body (files_of bytes s.made.items) (removed_by m.state (length log.history.items) (dropped_ids m.state.catalogue s.entry)))

@@ -29,26 +29,26 @@ use Rattle.mesa_engine.specs.mesa_record.Rules.{IsTyped, keeps_rules}
 use Rattle.mesa_engine.specs.mesa_record.declared.record.Record.{Record}
 use Rattle.mesa_engine.specs.mesa_record.declared.record.Record.TheVariants as record_of
 use Rattle.mesa_engine.specs.mesa_record.declared.recasting.Recasting.{Recasting}
-use Rattle.mesa_engine.specs.mesa_image_spec.Catalog.{Catalog, applied, no_stock, stock_at}
-use Rattle.mesa_engine.specs.mesa_image_spec.Contents.{kept_of}
-use Rattle.mesa_engine.specs.mesa_image_spec.Fitting.{brought, fits, kind_fits, shelved}
-use Rattle.mesa_engine.specs.mesa_image_spec.Held.{IsHeld, IsUnnamed}
-use Rattle.mesa_engine.specs.mesa_image_spec.Sound.{AreStocked, StandsFor, wants}
-use Rattle.mesa_engine.proofs.mesa_image_spec.Agreeing.{agree_stocked, agree_wants}
-use Rattle.mesa_engine.proofs.mesa_image_spec.AllSourced.{agree_sourced, recast_sources as recast_sourced}
-use Rattle.mesa_engine.proofs.mesa_image_spec.CatalogRewriting.{catalog_brings}
-use Rattle.mesa_engine.proofs.mesa_image_spec.CountedRecords.{fits_counted}
-use Rattle.mesa_engine.proofs.mesa_image_spec.Ids.{own_ids}
-use Rattle.mesa_engine.proofs.mesa_image_spec.Recordable.{applied_recordable}
-use Rattle.mesa_engine.proofs.mesa_image_spec.Moving.{kind_of}
-use Rattle.mesa_engine.proofs.mesa_image_spec.RecastKept.{recast_moves}
-use Rattle.mesa_engine.proofs.mesa_image_spec.ShapedRecasts.{recast_there}
-use Rattle.mesa_engine.proofs.mesa_image_spec.Wholes.{fits_shaped}
-use Rattle.mesa_engine.specs.mesa_image_spec.Brought.{AreTold, BringsRecast}
-use Rattle.mesa_engine.specs.mesa_image_spec.Ids.{brought_ids, dropped_ids, named}
-use Rattle.mesa_engine.specs.mesa_image_spec.Moves.{Moves, kept_recast}
-use Rattle.mesa_engine.specs.mesa_image_spec.Rewritten.{recasting_of}
-use Rattle.mesa_engine.specs.mesa_image_spec.Sourced.{HasSources, written_behind}
+use Rattle.mesa_engine.specs.mesa_store_spec.Catalog.{Catalog, applied, no_meta, meta_at}
+use Rattle.mesa_engine.specs.mesa_store_spec.Contents.{kept_of}
+use Rattle.mesa_engine.specs.mesa_store_spec.Fitting.{brought, fits, kind_fits, live_files}
+use Rattle.mesa_engine.specs.mesa_store_spec.Held.{IsHeld, IsUnnamed}
+use Rattle.mesa_engine.specs.mesa_store_spec.Sound.{HaveSoundRows, StandsFor, wants}
+use Rattle.mesa_engine.proofs.mesa_store_spec.Agreeing.{agree_sound_rows, agree_wants}
+use Rattle.mesa_engine.proofs.mesa_store_spec.AllSourced.{agree_sourced, recast_sources as recast_sourced}
+use Rattle.mesa_engine.proofs.mesa_store_spec.CatalogRewriting.{catalog_brings}
+use Rattle.mesa_engine.proofs.mesa_store_spec.CountedRecords.{fits_counted}
+use Rattle.mesa_engine.proofs.mesa_store_spec.Ids.{own_ids}
+use Rattle.mesa_engine.proofs.mesa_store_spec.Recordable.{applied_recordable}
+use Rattle.mesa_engine.proofs.mesa_store_spec.Moving.{kind_of}
+use Rattle.mesa_engine.proofs.mesa_store_spec.RecastKept.{recast_moves}
+use Rattle.mesa_engine.proofs.mesa_store_spec.ShapedRecasts.{recast_there}
+use Rattle.mesa_engine.proofs.mesa_store_spec.Wholes.{fits_shaped}
+use Rattle.mesa_engine.specs.mesa_store_spec.Brought.{AreTold, BringsRecast}
+use Rattle.mesa_engine.specs.mesa_store_spec.Ids.{brought_ids, dropped_ids, named}
+use Rattle.mesa_engine.specs.mesa_store_spec.Moves.{Moves, kept_recast}
+use Rattle.mesa_engine.specs.mesa_store_spec.Rewritten.{recasting_of}
+use Rattle.mesa_engine.specs.mesa_store_spec.Sourced.{HasSources, written_behind}
 use Rattle.mesa_engine.specs.mesa_catalog.Lookups.{generation_of, turns_generation}
 use Rattle.mesa_store.specs.Store.{Writes as IsWritten}
 use Rattle.mesa_work_turns.specs.mesa_history_spec.Output.{block}
@@ -56,8 +56,8 @@ use Rattle.mesa_work_turns.specs.mesa_history_spec.Rows.{Rows, no_rows}
 use Rattle.mesa_work_turns.proofs.mesa_commit.Filing.{freed_unnamed}
 use Rattle.mesa_engine.specs.mesa_commit.Filed.{Renames}
 use Rattle.mesa_engine.specs.mesa_commit.Holding.{Among, freed, ids_of}
-use Rattle.mesa_tasks.specs.Recasts.{claim_of_recast, recast_in, recast_table}
-use Rattle.mesa_tasks.specs.declared.recasting.Recast.{Recast}
+use Rattle.mesa_open_files.specs.Recasts.{claim_of_recast, recast_in, recast_table}
+use Rattle.mesa_open_files.specs.declared.recasting.Recast.{Recast}
 use Rattle.mesa_work_turns.specs.mesa_invariant_spec.Causes.{Unwritten, reply_of, told_at}
 use Rattle.mesa_work_turns.specs.mesa_invariant_spec.Printing.{IsPut}
 use Rattle.mesa_work_turns.specs.mesa_invariant_spec.Turns.{entry}
@@ -74,38 +74,38 @@ use Rattle.mesa_engine.proofs.RecordedStates.{Clears, clears_freed}
 use Rattle.mesa_engine.proofs.Renaming.{record_brings, record_renames}
 use Rattle.mesa_engine.proofs.Sources.{recast_sources}
 use Rattle.mesa_engine.proofs.Writing.{recast_vault, unrecast_vault}
-use Rattle.mesa_work_turns.specs.mesa_publishing.Published.{AllTell, rows_with}
-use Rattle.mesa_work_turns.specs.mesa_publishing.Grown.{HasSameColumns}
-use Rattle.mesa_work_turns.specs.mesa_publishing.Recasts.{HasItsRanges, IsRecastIn, stock_of_recast}
-use Rattle.mesa_work_turns.specs.mesa_publishing.declared.swapping.Swapped.{Swapped}
+use Rattle.mesa_work_turns.specs.mesa_file_records.Published.{AllTell, rows_with}
+use Rattle.mesa_work_turns.specs.mesa_file_records.Grown.{HasSameColumns}
+use Rattle.mesa_work_turns.specs.mesa_file_records.Recasts.{HasItsRanges, IsRecastIn, meta_of_recast}
+use Rattle.mesa_work_turns.specs.mesa_file_records.declared.swapping.Swapped.{Swapped}
 use Rattle.mesa_work_turns.proofs.Swaps.{all_among, not_among}
 use Rattle.mesa_work_turns.proofs.mesa_write_turns.Written.{IsWhole, IsWorked}
 
 -- the table of a number as the books have it
-pub table_is : (l : EngineState) (table : ℕ) → table_at (books_of no_rows l).bare.store table ≡ projection_of (stock_at l.catalogue table)
-table_is l table = map_at projection_of l.catalogue.tables table no_stock
+pub table_is : (l : EngineState) (table : ℕ) → table_at (books_of no_rows l).bare.store table ≡ projection_of (meta_at l.catalogue table)
+table_is l table = map_at projection_of l.catalogue.tables table no_meta
 
 -- what a claim's table is told as
 abbrev pub told_of : {R : Type 0} → EngineState → Recast R → Reply
 told_of l t = recast_reply (table_at (books_of no_rows l).bare.store t.table)
 
 -- a table's name, and the epoch behind the one that it was granted in
-pub told_is : {R : Type 0} (l : EngineState) (t : Recast R) → HasSameColumns (recast_table t) (stock_of_recast l t).lineage → t.epoch ≡ epoch_of (recast_table t) → reply.Recast (stock_of_recast l t).name (t.epoch + 1) ≡ told_of l t
+pub told_is : {R : Type 0} (l : EngineState) (t : Recast R) → HasSameColumns (recast_table t) (meta_of_recast l t).lineage → t.epoch ≡ epoch_of (recast_table t) → reply.Recast (meta_of_recast l t).name (t.epoch + 1) ≡ told_of l t
 told_is l t same epoch =
-    (λ i. reply.Recast (stock_of_recast l t).name ((epoch ∙ sym (λ j. same.begins j + length (same.changes j))) i + 1)) ∙ ap recast_reply (sym (table_is l t.table))
+    (λ i. reply.Recast (meta_of_recast l t).name ((epoch ∙ sym (λ j. same.begins j + length (same.changes j))) i + 1)) ∙ ap recast_reply (sym (table_is l t.table))
 
 module _ (n : Starts) (w : Rows) (sound : Bool) (l : EngineState) (story : Story) (held : Option (List ℕ)) (h : List Entry) (running refused : Bool) (v : IsVault (outset_of n w) (n.origin w) sound l story held h running refused)
     (session number : ℕ) (low : session < 2 ^ 16) (few : number < 2 ^ 32) (ran : running ≡ true)
     {M R : Type 0} (bytes : M → Option (List ℕ)) (read : R → Option (List ℕ)) (t : Recast R) (s : Swapped M) (is : IsRecastIn bytes read l t s) (typed : IsTyped s.entry)
     (words : RecastWords) (due : IsDue n.script (run_of (outset_of n w) h) session number (command.Recast words) (Renewed (claim_of_recast t)))
     (at : ℕ) (place : at ≡ length h) (checked : claim_checked (books_of no_rows l).bare (books_of no_rows l).machine at (claim_of_recast t) ≡ Ok tt)
-    (still : still_checked (stock_of_recast l t).lineage t.epoch (recast_in t) ≡ Ok tt)
+    (still : still_checked (meta_of_recast l t).lineage t.epoch (recast_in t) ≡ Ok tt)
     (ranges : IsTrue sound → HasItsRanges read t (written_by (outset_of n w) (n.origin w).found h t.table)) where
   abbrev c : Catalog
   c = l.catalogue
 
   abbrev k : Recasting
-  k = recasting_of t.table (stock_of_recast l t) (recast_in t) is.made
+  k = recasting_of t.table (meta_of_recast l t) (recast_in t) is.made
 
   -- the record of the recast
   abbrev r : Record
@@ -181,24 +181,24 @@ module _ (n : Starts) (w : Rows) (sound : Bool) (l : EngineState) (story : Story
 
   -- nothing that is removed is named then
   unnamed : AllByRecursion (IsUnnamed (applied c r)) removed
-  unnamed = all_among (IsUnnamed (applied c r)) removed (λ id among. not_among id (shelved (applied c r)) (freed_unnamed (length h + 1) (first_id c.run + s.adopted) (named (applied c r)) (waiting l (length h) gone) (map ids_held (holders v.seen l))
+  unnamed = all_among (IsUnnamed (applied c r)) removed (λ id among. not_among id (live_files (applied c r)) (freed_unnamed (length h + 1) (first_id c.run + s.adopted) (named (applied c r)) (waiting l (length h) gone) (map ids_held (holders v.seen l))
       (filed_moved (length h) (next_id l) (named c) l.trash (map ids_held (holders v.seen l)) v.filed made (first_id c.run + s.adopted) is.adopts.given (let more = is.adopts.more in omega (arith, more)) (named (applied c r)) gone renames)
       id (subst (λ hs. Among id (ids_of (freed hs (waiting l (length h) gone)))) (sym (holds_are v.seen l)) among)))
 
   -- ---- on a sound store
 
   module _ (ok : IsTrue sound) where
-    stocked_later : AreStocked later c
-    stocked_later = agree_stocked v.rows later c (named_agree (outset_of n w) (n.origin w) sound l story held h running refused v later agree) (v.stocked ok).0
+    sound_rows_later : HaveSoundRows later c
+    sound_rows_later = agree_sound_rows v.rows later c (named_agree (outset_of n w) (n.origin w) sound l story held h running refused v later agree) (v.sound_rows ok).0
 
     has_sources : HasSources later written c
     has_sources = agree_sourced v.rows later written c (named_agree (outset_of n w) (n.origin w) sound l story held h running refused v later agree) (v.sourced ok)
 
-    brings : BringsRecast later c.next (stock_at c t.table) k
+    brings : BringsRecast later c.next (meta_at c t.table) k
     brings = catalog_brings later written c t.table (recast_in t) is.made v.shaped has_sources there (is.rewritten v.rows (written t.table) (ranges ok)) is.covers
 
     moves : Moves later c r (kept_recast (kept_of later c) t.table (recast_in t))
-    moves = recast_moves c k v.shaped kind_is later files_told brings stocked_later
+    moves = recast_moves c k v.shaped kind_is later files_told brings sound_rows_later
 
     goes_on : HasSources later written c → HasSources later (written_behind later c (Grouping t.table (recast_in t)) written) (applied c r)
     goes_on has = recast_sourced later written c v.shaped has k kind_is files_told brings
@@ -211,10 +211,10 @@ module _ (n : Starts) (w : Rows) (sound : Bool) (l : EngineState) (story : Story
           held = record {
             bytes = stands.bytes;
             records = stands.records;
-            stocked = stocked_later ok;
-            stands = subst (λ files. Stands story l.area v.bodies l.end files) (sym (agree_wants v.rows later (shelved c) (named_agree (outset_of n w) (n.origin w) sound l story held h running refused v later agree))) stands.stands;
+            sound_rows = sound_rows_later ok;
+            stands = subst (λ files. Stands story l.area v.bodies l.end files) (sym (agree_wants v.rows later (live_files c) (named_agree (outset_of n w) (n.origin w) sound l story held h running refused v later agree))) stands.stands;
           };
-          step = record { bytes = are; reads = reads; fitting = fit; stocked = (moves ok).stocked; grows = (moves ok).grows };
+          step = record { bytes = are; reads = reads; fitting = fit; sound_rows = (moves ok).sound_rows; grows = (moves ok).grows };
           brings = files tell;
           unnamed = unnamed;
         }
@@ -245,7 +245,7 @@ module _ (n : Starts) (w : Rows) (sound : Bool) (l : EngineState) (story : Story
         recast_vault n w sound l story held h running refused v session number low few m ran at place opened later (applied c r) made gone s.adopted is.adopts recorded (left_by l (length h) gone) removed clears new moment passes only writes now new_held
         words claim t.epoch (recast_in t) refl due checked still_in (generation_of (applied c r)) end groups
         (recast_as (outset_of n w) (n.origin w) sound l story held h running refused v later agree claim (recast_in t) is.made (generation_of (applied c r)) (left_by l (length h) gone) s.adopted end)
-        counts bodies holds gone_now (λ ok. (moves ok).stocked) long rises
+        counts bodies holds gone_now (λ ok. (moves ok).sound_rows) long rises
         (λ told ok. recast_sources (outset_of n w) (n.origin w) sound l story held h running refused v later agree (entry session number kind.Close outcome.Stands m) _ (command.Recast words) claim t.epoch (recast_in t) refl due _ _ told (applied c r) (goes_on ok) ok) put
 
     fails_so : Counts story new true → IsPut (block (entry session number kind.Close outcome.WriteFault m) (Some (told_at at (reply_of Unwritten)))) now held new_held
@@ -263,7 +263,7 @@ module _ (n : Starts) (w : Rows) (sound : Bool) (l : EngineState) (story : Story
     {M R : Type 0} (bytes : M → Option (List ℕ)) (read : R → Option (List ℕ)) (t : Recast R) (s : Swapped M) (is : IsRecastIn bytes read l t s) (typed : IsTyped s.entry)
     (words : RecastWords) (due : IsDue n.script (run_of (outset_of n w) h) session number (command.Recast words) (Renewed (claim_of_recast t)))
     (at : ℕ) (place : at ≡ length h) (checked : claim_checked (books_of no_rows l).bare (books_of no_rows l).machine at (claim_of_recast t) ≡ Ok tt)
-    (still : still_checked (stock_of_recast l t).lineage t.epoch (recast_in t) ≡ Ok tt)
+    (still : still_checked (meta_of_recast l t).lineage t.epoch (recast_in t) ≡ Ok tt)
     (ranges : IsTrue sound → HasItsRanges read t (written_by (outset_of n w) (n.origin w).found h t.table)) (tell : IsTrue sound → AllTell bytes s.made.items)
     (body : List ℕ) (are : AreBytes body) (new : Story) (m : ℕ) (moment : m ≡ new.moment) (now : Bool) (new_held : Option (List ℕ)) where
   -- what is asked of the device work for a record, and what the vault then is
@@ -279,13 +279,13 @@ module _ (n : Starts) (w : Rows) (sound : Bool) (l : EngineState) (story : Story
       → IsPut (block (entry session number kind.Close outcome.WriteFault m) (Some (told_at at (reply_of Unwritten)))) now held new_held
       → IsVault (outset_of n w) (n.origin w) sound (failed_state l at (ended t.table t.lease l.leases) s.adopted) new new_held (h ++ entry session number kind.Close outcome.WriteFault m ∷ []) now (refused || true)
 
-  ends_so : Ends (record_of.Recast (recasting_of t.table (stock_of_recast l t) (recast_in t) is.made))
+  ends_so : Ends (record_of.Recast (recasting_of t.table (meta_of_recast l t) (recast_in t) is.made))
   ends_so reads worked end whole counts rises put =
       stands_so n w sound l story held h running refused v session number low few ran bytes read t s is typed words due at place checked still ranges new m moment worked.passes worked.only now new_held
       (λ ok. store_recast n w sound l story held h running refused v session number low few ran bytes read t s is typed words due at place checked still ranges body are reads new worked ok (tell ok)) end counts (v.bodies ++ body ∷ [])
       (λ ok. store_holds n w sound l story held h running refused v session number low few ran bytes read t s is typed words due at place checked still ranges body are reads new end worked whole ok (tell ok)) whole.gone whole.long rises put
 
-  failed_so : Fails (record_of.Recast (recasting_of t.table (stock_of_recast l t) (recast_in t) is.made))
+  failed_so : Fails (record_of.Recast (recasting_of t.table (meta_of_recast l t) (recast_in t) is.made))
   failed_so reads worked counts put =
       fails_so n w sound l story held h running refused v session number low few ran bytes read t s is typed words due at place checked still ranges new m moment worked.passes worked.only now new_held
       (λ ok. store_recast n w sound l story held h running refused v session number low few ran bytes read t s is typed words due at place checked still ranges body are reads new worked ok (tell ok)) 0 counts put

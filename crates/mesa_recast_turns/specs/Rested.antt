@@ -2,7 +2,7 @@
 use Rattle.std.specs.Prelude.{◌≡◌, ℕ, ◌+◌, ◌<◌, ◌≤◌, List, ◌++◌, Option, None}
 use Rattle.std.specs.List.{AllByRecursion}
 use Rattle.mesa_io.specs.Causes.{last}
-use Rattle.mesa_plans.specs.Ranges.{HoldsAll}
+use Rattle.mesa_pick_files.specs.Ranges.{HoldsAll}
 use Rattle.mesa_work_turns.specs.mesa_history_spec.Counting.{count_in, is_disk_fault}
 use Rattle.mesa_work_turns.specs.mesa_history_spec.Run.{State, begins}
 use Rattle.mesa_work_turns.specs.mesa_history_spec.Sources.{Written}
@@ -11,11 +11,11 @@ use Rattle.mesa_work_turns.specs.mesa_invariant_spec.Turns.{Faults, Shown}
 use Rattle.mesa_model.specs.declared.commands.Script.{Script}
 use Rattle.mesa_work_turns.specs.mesa_schema.Changes.{Lineage, columns_of, epoch_of}
 use Rattle.mesa_work_turns.specs.mesa_history_spec.Rows.{Rows}
-use Rattle.mesa_work_turns.specs.mesa_publishing.Grown.{HasBecome}
-use Rattle.mesa_work_turns.specs.mesa_publishing.Recasts.{HasItsRange, stock_of_recast}
-use Rattle.mesa_tasks.specs.Recasts.{AreRangesOf, IsRecastTask, recast_table}
-use Rattle.mesa_tasks.specs.declared.recasting.Recast.{Recast}
-use Rattle.mesa_tasks.specs.declared.recasting.RecastRange.{RecastRange}
+use Rattle.mesa_work_turns.specs.mesa_file_records.Grown.{HasBecome}
+use Rattle.mesa_work_turns.specs.mesa_file_records.Recasts.{HasItsRange, meta_of_recast}
+use Rattle.mesa_open_files.specs.Recasts.{AreRangesOf, IsRecastTask, recast_table}
+use Rattle.mesa_open_files.specs.declared.recasting.Recast.{Recast}
+use Rattle.mesa_open_files.specs.declared.recasting.RecastRange.{RecastRange}
 use Rattle.mesa_work_turns.specs.mesa_copy.Copying.{AreRangesBounded, KnownRange, known_ranges}
 
 -- ---- what a recast stays
@@ -37,7 +37,7 @@ pub record IsLonger {R : Type 0} (bytes : R → Option (List ℕ)) (old new : Re
 pub record MayRest {R : Type 0} (l : EngineState) (t : Recast R) : Type 0 where
   pub opened : l.closed ≡ None
   pub whole : t.damage ≡ None
-  pub epoch : epoch_of (stock_of_recast l t).lineage ≡ t.epoch
+  pub epoch : epoch_of (meta_of_recast l t).lineage ≡ t.epoch
 
 -- Further ranges of a table stand behind those that there were, each with a file of it. On a sound store no sum over one of them leaves its type, and each has all that was written in it.
 pub record HasFurther {R : Type 0} (bytes : R → Option (List ℕ)) (l : Lineage) (sound : Rows → Type 0) (written : Rows → List Written) (old new : List (RecastRange R)) : Type 0 where
@@ -52,8 +52,8 @@ pub record HasFurther {R : Type 0} (bytes : R → Option (List ℕ)) (l : Lineag
 -- The recast's table is there; it has become what it is since it was granted, and while its epoch is still the recast's, each of its ranges with rows is among the recast's, unless the vault has closed.
 pub record HasRested {R : Type 0} (bytes : R → Option (List ℕ)) (l : EngineState) (t : Recast R) : Type 0 where
   pub task : IsRecastTask bytes t
-  pub become : HasBecome (recast_table t) (stock_of_recast l t).lineage
-  pub holds : l.closed ≡ None → epoch_of (stock_of_recast l t).lineage ≡ t.epoch → HoldsAll t.ranges.items (stock_of_recast l t)
+  pub become : HasBecome (recast_table t) (meta_of_recast l t).lineage
+  pub holds : l.closed ≡ None → epoch_of (meta_of_recast l t).lineage ≡ t.epoch → HoldsAll t.ranges.items (meta_of_recast l t)
 
 -- ---- faults
 

@@ -1,10 +1,10 @@
 // Whether a recast may be done still.
 ghost use Rattle.std.specs.Prelude.{◌≡◌, ◌<◌, length, Ok, IfErr, OnOk};
 ghost use Rattle.mesa_work_turns.specs.mesa_history_spec.Machine.{claim_checked, still_checked};
-ghost use Rattle.mesa_engine.specs.mesa_image_spec.Catalog.{stock_at};
+ghost use Rattle.mesa_engine.specs.mesa_store_spec.Catalog.{meta_at};
 ghost use Rattle.mesa_engine.specs.EngineState.{books_of};
 ghost use Rattle.mesa_work_turns.specs.mesa_history_spec.Rows.{no_rows};
-ghost use Rattle.mesa_tasks.specs.Recasts.{claim_of_recast, recast_in};
+ghost use Rattle.mesa_open_files.specs.Recasts.{claim_of_recast, recast_in};
 ghost use Rattle.mesa_recast_turns.specs.Unfit.{HasNotRecast, unfit_of};
 
 use mesa_binding::{Failure, recast_failure};
@@ -12,7 +12,7 @@ use mesa_work_turns::check;
 use mesa_engine::Metadata;
 use mesa_lease::TABLES;
 use mesa_model::Refusal;
-use mesa_tasks::Recast;
+use mesa_open_files::Recast;
 
 // Why a table isn't recast, before the disk is called.
 #[derive(Drop)]
@@ -33,7 +33,7 @@ pub(crate) fn check_recast<R>(
     requires table { task.now.table < TABLES }
     requires there { task.now.table < length metadata.now.state.catalogue.tables }
     ensures held { OnOk result (claim_checked (books_of no_rows metadata.now.state).bare (books_of no_rows metadata.now.state).machine position (claim_of_recast task.now) ≡ Ok tt) }
-    ensures still { OnOk result (still_checked (stock_at metadata.now.state.catalogue task.now.table).lineage task.now.epoch (recast_in task.now) ≡ Ok tt) }
+    ensures still { OnOk result (still_checked (meta_at metadata.now.state.catalogue task.now.table).lineage task.now.epoch (recast_in task.now) ≡ Ok tt) }
     ensures refused { IfErr result (HasNotRecast (books_of no_rows metadata.now.state) position (claim_of_recast task.now) task.now.epoch (recast_in task.now)) }
 {
     if let Err(refusal) = check(metadata, task.table, task.lease, position) {

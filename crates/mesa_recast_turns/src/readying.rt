@@ -1,21 +1,21 @@
 // What a recast takes of memory.
 ghost use Rattle.std.specs.Prelude.{◌≡◌, ◌+◌, ◌<◌, ◌^◌, ℕ, Some, Ok, IfOk, OnErr, length};
-ghost use Rattle.mesa_plans.specs.Ranges.{HoldsAll};
-ghost use Rattle.mesa_engine.specs.mesa_image_spec.Shape.{IsCatalog};
+ghost use Rattle.mesa_pick_files.specs.Ranges.{HoldsAll};
+ghost use Rattle.mesa_engine.specs.mesa_store_spec.Shape.{IsCatalog};
 ghost use Rattle.mesa_work_turns.specs.mesa_key.Spelling.{AreBytes};
 ghost use Rattle.mesa_engine.specs.EngineState.{books_of, most_files, next_id};
 ghost use Rattle.mesa_engine.specs.Recorded.{removed_by};
-ghost use Rattle.mesa_engine.specs.mesa_image_spec.Countable.{AreCounted};
-ghost use Rattle.mesa_engine.specs.mesa_image_spec.Ids.{dropped_ids, named};
-ghost use Rattle.mesa_engine.specs.mesa_image_spec.Recordable.{AreRecordable};
+ghost use Rattle.mesa_engine.specs.mesa_store_spec.Countable.{AreCounted};
+ghost use Rattle.mesa_engine.specs.mesa_store_spec.Ids.{dropped_ids, named};
+ghost use Rattle.mesa_engine.specs.mesa_store_spec.Recordable.{AreRecordable};
 ghost use Rattle.mesa_model.specs.Tables.{recast_reply as reply_for};
 ghost use Rattle.mesa_model.specs.Warehouse.{table_at};
 ghost use Rattle.mesa_engine.specs.mesa_record.Reading.{record_at};
 ghost use Rattle.mesa_work_turns.specs.mesa_schema.Recasts.{recast_checked};
 ghost use Rattle.mesa_work_turns.specs.mesa_history_spec.Rows.{no_rows};
-ghost use Rattle.mesa_work_turns.specs.mesa_publishing.Grown.{HasSameColumns};
-ghost use Rattle.mesa_work_turns.specs.mesa_publishing.Recasts.{IsRecastIn, stock_of_recast};
-ghost use Rattle.mesa_tasks.specs.Recasts.{IsRecastTask, IsRecasted, recast_in, recast_table};
+ghost use Rattle.mesa_work_turns.specs.mesa_file_records.Grown.{HasSameColumns};
+ghost use Rattle.mesa_work_turns.specs.mesa_file_records.Recasts.{IsRecastIn, meta_of_recast};
+ghost use Rattle.mesa_open_files.specs.Recasts.{IsRecastTask, IsRecasted, recast_in, recast_table};
 ghost use Rattle.mesa_engine.specs.mesa_commit.Holding.{Among};
 
 use mesa_work_turns::{Swapped, make_room, recast as record_of};
@@ -25,7 +25,7 @@ use mesa_file::FileId;
 use mesa_journal::Framed;
 use mesa_list::TryCopy;
 use mesa_model::Reply;
-use mesa_tasks::{Recast, Recasted};
+use mesa_open_files::{Recast, Recasted};
 use std::alloc::{AllocError, Global};
 
 // What a table is to be recast with: the record with its files, its frame, the files that it lets go, those that the turn removes, and the reply.
@@ -49,10 +49,10 @@ pub(crate) fn prepare<M: Made, R: FileReader>(
     requires columns { AreCounted metadata.old.state.catalogue }
     requires recordable { AreRecordable metadata.old.state.catalogue }
     requires there { task.now.table < length metadata.old.state.catalogue.tables }
-    requires allowed { recast_checked (stock_of_recast metadata.old.state task.now).lineage (recast_in task.now) ≡ Ok tt }
-    requires same { HasSameColumns (recast_table task.now) (stock_of_recast metadata.old.state task.now).lineage }
+    requires allowed { recast_checked (meta_of_recast metadata.old.state task.now).lineage (recast_in task.now) ≡ Ok tt }
+    requires same { HasSameColumns (recast_table task.now) (meta_of_recast metadata.old.state task.now).lineage }
     requires task { IsRecastTask R.bytes task.now }
-    requires holds { HoldsAll task.now.ranges.items (stock_of_recast metadata.old.state task.now) }
+    requires holds { HoldsAll task.now.ranges.items (meta_of_recast metadata.old.state task.now) }
     requires rewritten { IsRecasted M.bytes M.id_of R.bytes task.now made }
     requires given { (id : ℕ) → Among id (named metadata.old.state.catalogue) → id < next_id metadata.old.state }
     requires room { metadata.old.state.adopted + most_files < 2 ^ 40 }

@@ -21,10 +21,10 @@ ghost use Rattle.mesa_model.specs.declared.entries.Kind.TheVariants as kind;
 ghost use Rattle.mesa_work_turns.specs.mesa_history_spec.Output.{block};
 ghost use Rattle.mesa_work_turns.specs.mesa_schema.Changes.{epoch_of};
 ghost use Rattle.mesa_work_turns.specs.mesa_history_spec.Rows.{Rows, no_rows};
-ghost use Rattle.mesa_work_turns.specs.mesa_publishing.Recasts.{HasItsRanges, stock_of_recast};
-ghost use Rattle.mesa_tasks.specs.GivingBack.{SomeFailed};
-ghost use Rattle.mesa_tasks.specs.Recasts.{IsRecasted, claim_of_recast, recast_in, recast_inputs};
-ghost use Rattle.mesa_tasks.specs.declared.merging.CompactError.TheVariants as compact;
+ghost use Rattle.mesa_work_turns.specs.mesa_file_records.Recasts.{HasItsRanges, meta_of_recast};
+ghost use Rattle.mesa_open_files.specs.GivingBack.{SomeFailed};
+ghost use Rattle.mesa_open_files.specs.Recasts.{IsRecasted, claim_of_recast, recast_in, recast_inputs};
+ghost use Rattle.mesa_open_files.specs.declared.merging.CompactError.TheVariants as compact;
 ghost use Rattle.mesa_work_turns.specs.Swept.{ClaimHolds, HasStood, IsSwept};
 ghost use Rattle.mesa_work_turns.specs.Unmerged.{MergeDiffered, cause_of, closing_cause, closing_state};
 ghost use Rattle.mesa_recast_turns.specs.Rested.{HasRested, HasUnpaid};
@@ -40,7 +40,7 @@ use mesa_io::Sink;
 use mesa_lease::TABLES;
 use mesa_model::{Kind, Outcome, RecastWords};
 use mesa_store::write_record;
-use mesa_tasks::{CompactError, Recast, Recasted};
+use mesa_open_files::{CompactError, Recast, Recasted};
 use std::alloc::{AllocError, Global};
 
 // Why a table isn't recast. Unless its claim doesn't hold, the lease ends.
@@ -96,10 +96,10 @@ fn regroup<N: Naming, M: Made, D: Disk<M>, K: Sink>(
     requires due { (words : AnyWords) × IsDue N.script (run_at N.script (N.start no_rows) engine.old.shown.history) who.session who.command (command.Recast words) (Renewed (claim_of_recast task.now)) }
     requires table { task.now.table < TABLES }
     requires holds { claim_checked (books_of no_rows engine.old.state).bare (books_of no_rows engine.old.state).machine (length engine.old.shown.history) (claim_of_recast task.now) ≡ Ok tt }
-    requires still { still_checked (stock_of_recast engine.old.state task.now).lineage task.now.epoch (recast_in task.now) ≡ Ok tt }
+    requires still { still_checked (meta_of_recast engine.old.state task.now).lineage task.now.epoch (recast_in task.now) ≡ Ok tt }
     requires rested { HasRested D.Reader.bytes engine.old.state task.now }
     requires rewritten { IsRecasted M.bytes M.id_of D.Reader.bytes task.now made }
-    requires ranges { (w : Rows) → N.sound w → epoch_of (stock_of_recast engine.old.state task.now).lineage ≡ task.now.epoch → HasItsRanges D.Reader.bytes task.now (written_at N.script (N.start w) (N.origin w) engine.old.shown.history task.now.table) }
+    requires ranges { (w : Rows) → N.sound w → epoch_of (meta_of_recast engine.old.state task.now).lineage ≡ task.now.epoch → HasItsRanges D.Reader.bytes task.now (written_at N.script (N.start w) (N.origin w) engine.old.shown.history task.now.table) }
     requires told { (w : Rows) → N.sound w → (file : M) → (bytes : List ℕ) × (M.bytes file ≡ Some bytes) }
     requires room { length engine.old.shown.history < N.room }
     requires runs { engine.old.shown.running ≡ true }
@@ -157,14 +157,14 @@ fn close<N: Naming, M: Made, D: Disk<M>, K: Sink>(
     requires table { task.now.table < TABLES }
     requires rested { HasRested D.Reader.bytes engine.old.state task.now }
     requires rewritten { IsRecasted M.bytes M.id_of D.Reader.bytes task.now made }
-    requires ranges { (w : Rows) → N.sound w → epoch_of (stock_of_recast engine.old.state task.now).lineage ≡ task.now.epoch → HasItsRanges D.Reader.bytes task.now (written_at N.script (N.start w) (N.origin w) engine.old.shown.history task.now.table) }
+    requires ranges { (w : Rows) → N.sound w → epoch_of (meta_of_recast engine.old.state task.now).lineage ≡ task.now.epoch → HasItsRanges D.Reader.bytes task.now (written_at N.script (N.start w) (N.origin w) engine.old.shown.history task.now.table) }
     requires told { (w : Rows) → N.sound w → (file : M) → (bytes : List ℕ) × (M.bytes file ≡ Some bytes) }
     requires room { length engine.old.shown.history < N.room }
     requires runs { engine.old.shown.running ≡ true }
     ensures turn { Takes N.script (N.start no_rows) engine.old.shown engine.new.shown who.session who.command kind.Close Finished }
     ensures disk { AnswersDisk N.script (N.start no_rows) engine.old.shown engine.new.shown (SomeRose engine.old.faults engine.new.faults) }
     ensures draft { AnswersDraft N.script (N.start no_rows) engine.old.shown engine.new.shown who.session ⊥ }
-    ensures swept { HasStood engine.old.shown engine.new.shown who.session who.command → ClaimHolds engine.old.state (length engine.old.shown.history) (claim_of_recast task.now) → still_checked (stock_of_recast engine.old.state task.now).lineage task.now.epoch (recast_in task.now) ≡ Ok tt
+    ensures swept { HasStood engine.old.shown engine.new.shown who.session who.command → ClaimHolds engine.old.state (length engine.old.shown.history) (claim_of_recast task.now) → still_checked (meta_of_recast engine.old.state task.now).lineage task.now.epoch (recast_in task.now) ≡ Ok tt
         → IsSwept engine.new.told engine.new.state engine.new.shown.history }
 {
     let at = engine.log.position();
@@ -193,7 +193,7 @@ pub fn recast<N: Naming, M: Made, D: Disk<M>, K: Sink>(
     requires renewed { OnOk made (IsDue N.script (run_at N.script (N.start no_rows) engine.old.shown.history) who.session who.command (command.Recast words.now) (Renewed (claim_of_recast task))) }
     requires rested { OnOk made (engine.old.shown.running ≡ true → HasRested D.Reader.bytes engine.old.state task) }
     requires rewritten { IfOk made (IsRecasted M.bytes M.id_of D.Reader.bytes task) }
-    requires ranges { OnOk made ((w : Rows) → N.sound w → epoch_of (stock_of_recast engine.old.state task).lineage ≡ task.epoch → HasItsRanges D.Reader.bytes task (written_at N.script (N.start w) (N.origin w) engine.old.shown.history task.table)) }
+    requires ranges { OnOk made ((w : Rows) → N.sound w → epoch_of (meta_of_recast engine.old.state task).lineage ≡ task.epoch → HasItsRanges D.Reader.bytes task (written_at N.script (N.start w) (N.origin w) engine.old.shown.history task.table)) }
 
     // A fault that is answered was counted, and damage that is told is some.
     requires read { IfErr made (λ e. is_read_fault (cause_of e) ≡ true → SomeFailed D.Reader.faults (recast_inputs task) ⊎ HasUnpaid N.script N.start N.counted engine.old.shown engine.old.faults) }
@@ -213,7 +213,7 @@ pub fn recast<N: Naming, M: Made, D: Disk<M>, K: Sink>(
     ensures prints { IfErr made (λ e. engine.old.shown.running ≡ true → IsPut (block (entry who.session who.command kind.Close (outcome_of (closing_cause engine.old.state.closed e)) engine.new.shown.clock) (Some (told_at (length engine.old.shown.history) (reply_of (closing_cause engine.old.state.closed e))))) engine.new.shown.running engine.old.sink engine.new.sink) }
 
     // Where the table is recast, each file that is there is one that the catalogue, a held pin or an open query names: its ranges are rewritten, its claim holds and the rules allow it still, and its turn stands.
-    ensures swept { OnOk made (HasStood engine.old.shown engine.new.shown who.session who.command → ClaimHolds engine.old.state (length engine.old.shown.history) (claim_of_recast task) → still_checked (stock_of_recast engine.old.state task).lineage task.epoch (recast_in task) ≡ Ok tt
+    ensures swept { OnOk made (HasStood engine.old.shown engine.new.shown who.session who.command → ClaimHolds engine.old.state (length engine.old.shown.history) (claim_of_recast task) → still_checked (meta_of_recast engine.old.state task).lineage task.epoch (recast_in task) ≡ Ok tt
         → IsSwept engine.new.told engine.new.state engine.new.shown.history) }
 {
     if !engine.running() {

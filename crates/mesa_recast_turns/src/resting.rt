@@ -2,25 +2,25 @@
 ghost use Rattle.std.specs.Prelude.{◌≡◌, ◌≢◌, ◌⊎◌, ◌↔◌, ◌<◌, true, None, Ok, Err, IfErr, IfOk, IfSome, IsTrue, OnOk, length};
 ghost use Rattle.mesa_work_turns.specs.mesa_copy.Copying.{IsRecastBounded};
 ghost use Rattle.mesa_delta.specs.declared.error.FileError.TheVariants as file_error;
-ghost use Rattle.mesa_plans.specs.Ranges.{HoldsAll};
-ghost use Rattle.mesa_engine.specs.mesa_image_spec.Catalog.{stock_at};
+ghost use Rattle.mesa_pick_files.specs.Ranges.{HoldsAll};
+ghost use Rattle.mesa_engine.specs.mesa_store_spec.Catalog.{meta_at};
 ghost use Rattle.mesa_engine.specs.Written.{written_at};
 ghost use Rattle.mesa_work_turns.specs.mesa_invariant_spec.Turns.{NoneFell, SomeRose};
 ghost use Rattle.mesa_work_turns.specs.mesa_schema.Changes.{epoch_of};
 ghost use Rattle.mesa_work_turns.specs.mesa_history_spec.Rows.{Rows};
-ghost use Rattle.mesa_work_turns.specs.mesa_publishing.Grown.{HasBecome};
-ghost use Rattle.mesa_work_turns.specs.mesa_publishing.Recasts.{HasItsRanges, stock_of_recast};
-ghost use Rattle.mesa_tasks.specs.Recasts.{IsRecastTask, IsRecasted, IsRecastedSoFar, recast_table};
-ghost use Rattle.mesa_tasks.specs.declared.opening.Unopened.TheVariants as un;
-ghost use Rattle.mesa_tasks.specs.declared.recasting.Recasted.{Recasted as AnyRecasted};
+ghost use Rattle.mesa_work_turns.specs.mesa_file_records.Grown.{HasBecome};
+ghost use Rattle.mesa_work_turns.specs.mesa_file_records.Recasts.{HasItsRanges, meta_of_recast};
+ghost use Rattle.mesa_open_files.specs.Recasts.{IsRecastTask, IsRecasted, IsRecastedSoFar, recast_table};
+ghost use Rattle.mesa_open_files.specs.declared.opening.Unopened.TheVariants as un;
+ghost use Rattle.mesa_open_files.specs.declared.recasting.Recasted.{Recasted as AnyRecasted};
 ghost use Rattle.mesa_recast_turns.specs.Rested.{HasFurther, HasUnpaid, IsLonger, MayRest};
 
 use mesa_delta::FileError;
 use mesa_disk::{Damage, Disk, Made};
 use mesa_engine::{Engine, Metadata, Naming};
 use mesa_io::Sink;
-use mesa_plans::gather_more;
-use mesa_tasks::{Recast, RecastRange, Unopened};
+use mesa_pick_files::gather_more;
+use mesa_open_files::{Recast, RecastRange, Unopened};
 
 // Whether further ranges are opened: the vault is open, no file of the recast was damaged, and its table has still the epoch in which it was granted.
 fn may_rest<R>(metadata: &Metadata, task: &Recast<R>) -> bool
@@ -47,8 +47,8 @@ fn open_more<N: Naming, M: Made, D: Disk<M>, K: Sink>(
     ensures faults { NoneFell engine.old.faults engine.new.faults }
     ensures rose { result ≡ Err un.Fault → SomeRose engine.old.faults engine.new.faults }
     ensures unpaid { result ≡ Err un.Fault → HasUnpaid N.script N.start N.counted engine.new.shown engine.new.faults }
-    ensures more { HasFurther D.Reader.bytes (stock_at engine.old.state.catalogue number).lineage N.sound (λ w. written_at N.script (N.start w) (N.origin w) engine.old.shown.history number) ranges.old.items ranges.new.items }
-    ensures holds { IfOk result (λ d. d ≡ None → HoldsAll ranges.new.items (stock_at engine.old.state.catalogue number)) }
+    ensures more { HasFurther D.Reader.bytes (meta_at engine.old.state.catalogue number).lineage N.sound (λ w. written_at N.script (N.start w) (N.origin w) engine.old.shown.history number) ranges.old.items ranges.new.items }
+    ensures holds { IfOk result (λ d. d ≡ None → HoldsAll ranges.new.items (meta_at engine.old.state.catalogue number)) }
     ensures differs { IfOk result (λ d. IfSome d (λ d. d.want ≢ d.found)) }
     ensures whole { (w : Rows) → N.sound w → IfOk result (λ d. d ≡ None) }
 {
@@ -64,7 +64,7 @@ pub fn rest<N: Naming, M: Made, D: Disk<M>, K: Sink>(
 ) -> Result<(), FileError>
     requires task { IsRecastTask D.Reader.bytes task.old }
     requires there { task.old.table < length engine.old.state.catalogue.tables }
-    requires grown { HasBecome (recast_table task.old) (stock_of_recast engine.old.state task.old).lineage }
+    requires grown { HasBecome (recast_table task.old) (meta_of_recast engine.old.state task.old).lineage }
     requires damage { IfSome task.old.damage (λ d. d.want ≢ d.found) }
     ensures shown { engine.new.shown ≡ engine.old.shown }
     ensures state { engine.new.state ≡ engine.old.state }
@@ -85,8 +85,8 @@ pub fn rest<N: Naming, M: Made, D: Disk<M>, K: Sink>(
     ensures begun { (made : AnyRecasted M) → IsRecasted M.bytes M.id_of D.Reader.bytes task.old made → IsRecastedSoFar M.bytes M.id_of D.Reader.bytes task.new made }
     ensures kept { IsRecastTask D.Reader.bytes task.new }
     ensures differs { IfSome task.new.damage (λ d. d.want ≢ d.found) }
-    ensures holds { OnOk result (engine.old.shown.running ≡ true → engine.old.state.closed ≡ None → task.new.damage ≡ None → epoch_of (stock_of_recast engine.old.state task.old).lineage ≡ task.old.epoch
-        → HoldsAll task.new.ranges.items (stock_of_recast engine.old.state task.old)) }
+    ensures holds { OnOk result (engine.old.shown.running ≡ true → engine.old.state.closed ≡ None → task.new.damage ≡ None → epoch_of (meta_of_recast engine.old.state task.old).lineage ≡ task.old.epoch
+        → HoldsAll task.new.ranges.items (meta_of_recast engine.old.state task.old)) }
 
     // On a sound store no file is damaged, the further ranges have what was written in them, and no sum over one of them leaves its type.
     ensures whole { (w : Rows) → N.sound w → task.old.damage ≡ None → task.new.damage ≡ None }

@@ -8,9 +8,9 @@ ghost use Rattle.mesa_model.specs.declared.commands.RecastWords.{RecastWords};
 ghost use Rattle.mesa_model.specs.declared.entries.Kind.TheVariants as kind;
 ghost use Rattle.mesa_work_turns.specs.mesa_history_spec.Output.{block};
 ghost use Rattle.mesa_work_turns.specs.mesa_history_spec.Rows.{Rows, no_rows};
-ghost use Rattle.mesa_tasks.specs.GivingBack.{SomeFailed};
-ghost use Rattle.mesa_tasks.specs.Recasts.{claim_of_recast, recast_inputs};
-ghost use Rattle.mesa_tasks.specs.declared.merging.CompactError.TheVariants as compact;
+ghost use Rattle.mesa_open_files.specs.GivingBack.{SomeFailed};
+ghost use Rattle.mesa_open_files.specs.Recasts.{claim_of_recast, recast_inputs};
+ghost use Rattle.mesa_open_files.specs.declared.merging.CompactError.TheVariants as compact;
 ghost use Rattle.mesa_delta.specs.declared.error.FileError.TheVariants as file_error;
 ghost use Rattle.mesa_work_turns.specs.mesa_invariant_spec.Causes.{is_read_fault, outcome_of, reply_of, told_at};
 ghost use Rattle.mesa_work_turns.specs.mesa_invariant_spec.Printing.{IsPut};
@@ -27,7 +27,7 @@ use mesa_engine::{Engine, Naming, Who};
 use mesa_io::Sink;
 use mesa_lease::TABLES;
 use mesa_model::Kind;
-use mesa_tasks::{CompactError, Recast, retire_recast};
+use mesa_open_files::{CompactError, Recast, retire_recast};
 
 // The turn that closes a recast whose ranges weren't all rewritten, while the sink hasn't failed: its lease ends, unless the vault has closed. All that it was handed is given back. Takes no memory.
 pub(crate) fn abandon<N: Naming, M: Made, D: Disk<M>, K: Sink>(

@@ -4,7 +4,7 @@ use Rattle.std.specs.Prelude.{IsTrue, ◌&&◌}
 use Rattle.std.specs.List.{AllByRecursion, list_all}
 use Rattle.mesa_list.proofs.Whole.{both}
 use Rattle.mesa_record.specs.declared.edition.Edition.TheVariants.{Fourth}
-use Rattle.mesa_record.specs.declared.checkpoint.StatedSingle.{StatedSingle}
+use Rattle.mesa_record.specs.declared.checkpoint.CheckpointSingle.{CheckpointSingle}
 use Rattle.mesa_record.specs.declared.recasting.RecastBase.{RecastBase}
 use Rattle.mesa_record.specs.declared.recasting.Recasting.{Recasting}
 use Rattle.mesa_record.specs.Reading.{Left, files_if_any_at, flag_of, half_at, meaning, names_at, recast_base_at, recast_base_if, recast_base_if_any_at, recasting_at, sized_at, stated_single_at, word_at}

@@ -7,9 +7,9 @@ use Rattle.mesa_record.specs.declared.record.Record.TheVariants as record_of
 use Rattle.mesa_record.specs.declared.record.ViewRef.{ViewRef}
 use Rattle.mesa_record.specs.declared.record.Files.{Files}
 use Rattle.mesa_record.specs.declared.record.Part.{Part}
-use Rattle.mesa_record.specs.declared.checkpoint.StatedRange.{StatedRange}
-use Rattle.mesa_record.specs.declared.checkpoint.StatedSingle.{StatedSingle}
-use Rattle.mesa_record.specs.declared.checkpoint.StatedTable.{StatedTable}
+use Rattle.mesa_record.specs.declared.checkpoint.CheckpointRange.{CheckpointRange}
+use Rattle.mesa_record.specs.declared.checkpoint.CheckpointSingle.{CheckpointSingle}
+use Rattle.mesa_record.specs.declared.checkpoint.CheckpointTable.{CheckpointTable}
 use Rattle.mesa_record.specs.Rules.{FitsBase, FitsFiles, FitsFilesIfAny, FitsIn, FitsPart, FitsRange, FitsSingle, FitsTable, FitsView}
 
 -- what holds of each thing holds of all of a list
@@ -30,17 +30,17 @@ files_if_any_fit (Some f) = files_fit f
 part_fits : (p : Part) → FitsPart Fourth p
 part_fits p = record { files = files_fit p.files; totals = tt }
 
-range_fits : (r : StatedRange) → FitsRange Fourth r
+range_fits : (r : CheckpointRange) → FitsRange Fourth r
 range_fits r = files_if_any_fit r.files
 
-pub single_fits : (s : StatedSingle) → FitsSingle Fourth s
+pub single_fits : (s : CheckpointSingle) → FitsSingle Fourth s
 single_fits s = record { files = files_fit s.files; totals = tt }
 
-base_fits : (o : Option StatedRange) → FitsBase Fourth o
+base_fits : (o : Option CheckpointRange) → FitsBase Fourth o
 base_fits None = tt
 base_fits (Some r) = range_fits r
 
-table_fits : (floor : ℕ) (t : StatedTable) → FitsTable Fourth floor t
+table_fits : (floor : ℕ) (t : CheckpointTable) → FitsTable Fourth floor t
 table_fits floor t = record {
   oldest = tt;
   begins = tt;

@@ -8,9 +8,9 @@ use Rattle.mesa_schema.specs.declared.changes.Change.{Change}
 use Rattle.mesa_schema.specs.declared.views.View.{View}
 use Rattle.mesa_record.specs.declared.edition.Edition.{Edition}
 use Rattle.mesa_record.specs.declared.edition.Edition.TheVariants.{First, Second, Third, Fourth}
-use Rattle.mesa_record.specs.declared.checkpoint.StatedRange.{StatedRange}
-use Rattle.mesa_record.specs.declared.checkpoint.StatedSingle.{StatedSingle}
-use Rattle.mesa_record.specs.declared.checkpoint.StatedTable.{StatedTable}
+use Rattle.mesa_record.specs.declared.checkpoint.CheckpointRange.{CheckpointRange}
+use Rattle.mesa_record.specs.declared.checkpoint.CheckpointSingle.{CheckpointSingle}
+use Rattle.mesa_record.specs.declared.checkpoint.CheckpointTable.{CheckpointTable}
 use Rattle.mesa_record.specs.declared.checkpoint.StatedColumns.{StatedColumns}
 use Rattle.mesa_record.specs.declared.checkpoint.StatedDeltas.{StatedDeltas}
 use Rattle.mesa_record.specs.declared.checkpoint.Checkpoint.{Checkpoint}
@@ -144,10 +144,10 @@ few_views_found l after n bytes h = let f = ruled_found few_views byte_at one (�
 
 -- ---- deltas
 
-abbrev IsRange : Edition → StatedRange → Type 0
+abbrev IsRange : Edition → CheckpointRange → Type 0
 IsRange e = Keeps IsTypedRange is_stated_range (FitsRange e)
 
-range_again : (e : Edition) (r : StatedRange) → IsRange e r → Again (stated_range_at e) (stated_range e r) r
+range_again : (e : Edition) (r : CheckpointRange) → IsRange e r → Again (stated_range_at e) (stated_range e r) r
 range_again e r is at more =
     let b2 = files_if_any e r.files ++ more in
     let b1 = word r.epoch ++ b2 in
@@ -166,16 +166,16 @@ range_found e l after r bytes h =
     let s3 = step_of (files_if_any_at e s2.0.1) _ _ s2.2 in
     let f3 = files_if_any_found e s2.0.1 s3.0.1 s3.0.0 f2.1.rest s3.1 in
     let keep = files_if_any_keep e s3.0.0 f3.0 in
-    let made : StatedRange = record { to = s1.0.0; epoch = s2.0.0; files = s3.0.0 } in
-    subst (λ (z : StatedRange × Left). IsRange e z.0 × Begins l (stated_range e z.0) z.1) (ok_is (made, s3.0.1) (r, after) s3.2) (
+    let made : CheckpointRange = record { to = s1.0.0; epoch = s2.0.0; files = s3.0.0 } in
+    subst (λ (z : CheckpointRange × Left). IsRange e z.0 × Begins l (stated_range e z.0) z.1) (ok_is (made, s3.0.1) (r, after) s3.2) (
       record { typed = record { to = f1.0; epoch = f2.0; files = keep.0 }; rules = keep.2; fits = keep.1 },
       begins_two l s1.0.1 s3.0.1 _ _ f1.1 (begins_two s1.0.1 s2.0.1 s3.0.1 _ _ f2.1 f3.1),
     )
 
-abbrev IsSingle : Edition → StatedSingle → Type 0
+abbrev IsSingle : Edition → CheckpointSingle → Type 0
 IsSingle e = Keeps IsTypedSingle is_stated_single (FitsSingle e)
 
-pub single_again : (e : Edition) (s : StatedSingle) → IsSingle e s → Again (stated_single_at e) (stated_single e s) s
+pub single_again : (e : Edition) (s : CheckpointSingle) → IsSingle e s → Again (stated_single_at e) (stated_single e s) s
 unfolding stated_single_at stated_single
 single_again e s is at more =
     let r = both (are_files s.files) (nat_le (length s.totals) 16) is.rules in
@@ -201,8 +201,8 @@ single_found e l after s bytes h =
     let s4 = step_of (totals_at e s3.0.1) _ _ s3.2 in
     let f4 = totals_found e s3.0.1 s4.0.1 s4.0.0 f3.1.rest s4.1 in
     let keep = files_keep e s3.0.0 f3.0 in
-    let made : StatedSingle = record { version = s1.0.0; epoch = s2.0.0; files = s3.0.0; totals = s4.0.0 } in
-    subst (λ (z : StatedSingle × Left). IsSingle e z.0 × Begins l (stated_single e z.0) z.1) (ok_is (made, s4.0.1) (s, after) s4.2) (
+    let made : CheckpointSingle = record { version = s1.0.0; epoch = s2.0.0; files = s3.0.0; totals = s4.0.0 } in
+    subst (λ (z : CheckpointSingle × Left). IsSingle e z.0 × Begins l (stated_single e z.0) z.1) (ok_is (made, s4.0.1) (s, after) s4.2) (
       record {
         typed = record { version = f1.0; epoch = f2.0; files = keep.0; totals = f4.0.typed };
         rules = all_true (are_files made.files) (nat_le (length made.totals) 16) keep.2 f4.0.few;
@@ -211,10 +211,10 @@ single_found e l after s bytes h =
       begins_two l s1.0.1 s4.0.1 _ _ f1.1 (begins_two s1.0.1 s2.0.1 s4.0.1 _ _ f2.1 (begins_two s2.0.1 s3.0.1 s4.0.1 _ _ f3.1 f4.1)),
     )
 
-abbrev IsBase : Edition → Option StatedRange → Type 0
+abbrev IsBase : Edition → Option CheckpointRange → Type 0
 IsBase e = Keeps IsTypedBase is_base_if_any (FitsBase e)
 
-base_again : (e : Edition) (o : Option StatedRange) → IsBase e o → Again (base_if_any_at e) (base_if_any e o) o
+base_again : (e : Edition) (o : Option CheckpointRange) → IsBase e o → Again (base_if_any_at e) (base_if_any e o) o
 base_again e None is at more = let some = meaning_again flag_of 0 false refl at more in (some.0, rw some.1 refl)
 base_again e (Some r) is at more =
     let some = meaning_again flag_of 1 true refl at (stated_range e r ++ more) in
@@ -222,13 +222,13 @@ base_again e (Some r) is at more =
     (all.0, rw some.1 all.1)
 
 -- the base behind the flag
-base_if_found : (e : Edition) (some : Bool) (l mid after : Left) (o : Option StatedRange) → Begins l (one (flag some)) mid → base_if e some mid ≡ Ok (o, after) → IsBase e o × Begins l (base_if_any e o) after
+base_if_found : (e : Edition) (some : Bool) (l mid after : Left) (o : Option CheckpointRange) → Begins l (one (flag some)) mid → base_if e some mid ≡ Ok (o, after) → IsBase e o × Begins l (base_if_any e o) after
 base_if_found e false l mid after o first h =
-    subst (λ (z : Option StatedRange × Left). IsBase e z.0 × Begins l (base_if_any e z.0) z.1) (of_ok _ (None, mid) (o, after) refl h) (record { typed = tt; rules = refl; fits = tt }, first)
+    subst (λ (z : Option CheckpointRange × Left). IsBase e z.0 × Begins l (base_if_any e z.0) z.1) (of_ok _ (None, mid) (o, after) refl h) (record { typed = tt; rules = refl; fits = tt }, first)
 base_if_found e true l mid after o first h =
     let s = step_of (stated_range_at e mid) _ _ h in
     let g = range_found e mid s.0.1 s.0.0 first.rest s.1 in
-    subst (λ (z : Option StatedRange × Left). IsBase e z.0 × Begins l (base_if_any e z.0) z.1) (of_ok _ (Some s.0.0, s.0.1) (o, after) refl s.2)
+    subst (λ (z : Option CheckpointRange × Left). IsBase e z.0 × Begins l (base_if_any e z.0) z.1) (of_ok _ (Some s.0.0, s.0.1) (o, after) refl s.2)
     (record { typed = g.0.typed; rules = g.0.rules; fits = g.0.fits }, begins_two l mid s.0.1 (one 1) (stated_range e s.0.0) first g.1)
 
 base_found : (e : Edition) → Found (base_if_any_at e) (base_if_any e) (IsBase e)
@@ -371,11 +371,11 @@ deltas_found e l after d bytes h =
 
 -- ---- tables
 
-abbrev IsTable : Edition → ℕ → StatedTable → Type 0
+abbrev IsTable : Edition → ℕ → CheckpointTable → Type 0
 IsTable e floor = Keeps IsTypedTable is_stated_table (FitsTable e floor)
 
 -- the rules of a table's columns, one for each list
-module _ (t : StatedTable) where
+module _ (t : CheckpointTable) where
   abbrev keys_rule : Bool
   keys_rule = is_count_of_columns (length t.keys)
 
@@ -391,7 +391,7 @@ module _ (t : StatedTable) where
   abbrev totals_rule : Bool
   totals_rule = nat_le (length t.totals) 16
 
-columns_of : (e : Edition) (floor : ℕ) (t : StatedTable) → IsTable e floor t → HasColumns e (columns_in t)
+columns_of : (e : Edition) (floor : ℕ) (t : CheckpointTable) → IsTable e floor t → HasColumns e (columns_in t)
 columns_of e floor t is =
     let typed = is.typed.columns in
     let rules = both (are_stated_columns t) (are_stated_deltas t) is.rules in
@@ -407,7 +407,7 @@ columns_of e floor t is =
       totals = record { typed = typed.totals; few = four.1; fits = is.fits.totals };
     }
 
-columns_keep : (e : Edition) (t : StatedTable) → HasColumns e (columns_in t) → AreTypedColumns t × IsTrue (are_stated_columns t)
+columns_keep : (e : Edition) (t : CheckpointTable) → HasColumns e (columns_in t) → AreTypedColumns t × IsTrue (are_stated_columns t)
 columns_keep e t has = (
   record { keys = has.keys.all; values = has.values.all; changes = has.changes.typed; views = has.views.typed; totals = has.totals.typed },
   all_true (keys_rule t && values_rule t && changes_rule t && views_rule t) (totals_rule t)
@@ -418,14 +418,14 @@ columns_keep e t has = (
 )
 
 -- the rules of a table's deltas, likewise
-module _ (t : StatedTable) where
+module _ (t : CheckpointTable) where
   abbrev cumulatives_rule : Bool
   cumulatives_rule = is_long t.cumulatives && list_all is_stated_range t.cumulatives
 
   abbrev singles_rule : Bool
   singles_rule = is_long t.singles && list_all is_stated_single t.singles
 
-deltas_of : (e : Edition) (floor : ℕ) (t : StatedTable) → IsTable e floor t → HasDeltas e (deltas_in t)
+deltas_of : (e : Edition) (floor : ℕ) (t : CheckpointTable) → IsTable e floor t → HasDeltas e (deltas_in t)
 deltas_of e floor t is =
     let typed = is.typed.deltas in
     let rules = both (are_stated_columns t) (are_stated_deltas t) is.rules in
@@ -437,13 +437,13 @@ deltas_of e floor t is =
       singles = record { typed = typed.singles; rules = two.1; fits = is.fits.singles };
     }
 
-deltas_keep : (e : Edition) (t : StatedTable) → HasDeltas e (deltas_in t) → AreTypedDeltas t × IsTrue (are_stated_deltas t)
+deltas_keep : (e : Edition) (t : CheckpointTable) → HasDeltas e (deltas_in t) → AreTypedDeltas t × IsTrue (are_stated_deltas t)
 deltas_keep e t has = (
   record { base = has.base.typed; cumulatives = has.cumulatives.typed; singles = has.singles.typed },
   all_true (is_base_if_any t.base && cumulatives_rule t) (singles_rule t) (all_true (is_base_if_any t.base) (cumulatives_rule t) has.base.rules has.cumulatives.rules) has.singles.rules,
 )
 
-table_again : (e : Edition) (floor : ℕ) (t : StatedTable) → IsTable e floor t → Again (stated_table_at e floor) (stated_table e t) t
+table_again : (e : Edition) (floor : ℕ) (t : CheckpointTable) → IsTable e floor t → Again (stated_table_at e floor) (stated_table e t) t
 unfolding stated_table_at stated_table stated_columns stated_deltas
 table_again e floor t is at more =
     let columns = columns_bytes e (columns_in t) in
@@ -473,10 +473,10 @@ table_found e floor small l after t bytes h =
     let f4 = columns_found e s3.0.1 s4.0.1 s4.0.0 f3.1.rest s4.1 in
     let s5 = step_of (stated_deltas_at e s4.0.1) _ _ s4.2 in
     let f5 = deltas_found e s4.0.1 s5.0.1 s5.0.0 f4.1.rest s5.1 in
-    let made : StatedTable = stated_of s1.0.0 s2.0.0 s3.0.0 s4.0.0 s5.0.0 in
+    let made : CheckpointTable = stated_of s1.0.0 s2.0.0 s3.0.0 s4.0.0 s5.0.0 in
     let columns = columns_keep e made f4.0 in
     let deltas = deltas_keep e made f5.0 in
-    subst (λ (z : StatedTable × Left). IsTable e floor z.0 × Begins l (stated_table e z.0) z.1) (ok_is (made, s5.0.1) (t, after) s5.2) (
+    subst (λ (z : CheckpointTable × Left). IsTable e floor z.0 × Begins l (stated_table e z.0) z.1) (ok_is (made, s5.0.1) (t, after) s5.2) (
       record {
         typed = record { name = f1.0; oldest = f2.0.small; begins = f3.0.small; columns = columns.0; deltas = deltas.0 };
         rules = all_true (are_stated_columns made) (are_stated_deltas made) columns.1 deltas.1;

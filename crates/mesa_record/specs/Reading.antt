@@ -26,9 +26,9 @@ use Rattle.mesa_record.specs.declared.record.Record.TheVariants as record_of
 use Rattle.mesa_record.specs.declared.record.ViewRef.{ViewRef}
 use Rattle.mesa_record.specs.declared.record.Files.{Files}
 use Rattle.mesa_record.specs.declared.record.Part.{Part}
-use Rattle.mesa_record.specs.declared.checkpoint.StatedRange.{StatedRange}
-use Rattle.mesa_record.specs.declared.checkpoint.StatedSingle.{StatedSingle}
-use Rattle.mesa_record.specs.declared.checkpoint.StatedTable.{StatedTable}
+use Rattle.mesa_record.specs.declared.checkpoint.CheckpointRange.{CheckpointRange}
+use Rattle.mesa_record.specs.declared.checkpoint.CheckpointSingle.{CheckpointSingle}
+use Rattle.mesa_record.specs.declared.checkpoint.CheckpointTable.{CheckpointTable}
 use Rattle.mesa_record.specs.declared.checkpoint.StatedColumns.{StatedColumns}
 use Rattle.mesa_record.specs.declared.checkpoint.StatedDeltas.{StatedDeltas}
 use Rattle.mesa_record.specs.declared.checkpoint.Checkpoint.{Checkpoint}
@@ -317,7 +317,7 @@ abbrev pub stated_views_at : Left → Read (List View)
 stated_views_at l = count_at 8 l >>= λ n. many stated_view_at n.0 n.1
 
 -- a base or a cumulative
-abbrev pub stated_range_at : Edition → Left → Read StatedRange
+abbrev pub stated_range_at : Edition → Left → Read CheckpointRange
 stated_range_at e l = do
   to ← word_at l
   epoch ← word_at to.1
@@ -325,7 +325,7 @@ stated_range_at e l = do
   Ok (record { to = to.0; epoch = epoch.0; files = files.0 }, files.1)
 
 -- a singleton with rows
-unfoldable pub stated_single_at : Edition → Left → Read StatedSingle
+unfoldable pub stated_single_at : Edition → Left → Read CheckpointSingle
 stated_single_at e l = do
   version ← word_at l
   epoch ← word_at version.1
@@ -334,11 +334,11 @@ stated_single_at e l = do
   Ok (record { version = version.0; epoch = epoch.0; files = files.0; totals = totals.0 }, totals.1)
 
 -- a base, if there is one
-abbrev pub base_if : Edition → Bool → Left → Read (Option StatedRange)
+abbrev pub base_if : Edition → Bool → Left → Read (Option CheckpointRange)
 base_if e false l = Ok (None, l)
 base_if e true l = stated_range_at e l >>= λ r. Ok (Some r.0, r.1)
 
-abbrev pub base_if_any_at : Edition → Left → Read (Option StatedRange)
+abbrev pub base_if_any_at : Edition → Left → Read (Option CheckpointRange)
 base_if_any_at e l = meaning flag_of l >>= λ some. base_if e some.0 some.1
 
 -- a table's oldest version: where the edition has no field for it, it is the floor
@@ -374,17 +374,17 @@ stated_deltas_at e l = do
   Ok (record { base = base.0; cumulatives = cumulatives.0; singles = singles.0 }, singles.1)
 
 -- a table's columns and deltas, and the table of them
-abbrev pub columns_in : StatedTable → StatedColumns
+abbrev pub columns_in : CheckpointTable → StatedColumns
 columns_in t = record { keys = t.keys; values = t.values; changes = t.changes; views = t.views; totals = t.totals }
 
-abbrev pub deltas_in : StatedTable → StatedDeltas
+abbrev pub deltas_in : CheckpointTable → StatedDeltas
 deltas_in t = record { base = t.base; cumulatives = t.cumulatives; singles = t.singles }
 
-abbrev pub stated_of : List ℕ → ℕ → ℕ → StatedColumns → StatedDeltas → StatedTable
+abbrev pub stated_of : List ℕ → ℕ → ℕ → StatedColumns → StatedDeltas → CheckpointTable
 stated_of name oldest begins c d = record { name = name; oldest = oldest; begins = begins; keys = c.keys; values = c.values; changes = c.changes; views = c.views; totals = c.totals; base = d.base; cumulatives = d.cumulatives; singles = d.singles }
 
 -- a table, where this is the floor
-unfoldable pub stated_table_at : Edition → ℕ → Left → Read StatedTable
+unfoldable pub stated_table_at : Edition → ℕ → Left → Read CheckpointTable
 stated_table_at e floor l = do
   name ← name_at l
   oldest ← oldest_at e floor name.1

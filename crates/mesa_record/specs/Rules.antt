@@ -21,9 +21,9 @@ use Rattle.mesa_record.specs.declared.record.Record.TheVariants as record_of
 use Rattle.mesa_record.specs.declared.record.ViewRef.{ViewRef}
 use Rattle.mesa_record.specs.declared.record.Files.{Files}
 use Rattle.mesa_record.specs.declared.record.Part.{Part}
-use Rattle.mesa_record.specs.declared.checkpoint.StatedRange.{StatedRange}
-use Rattle.mesa_record.specs.declared.checkpoint.StatedSingle.{StatedSingle}
-use Rattle.mesa_record.specs.declared.checkpoint.StatedTable.{StatedTable}
+use Rattle.mesa_record.specs.declared.checkpoint.CheckpointRange.{CheckpointRange}
+use Rattle.mesa_record.specs.declared.checkpoint.CheckpointSingle.{CheckpointSingle}
+use Rattle.mesa_record.specs.declared.checkpoint.CheckpointTable.{CheckpointTable}
 use Rattle.mesa_record.specs.declared.checkpoint.Checkpoint.{Checkpoint}
 use Rattle.mesa_record.specs.declared.recasting.RecastBase.{RecastBase}
 use Rattle.mesa_record.specs.declared.recasting.Recasting.{Recasting}
@@ -80,23 +80,23 @@ is_long xs = nat_lt (length xs) (2 ^ 32)
 abbrev pub is_stated_view : View → Bool
 is_stated_view v = is_count_of_columns (length v.keys) && is_count_of_columns (length v.values)
 
-abbrev pub is_stated_range : StatedRange → Bool
+abbrev pub is_stated_range : CheckpointRange → Bool
 is_stated_range r = are_files_if_any r.files
 
-abbrev pub is_stated_single : StatedSingle → Bool
+abbrev pub is_stated_single : CheckpointSingle → Bool
 is_stated_single s = are_files s.files && nat_le (length s.totals) 16
 
-abbrev pub is_base_if_any : Option StatedRange → Bool
+abbrev pub is_base_if_any : Option CheckpointRange → Bool
 is_base_if_any None = true
 is_base_if_any (Some r) = is_stated_range r
 
-abbrev pub are_stated_columns : StatedTable → Bool
+abbrev pub are_stated_columns : CheckpointTable → Bool
 are_stated_columns t = is_count_of_columns (length t.keys) && is_count_of_columns (length t.values) && (is_short t.changes && list_all is_change t.changes) && (nat_le (length t.views) 8 && list_all is_stated_view t.views) && nat_le (length t.totals) 16
 
-abbrev pub are_stated_deltas : StatedTable → Bool
+abbrev pub are_stated_deltas : CheckpointTable → Bool
 are_stated_deltas t = is_base_if_any t.base && (is_long t.cumulatives && list_all is_stated_range t.cumulatives) && (is_long t.singles && list_all is_stated_single t.singles)
 
-abbrev pub is_stated_table : StatedTable → Bool
+abbrev pub is_stated_table : CheckpointTable → Bool
 is_stated_table t = are_stated_columns t && are_stated_deltas t
 
 abbrev pub is_checkpoint : Checkpoint → Bool
@@ -186,34 +186,34 @@ pub record IsTypedStatedView (v : View) : Type 0 where
   pub keys : AllByRecursion IsNamed v.keys
   pub values : AllByRecursion IsNamed v.values
 
-pub record IsTypedRange (r : StatedRange) : Type 0 where
+pub record IsTypedRange (r : CheckpointRange) : Type 0 where
   pub to : IsWord r.to
   pub epoch : IsWord r.epoch
   pub files : AreTypedFiles r.files
 
-pub record IsTypedSingle (s : StatedSingle) : Type 0 where
+pub record IsTypedSingle (s : CheckpointSingle) : Type 0 where
   pub version : IsWord s.version
   pub epoch : IsWord s.epoch
   pub files : IsTypedFiles s.files
   pub totals : AllByRecursion IsTotal s.totals
 
-abbrev pub IsTypedBase : Option StatedRange → Type 0
+abbrev pub IsTypedBase : Option CheckpointRange → Type 0
 IsTypedBase None = Unit {0}
 IsTypedBase (Some r) = IsTypedRange r
 
-pub record AreTypedColumns (t : StatedTable) : Type 0 where
+pub record AreTypedColumns (t : CheckpointTable) : Type 0 where
   pub keys : AllByRecursion (λ (c : KeyColumn). IsNamed c.name) t.keys
   pub values : AllByRecursion (λ (c : ValueColumn). IsNamed c.name) t.values
   pub changes : AllByRecursion IsTypedChange t.changes
   pub views : AllByRecursion IsTypedStatedView t.views
   pub totals : AllByRecursion IsTotal t.totals
 
-pub record AreTypedDeltas (t : StatedTable) : Type 0 where
+pub record AreTypedDeltas (t : CheckpointTable) : Type 0 where
   pub base : IsTypedBase t.base
   pub cumulatives : AllByRecursion IsTypedRange t.cumulatives
   pub singles : AllByRecursion IsTypedSingle t.singles
 
-pub record IsTypedTable (t : StatedTable) : Type 0 where
+pub record IsTypedTable (t : CheckpointTable) : Type 0 where
   pub name : IsNamed t.name
   pub oldest : IsWord t.oldest
   pub begins : IsWord t.begins
@@ -290,14 +290,14 @@ abbrev pub FitsFilesIfAny : Edition → Option Files → Type 0
 FitsFilesIfAny e None = Unit {0}
 FitsFilesIfAny e (Some f) = FitsFiles e f
 
-abbrev pub FitsRange : Edition → StatedRange → Type 0
+abbrev pub FitsRange : Edition → CheckpointRange → Type 0
 FitsRange e r = FitsFilesIfAny e r.files
 
-pub record FitsSingle (e : Edition) (s : StatedSingle) : Type 0 where
+pub record FitsSingle (e : Edition) (s : CheckpointSingle) : Type 0 where
   pub files : FitsFiles e s.files
   pub totals : FitsTotals e s.totals
 
-abbrev pub FitsBase : Edition → Option StatedRange → Type 0
+abbrev pub FitsBase : Edition → Option CheckpointRange → Type 0
 FitsBase e None = Unit {0}
 FitsBase e (Some r) = FitsRange e r
 
@@ -315,7 +315,7 @@ FitsBegins Second begins = begins ≡ 0
 FitsBegins Third begins = begins ≡ 0
 FitsBegins Fourth begins = Unit {0}
 
-pub record FitsTable (e : Edition) (floor : ℕ) (t : StatedTable) : Type 0 where
+pub record FitsTable (e : Edition) (floor : ℕ) (t : CheckpointTable) : Type 0 where
   pub oldest : FitsOldest e floor t.oldest
   pub begins : FitsBegins e t.begins
   pub totals : FitsTotals e t.totals

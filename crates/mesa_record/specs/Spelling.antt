@@ -19,9 +19,9 @@ use Rattle.mesa_record.specs.declared.record.Record.TheVariants as record_of
 use Rattle.mesa_record.specs.declared.record.ViewRef.{ViewRef}
 use Rattle.mesa_record.specs.declared.record.Files.{Files}
 use Rattle.mesa_record.specs.declared.record.Part.{Part}
-use Rattle.mesa_record.specs.declared.checkpoint.StatedRange.{StatedRange}
-use Rattle.mesa_record.specs.declared.checkpoint.StatedSingle.{StatedSingle}
-use Rattle.mesa_record.specs.declared.checkpoint.StatedTable.{StatedTable}
+use Rattle.mesa_record.specs.declared.checkpoint.CheckpointRange.{CheckpointRange}
+use Rattle.mesa_record.specs.declared.checkpoint.CheckpointSingle.{CheckpointSingle}
+use Rattle.mesa_record.specs.declared.checkpoint.CheckpointTable.{CheckpointTable}
 use Rattle.mesa_record.specs.declared.checkpoint.Checkpoint.{Checkpoint}
 use Rattle.mesa_record.specs.declared.recasting.RecastBase.{RecastBase}
 use Rattle.mesa_record.specs.declared.recasting.Recasting.{Recasting}
@@ -160,15 +160,15 @@ abbrev pub stated_view : View → List ℕ
 stated_view v = view_fields v.name v.keys v.values
 
 -- a base or a cumulative: its last version, its epoch and its files
-abbrev pub stated_range : Edition → StatedRange → List ℕ
+abbrev pub stated_range : Edition → CheckpointRange → List ℕ
 stated_range e r = word r.to ++ (word r.epoch ++ files_if_any e r.files)
 
 -- a singleton with rows
-unfoldable pub stated_single : Edition → StatedSingle → List ℕ
+unfoldable pub stated_single : Edition → CheckpointSingle → List ℕ
 stated_single e s = word s.version ++ (word s.epoch ++ (files e s.files ++ counted (total e) s.totals))
 
 -- a base, if there is one
-abbrev pub base_if_any : Edition → Option StatedRange → List ℕ
+abbrev pub base_if_any : Edition → Option CheckpointRange → List ℕ
 base_if_any e None = 0 ∷ []
 base_if_any e (Some r) = 1 ∷ stated_range e r
 
@@ -187,14 +187,14 @@ begins_field Third begins = []
 begins_field Fourth begins = word begins
 
 -- a table's columns: the first ones and the changes since, its views, and the totals of its sum columns
-unfoldable pub stated_columns : Edition → StatedTable → List ℕ
+unfoldable pub stated_columns : Edition → CheckpointTable → List ℕ
 stated_columns e t = counted key_column t.keys ++ (counted value_column t.values ++ (sized half change t.changes ++ (counted stated_view t.views ++ counted (total e) t.totals)))
 
 -- a table's deltas: its base, its cumulatives and its singletons with rows
-unfoldable pub stated_deltas : Edition → StatedTable → List ℕ
+unfoldable pub stated_deltas : Edition → CheckpointTable → List ℕ
 stated_deltas e t = base_if_any e t.base ++ (sized word (stated_range e) t.cumulatives ++ sized word (stated_single e) t.singles)
 
-unfoldable pub stated_table : Edition → StatedTable → List ℕ
+unfoldable pub stated_table : Edition → CheckpointTable → List ℕ
 stated_table e t = text t.name ++ (oldest_field e t.oldest ++ (begins_field e t.begins ++ (stated_columns e t ++ stated_deltas e t)))
 
 -- a checkpoint's number, its last run, the floor, how many versions there were, and the tables

@@ -8,7 +8,7 @@ use mesa_schema::{Change, KeyColumn, Name, Totals, ValueColumn, View};
 
 /// A base or a cumulative. It has no files where it has no rows.
 #[derive(Drop)]
-pub struct StatedRange {
+pub struct CheckpointRange {
     /// Its last version.
     pub to: u32,
     pub epoch: u32,
@@ -17,7 +17,7 @@ pub struct StatedRange {
 
 /// A singleton with rows. One without rows isn't stated.
 #[derive(Drop)]
-pub struct StatedSingle {
+pub struct CheckpointSingle {
     pub version: u32,
     pub epoch: u32,
     pub files: Files,
@@ -27,7 +27,7 @@ pub struct StatedSingle {
 
 /// A table: the columns that it was made with or last recast to, and what has been changed, viewed, published and merged since.
 #[derive(Drop)]
-pub struct StatedTable {
+pub struct CheckpointTable {
     pub name: Name,
     /// Versions of the table below this one aren't kept any more.
     pub oldest: u32,
@@ -39,9 +39,9 @@ pub struct StatedTable {
     pub views: Items<View>,
     /// For each sum column that it has now the absolute values of all rows, added up.
     pub totals: Totals,
-    pub base: Option<StatedRange>,
-    pub cumulatives: Items<StatedRange>,
-    pub singles: Items<StatedSingle>,
+    pub base: Option<CheckpointRange>,
+    pub cumulatives: Items<CheckpointRange>,
+    pub singles: Items<CheckpointSingle>,
 }
 
 /// A catalogue, in one record.
@@ -56,7 +56,7 @@ pub struct Checkpoint {
     /// How many versions there were.
     pub versions: u32,
     /// In the order in which they were made.
-    pub tables: Items<StatedTable>,
+    pub tables: Items<CheckpointTable>,
 }
 
 /// A table's columns and what tells of them: a part of a table while it is read or copied.
@@ -72,9 +72,9 @@ pub(crate) struct StatedColumns {
 /// A table's deltas, likewise.
 #[derive(Drop)]
 pub(crate) struct StatedDeltas {
-    pub(crate) base: Option<StatedRange>,
-    pub(crate) cumulatives: Items<StatedRange>,
-    pub(crate) singles: Items<StatedSingle>,
+    pub(crate) base: Option<CheckpointRange>,
+    pub(crate) cumulatives: Items<CheckpointRange>,
+    pub(crate) singles: Items<CheckpointSingle>,
 }
 
 // A table of its parts; none is copied.
@@ -84,7 +84,7 @@ pub(crate) fn table_of(
     begins: u32,
     columns: StatedColumns,
     deltas: StatedDeltas,
-) -> StatedTable
+) -> CheckpointTable
     ensures { result ≡ stated_of name oldest begins columns deltas }
 {
     let StatedColumns {
@@ -99,7 +99,7 @@ pub(crate) fn table_of(
         cumulatives,
         singles,
     } = deltas;
-    StatedTable {
+    CheckpointTable {
         name,
         oldest,
         begins,

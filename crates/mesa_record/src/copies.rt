@@ -5,7 +5,7 @@ ghost use Rattle.mesa_record.specs.Reading.{columns_in, deltas_in};
 
 use crate::checkpoint::{StatedColumns, StatedDeltas, table_of};
 use crate::{
-    Checkpoint, Files, Part, RecastBase, Recasting, Record, StatedRange, StatedSingle, StatedTable,
+    Checkpoint, Files, Part, RecastBase, Recasting, Record, CheckpointRange, CheckpointSingle, CheckpointTable,
     ViewRef,
 };
 use mesa_list::{Items, TryCopy};
@@ -166,9 +166,9 @@ fn copy_recast_base(base: &Option<RecastBase>) -> Result<Option<RecastBase>, All
 
 // ---- checkpoints
 
-impl TryCopy for StatedRange {
+impl TryCopy for CheckpointRange {
     fn copy(&self) -> Result<Self, AllocError> {
-        Ok(StatedRange {
+        Ok(CheckpointRange {
             to: self.to,
             epoch: self.epoch,
             files: copy_files(&self.files)?,
@@ -176,10 +176,10 @@ impl TryCopy for StatedRange {
     }
 }
 
-impl TryCopy for StatedSingle {
+impl TryCopy for CheckpointSingle {
     fn copy(&self) -> Result<Self, AllocError> {
         let totals = self.totals.copy()?;
-        Ok(StatedSingle {
+        Ok(CheckpointSingle {
             version: self.version,
             epoch: self.epoch,
             files: self.files.copy()?,
@@ -188,7 +188,7 @@ impl TryCopy for StatedSingle {
     }
 }
 
-impl TryCopy for StatedTable {
+impl TryCopy for CheckpointTable {
     fn copy(&self) -> Result<Self, AllocError> {
         let name = self.name.copy()?;
         let columns = copy_columns(self)?;
@@ -197,7 +197,7 @@ impl TryCopy for StatedTable {
     }
 }
 
-fn copy_columns(table: &StatedTable) -> Result<StatedColumns, AllocError>
+fn copy_columns(table: &CheckpointTable) -> Result<StatedColumns, AllocError>
     ensures { IfOk result (λ other. other ≡ columns_in table.now) }
 {
     let keys = table.keys.copy()?;
@@ -214,7 +214,7 @@ fn copy_columns(table: &StatedTable) -> Result<StatedColumns, AllocError>
     })
 }
 
-fn copy_deltas(table: &StatedTable) -> Result<StatedDeltas, AllocError>
+fn copy_deltas(table: &CheckpointTable) -> Result<StatedDeltas, AllocError>
     ensures { IfOk result (λ other. other ≡ deltas_in table.now) }
 {
     let base = copy_base(&table.base)?;
@@ -239,7 +239,7 @@ impl TryCopy for Checkpoint {
     }
 }
 
-fn copy_base(base: &Option<StatedRange>) -> Result<Option<StatedRange>, AllocError>
+fn copy_base(base: &Option<CheckpointRange>) -> Result<Option<CheckpointRange>, AllocError>
     ensures { IfOk result (λ other. other ≡ base.now) }
 {
     match base {

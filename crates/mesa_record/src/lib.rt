@@ -16,7 +16,7 @@ mod record;
 mod stated;
 mod writing;
 
-pub use checkpoint::{Checkpoint, StatedRange, StatedSingle, StatedTable};
+pub use checkpoint::{Checkpoint, CheckpointRange, CheckpointSingle, CheckpointTable};
 pub use edition::Edition;
 pub use error::RecordError;
 pub use laws::{reads_records, spells_records};

@@ -9,7 +9,7 @@ use crate::field::{put_half, put_word, write_counted};
 use crate::files::{read_files_if_any, write_files_if_any};
 use crate::reading::names;
 use crate::stated::{read_long, write_long};
-use crate::{Edition, Files, RecordError, StatedSingle};
+use crate::{Edition, Files, RecordError, CheckpointSingle};
 use mesa_list::Items;
 use mesa_schema::Name;
 use std::alloc::{AllocError, Global};
@@ -32,7 +32,7 @@ pub struct Recasting {
     pub keys: Items<Name>,
     pub values: Items<Name>,
     pub base: Option<RecastBase>,
-    pub singles: Items<StatedSingle>,
+    pub singles: Items<CheckpointSingle>,
 }
 
 // ---- reading

@@ -12,7 +12,7 @@ use crate::field::{Field, put_half, put_word, write_counted};
 use crate::files::{read_files, read_files_if_any, read_totals, write_files, write_files_if_any};
 use crate::reading::{change, key_columns, names, value_columns};
 use crate::writing::write_change;
-use crate::{Checkpoint, Edition, RecordError, StatedRange, StatedSingle, StatedTable};
+use crate::{Checkpoint, Edition, RecordError, CheckpointRange, CheckpointSingle, CheckpointTable};
 use mesa_list::Items;
 use mesa_schema::{Change, View};
 use std::alloc::{AllocError, Global};
@@ -164,7 +164,7 @@ pub(crate) fn write_checkpoint(checkpoint: &Checkpoint, out: &mut Vec<u8>) -> Re
 
 // ---- its tables
 
-impl Stated for StatedTable {
+impl Stated for CheckpointTable {
     ghost read_at = { stated_table_at };
 
     ghost spelling = { stated_table Fourth };
@@ -241,7 +241,7 @@ fn read_deltas(
 }
 
 #[tactic(auto, unfolding(crate::specs::Spelling::stated_columns))]
-fn write_columns(table: &StatedTable, out: &mut Vec<u8>) -> Result<(), AllocError>
+fn write_columns(table: &CheckpointTable, out: &mut Vec<u8>) -> Result<(), AllocError>
     requires { IsTrue (are_stated_columns table.now) }
     ensures bytes { OnOk result (out.new.items ≡ out.old.items ++ stated_columns Fourth table.now) }
     ensures typed { OnOk result (AreTypedColumns table.now) }
@@ -254,7 +254,7 @@ fn write_columns(table: &StatedTable, out: &mut Vec<u8>) -> Result<(), AllocErro
 }
 
 #[tactic(auto, unfolding(crate::specs::Spelling::stated_deltas))]
-fn write_deltas(table: &StatedTable, out: &mut Vec<u8>) -> Result<(), AllocError>
+fn write_deltas(table: &CheckpointTable, out: &mut Vec<u8>) -> Result<(), AllocError>
     requires { IsTrue (are_stated_deltas table.now) }
     ensures bytes { OnOk result (out.new.items ≡ out.old.items ++ stated_deltas Fourth table.now) }
     ensures typed { OnOk result (AreTypedDeltas table.now) }
@@ -341,7 +341,7 @@ fn write_views(views: &[View], out: &mut Vec<u8>) -> Result<(), AllocError>
 
 // ---- deltas
 
-impl Stated for StatedRange {
+impl Stated for CheckpointRange {
     ghost read_at = { λ e floor. stated_range_at e };
 
     ghost spelling = { stated_range Fourth };
@@ -370,20 +370,20 @@ fn read_range(
     alloc: Global,
     cursor: &mut Cursor<'_>,
     edition: Edition,
-) -> Result<StatedRange, RecordError>
+) -> Result<CheckpointRange, RecordError>
     ensures { Gives result cursor.new (stated_range_at edition cursor.old) }
 {
     let to = cursor.word()?;
     let epoch = cursor.word()?;
     let files = read_files_if_any(alloc, cursor, edition)?;
-    Ok(StatedRange { to, epoch, files })
+    Ok(CheckpointRange { to, epoch, files })
 }
 
 fn read_base(
     alloc: Global,
     cursor: &mut Cursor<'_>,
     edition: Edition,
-) -> Result<Option<StatedRange>, RecordError>
+) -> Result<Option<CheckpointRange>, RecordError>
     ensures { Gives result cursor.new (base_if_any_at edition cursor.old) }
 {
     if cursor.flag()? {
@@ -392,7 +392,7 @@ fn read_base(
     Ok(None)
 }
 
-fn write_base(base: &Option<StatedRange>, out: &mut Vec<u8>) -> Result<(), AllocError>
+fn write_base(base: &Option<CheckpointRange>, out: &mut Vec<u8>) -> Result<(), AllocError>
     requires { IsTrue (is_base_if_any base.now) }
     ensures bytes { OnOk result (out.new.items ≡ out.old.items ++ base_if_any Fourth base.now) }
     ensures typed { OnOk result (IsTypedBase base.now) }
@@ -409,7 +409,7 @@ fn write_base(base: &Option<StatedRange>, out: &mut Vec<u8>) -> Result<(), Alloc
     }
 }
 
-impl Stated for StatedSingle {
+impl Stated for CheckpointSingle {
     ghost read_at = { λ e floor. stated_single_at e };
 
     ghost spelling = { stated_single Fourth };
@@ -429,7 +429,7 @@ impl Stated for StatedSingle {
         let epoch = cursor.word()?;
         let files = read_files(alloc, cursor, edition)?;
         let totals = read_totals(alloc, cursor, edition)?;
-        Ok(StatedSingle {
+        Ok(CheckpointSingle {
             version,
             epoch,
             files,

@@ -3,7 +3,7 @@ use Rattle.std.proofs.Common.{◌≡◌, inl, inr, ⊎_elim, ℕ, ◌+◌, ◌-�
 use Rattle.std.proofs.lemmas.Bool.Decides.{nat_tests}
 use Rattle.std.proofs.lemmas.List.Sums.{sum_by-cons}
 use Rattle.mesa_store.specs.mesa_io.Causes.{last}
-use Rattle.mesa_table.specs.mesa_key.Spelling.{AreBytes}
+use Rattle.mesa_catalog_table.specs.mesa_key.Spelling.{AreBytes}
 use Rattle.mesa_disk.specs.Image.{Image, file_of}
 use Rattle.mesa_disk.specs.Story.{Story, Spans, Unmoved}
 use Rattle.mesa_disk.specs.declared.area.Area.{Area}
@@ -13,16 +13,16 @@ use Rattle.mesa_catalog.specs.mesa_commit.Holding.{Among}
 use Rattle.mesa_catalog.specs.mesa_commit.Filed.{AreFresh, AreNamedOrWait, FilesAdopted}
 use Rattle.mesa_store.proofs.mesa_commit.Filing.{filed_first}
 use Rattle.mesa_record.specs.Reading.{record_at}
-use Rattle.mesa_image_spec.specs.Catalog.{Catalog, applied}
-use Rattle.mesa_image_spec.specs.Fitting.{fits, max_runs, shelved}
-use Rattle.mesa_image_spec.specs.Journaled.{catalog}
-use Rattle.mesa_image_spec.proofs.Wholes.{catalog_whole}
+use Rattle.mesa_store_spec.specs.Catalog.{Catalog, applied}
+use Rattle.mesa_store_spec.specs.Fitting.{fits, max_runs, live_files}
+use Rattle.mesa_store_spec.specs.Journaled.{catalog}
+use Rattle.mesa_store_spec.proofs.Wholes.{catalog_whole}
 use Rattle.std.specs.List.{AllByRecursion}
-use Rattle.mesa_image_spec.specs.Contents.{Rows, kept_of}
+use Rattle.mesa_store_spec.specs.Contents.{Rows, kept_of}
 use Rattle.mesa_catalog.specs.mesa_commit.Images.{Has}
-use Rattle.mesa_image_spec.specs.Sound.{AreStocked, StandsFor, wants}
-use Rattle.mesa_image_spec.specs.Held.{IsHeld, IsStep, StandsForEither}
-use Rattle.mesa_image_spec.specs.Ids.{HasOwnIds, named, times}
+use Rattle.mesa_store_spec.specs.Sound.{HaveSoundRows, StandsFor, wants}
+use Rattle.mesa_store_spec.specs.Held.{IsHeld, IsStep, StandsForEither}
+use Rattle.mesa_store_spec.specs.Ids.{HasOwnIds, named, times}
 use Rattle.mesa_store.specs.Store.{IsFound, Writes}
 use Rattle.mesa_recover.specs.declared.error.OpenError.{OpenError}
 use Rattle.mesa_recover.specs.declared.error.OpenError.TheVariants as open_error
@@ -48,8 +48,8 @@ fits_run c few =
 pub runs_few : (area : Area) (bodies : List (List ℕ)) (c : Catalog) → AllByRecursion AreBytes bodies → catalog area bodies ≡ Some c → c.run ≤ 2 ^ 24 - 1
 runs_few area bodies c bytes is = (catalog_whole area bodies c bytes is).counted.run
 
-pub run_step : (rows : Rows) (c : Catalog) (number : ℕ) (body : List ℕ) → AreBytes body → record_at body ≡ Ok (run_record number) → fits c (run_record number) ≡ true → AreStocked rows c → IsStep rows c (run_record number) body
-run_step rows c number body bytes reads fitting stocked = record { bytes = bytes; reads = reads; fitting = fitting; stocked = stocked; grows = λ i has new. has }
+pub run_step : (rows : Rows) (c : Catalog) (number : ℕ) (body : List ℕ) → AreBytes body → record_at body ≡ Ok (run_record number) → fits c (run_record number) ≡ true → HaveSoundRows rows c → IsStep rows c (run_record number) body
+run_step rows c number body bytes reads fitting sound_rows = record { bytes = bytes; reads = reads; fitting = fitting; sound_rows = sound_rows; grows = λ i has new. has }
 
 same_kept : (rows : Rows) (c : Catalog) (number : ℕ) → kept_of rows (applied c (run_record number)) ≡ kept_of rows c
 unfolding kept_of
@@ -59,7 +59,7 @@ pub writes_run : (story : Story) (area : Area) (bodies : List (List ℕ)) (end :
     → Writes story area bodies end c rows (run_record number) body made strays
 writes_run story area bodies end c rows number body made strays held begins none = record {
   held = held;
-  step = run_step rows c number body begins.bytes begins.reads begins.fitting held.stocked;
+  step = run_step rows c number body begins.bytes begins.reads begins.fitting held.sound_rows;
   brings = none;
   unnamed = begins.unnamed;
 }
@@ -81,7 +81,7 @@ pub found_unmoved : (a b : Story) (area : Area) (bodies : List (List ℕ)) (end 
 found_unmoved a b area bodies end c rows still found = record {
   bytes = found.bytes;
   records = found.records;
-  stocked = found.stocked;
+  sound_rows = found.sound_rows;
   journal = λ i told. found.journal i (sym still.told ∙ told);
   files = λ i told. found.files i (sym still.told ∙ told);
   left = λ x left. found.left x ((still.may_leave x).0 left);
@@ -122,9 +122,9 @@ module _ (story : Story) (c : Catalog) (last_run : ℕ) (area : Area) (number : 
   found_start rows start = record {
     bytes = o.reads.bytes;
     records = o.reads.records;
-    stocked = start.sound.rows_are;
+    sound_rows = start.sound.rows_are;
     journal = o.reads.journal;
-    files = λ i told. subst (λ (x : Image). Has (wants rows (shelved c)) x) (told_same story.told start.image i start.told told) start.sound.files;
+    files = λ i told. subst (λ (x : Image). Has (wants rows (live_files c)) x) (told_same story.told start.image i start.told told) start.sound.files;
     left = start.left;
   }
 

@@ -6,9 +6,9 @@ use Rattle.mesa_disk.specs.declared.area.Area.{Area}
 use Rattle.mesa_journal.specs.Read.{bodies_of, placed_from}
 use Rattle.mesa_journal.specs.declared.reading.Body.{Body}
 use Rattle.mesa_record.specs.Reading.{record_at}
-use Rattle.mesa_image_spec.specs.Catalog.{Catalog}
-use Rattle.mesa_image_spec.specs.Fitting.{catalog_from, then_bodies, with_body}
-use Rattle.mesa_image_spec.specs.Journaled.{catalog, first_body}
+use Rattle.mesa_store_spec.specs.Catalog.{Catalog}
+use Rattle.mesa_store_spec.specs.Fitting.{catalog_from, then_bodies, with_body}
+use Rattle.mesa_store_spec.specs.Journaled.{catalog, first_body}
 use Rattle.mesa_recover.specs.declared.error.OpenError.{OpenError}
 use Rattle.mesa_recover.specs.declared.error.OpenError.TheVariants as open_error
 use Rattle.mesa_recover.specs.Damages.{misfit_of}

@@ -3,7 +3,7 @@ use Rattle.std.proofs.Common.{◌≡◌, inl, inr, ⊎_elim, ℕ, zero, suc, ◌
 use Rattle.std.specs.Prelude.{slice_index_or}
 use Rattle.std.proofs.lemmas.List.{map-append, take-map}
 use Rattle.std.specs.List.{AllByRecursion}
-use Rattle.mesa_table.specs.mesa_file.declared.damage.Damage.{Damage}
+use Rattle.mesa_catalog_table.specs.mesa_file.declared.damage.Damage.{Damage}
 use Rattle.mesa_disk.specs.Story.{Story, Unmoved}
 use Rattle.mesa_disk.specs.Image.{Image, file_of}
 use Rattle.mesa_journal.specs.Journal.{frames, word}
@@ -11,7 +11,7 @@ use Rattle.mesa_journal.specs.Read.{bodies_of, placed_from}
 use Rattle.mesa_journal.specs.declared.reading.Body.{Body}
 use Rattle.mesa_journal.proofs.Bytes.{length-word}
 use Rattle.mesa_disk.specs.declared.area.Area.{Area}
-use Rattle.mesa_table.specs.declared.recorded.Recorded.{Recorded}
+use Rattle.mesa_catalog_table.specs.declared.recorded.Recorded.{Recorded}
 use Rattle.mesa_recover.specs.declared.error.OpenError.{OpenError}
 use Rattle.mesa_recover.specs.Damages.{IsAsRecorded, IsFileDamage, IsFirstDamage, IsFirstMisfit, MisfitsBehind}
 use Rattle.mesa_recover.specs.Misfits.{IsMisfitAt, IsMisfitIn}

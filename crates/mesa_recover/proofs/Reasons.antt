@@ -5,8 +5,8 @@ use Rattle.std.specs.Prelude.{map}
 use Rattle.std.proofs.lemmas.List.Sorted.{All-permutation, IsPermutation-sym}
 use Rattle.std.proofs.lemmas.List.Elements.{All-from_recursion, recursion_from_All}
 use Rattle.mesa_store.specs.mesa_io.Causes.{Rose}
-use Rattle.mesa_table.specs.mesa_file.declared.damage.Damage.{Damage}
-use Rattle.mesa_table.specs.mesa_file.declared.damage.Seen.TheVariants as seen
+use Rattle.mesa_catalog_table.specs.mesa_file.declared.damage.Damage.{Damage}
+use Rattle.mesa_catalog_table.specs.mesa_file.declared.damage.Seen.TheVariants as seen
 use Rattle.mesa_disk.specs.Image.{Image, area_of}
 use Rattle.mesa_disk.specs.Story.{Story}
 use Rattle.mesa_disk.specs.declared.area.Area.{Area}
@@ -17,11 +17,11 @@ use Rattle.mesa_journal.specs.declared.reading.Body.{Body}
 use Rattle.mesa_journal.specs.declared.reading.JournalRead.{JournalRead}
 use Rattle.mesa_journal.specs.declared.reading.JournalError.{JournalError}
 use Rattle.mesa_journal.specs.declared.reading.JournalError.TheVariants as journal
-use Rattle.mesa_image_spec.specs.Catalog.{Catalog}
-use Rattle.mesa_image_spec.specs.Fitting.{shelved}
-use Rattle.mesa_image_spec.specs.Journaled.{catalog}
-use Rattle.mesa_table.specs.declared.recorded.Recorded.{Recorded}
-use Rattle.mesa_table.specs.Files.{AreRecorded, recorded_of}
+use Rattle.mesa_store_spec.specs.Catalog.{Catalog}
+use Rattle.mesa_store_spec.specs.Fitting.{live_files}
+use Rattle.mesa_store_spec.specs.Journaled.{catalog}
+use Rattle.mesa_catalog_table.specs.declared.recorded.Recorded.{Recorded}
+use Rattle.mesa_catalog_table.specs.Files.{AreRecorded, recorded_of}
 use Rattle.mesa_recover.specs.declared.error.OpenError.{OpenError}
 use Rattle.mesa_recover.specs.declared.error.OpenError.TheVariants as open_error
 use Rattle.mesa_recover.specs.Damages.{IsFirstDamage, HasMisfit, IsFirstMisfit}
@@ -83,11 +83,11 @@ pub files_never_full : (e : OpenError) → IsOfFiles e → e ≡ open_error.Runs
 files_never_full e kind full = subst IsOfFiles full kind
 
 -- each file that a catalogue names was tested
-pub all_recorded : (P : Recorded → Type 0) (c : Catalog) (files : List Recorded) → AreRecorded c files → AllByRecursion P files → AllByRecursion P (map recorded_of (shelved c))
+pub all_recorded : (P : Recorded → Type 0) (c : Catalog) (files : List Recorded) → AreRecorded c files → AllByRecursion P files → AllByRecursion P (map recorded_of (live_files c))
 all_recorded P c files recorded all =
-    recursion_from_All P (map recorded_of (shelved c)) (All-permutation P files (map recorded_of (shelved c)) (IsPermutation-sym _ _ recorded.same) (All-from_recursion P files all))
+    recursion_from_All P (map recorded_of (live_files c)) (All-permutation P files (map recorded_of (live_files c)) (IsPermutation-sym _ _ recorded.same) (All-from_recursion P files all))
 
 -- and what was tested is named
-pub recorded_all : (P : Recorded → Type 0) (c : Catalog) (files : List Recorded) → AreRecorded c files → AllByRecursion P (map recorded_of (shelved c)) → AllByRecursion P files
+pub recorded_all : (P : Recorded → Type 0) (c : Catalog) (files : List Recorded) → AreRecorded c files → AllByRecursion P (map recorded_of (live_files c)) → AllByRecursion P files
 recorded_all P c files recorded all =
-    recursion_from_All P files (All-permutation P (map recorded_of (shelved c)) files recorded.same (All-from_recursion P (map recorded_of (shelved c)) all))
+    recursion_from_All P files (All-permutation P (map recorded_of (live_files c)) files recorded.same (All-from_recursion P (map recorded_of (live_files c)) all))

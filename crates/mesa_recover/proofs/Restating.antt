@@ -2,20 +2,20 @@
 use Rattle.std.proofs.Common.{◌≡◌, ℕ, ◌+◌, ◌^◌, ◌<◌, List, [], ◌∷◌, Option, Some, None, sym, ◌∙◌, ap, subst, arith, true}
 use Rattle.std.specs.Prelude.{◌≢◌, ◌↔◌, IfSome}
 use Rattle.std.specs.List.{AllByRecursion}
-use Rattle.mesa_table.specs.mesa_key.Spelling.{AreBytes}
+use Rattle.mesa_catalog_table.specs.mesa_key.Spelling.{AreBytes}
 use Rattle.mesa_disk.specs.declared.area.Area.{Area}
 use Rattle.mesa_disk.specs.declared.area.Area.TheVariants.{Zero, One}
 use Rattle.mesa_disk.specs.Story.{Story}
 use Rattle.mesa_journal.specs.Areas.{Leads, number_of, other_of}
 use Rattle.mesa_record.specs.declared.record.Record.TheVariants as record_of
 use Rattle.mesa_record.specs.Rules.{keeps_rules}
-use Rattle.mesa_image_spec.specs.Catalog.{Catalog}
-use Rattle.mesa_image_spec.specs.Checkpoint.{checkpoint_body, checkpoint_of}
-use Rattle.mesa_image_spec.specs.Contents.{Rows}
-use Rattle.mesa_image_spec.specs.Journaled.{catalog}
-use Rattle.mesa_image_spec.proofs.Recordable.{checkpoint_recordable}
-use Rattle.mesa_image_spec.proofs.Numbering.{carries_on}
-use Rattle.mesa_image_spec.proofs.Wholes.{catalog_whole}
+use Rattle.mesa_store_spec.specs.Catalog.{Catalog}
+use Rattle.mesa_store_spec.specs.Checkpoint.{checkpoint_body, checkpoint_of}
+use Rattle.mesa_store_spec.specs.Contents.{Rows}
+use Rattle.mesa_store_spec.specs.Journaled.{catalog}
+use Rattle.mesa_store_spec.proofs.Recordable.{checkpoint_recordable}
+use Rattle.mesa_store_spec.proofs.Numbering.{carries_on}
+use Rattle.mesa_store_spec.proofs.Wholes.{catalog_whole}
 use Rattle.mesa_store.specs.Store.{IsFound, StatesIfAny, area_after}
 use Rattle.mesa_recover.specs.Anew.{IsStatedAnew, StatesAnewBy}
 

@@ -14,12 +14,12 @@ use Rattle.mesa_disk.proofs.Rounds.{not_equal}
 use Rattle.mesa_catalog.specs.mesa_commit.Turn.{MovesOnly}
 use Rattle.mesa_catalog.specs.mesa_commit.Holding.{Among}
 use Rattle.mesa_catalog.specs.mesa_commit.Filed.{AreNamedOrWait}
-use Rattle.mesa_image_spec.specs.Catalog.{Catalog}
-use Rattle.mesa_image_spec.specs.Fitting.{Shelved, has_number, shelved, shelved_id}
-use Rattle.mesa_image_spec.specs.Held.{IsUnnamed}
-use Rattle.mesa_image_spec.specs.Ids.{named}
-use Rattle.mesa_table.specs.declared.recorded.Recorded.{Recorded}
-use Rattle.mesa_table.specs.Files.{AreRecorded, RiseFrom, recorded_of, recorded_id}
+use Rattle.mesa_store_spec.specs.Catalog.{Catalog}
+use Rattle.mesa_store_spec.specs.Fitting.{LiveFile, has_number, live_files, live_id}
+use Rattle.mesa_store_spec.specs.Held.{IsUnnamed}
+use Rattle.mesa_store_spec.specs.Ids.{named}
+use Rattle.mesa_catalog_table.specs.declared.recorded.Recorded.{Recorded}
+use Rattle.mesa_catalog_table.specs.Files.{AreRecorded, RiseFrom, recorded_of, recorded_id}
 use Rattle.mesa_recover.specs.Strays.{AreStrays}
 use Rattle.mesa_recover.proofs.Reasons.{all_recorded, recorded_all}
 
@@ -105,13 +105,13 @@ found_so xs x (Err i) rise is =
 
 -- a stray is named by no record
 unnamed_all : (c : Catalog) (files : List Recorded) (id : ℕ) → AreRecorded c files → has_number id (map recorded_id files) ≡ false → IsUnnamed c id
-unnamed_all c files id recorded none = over (shelved c) (all_recorded (λ r. r.id ≢ id) c files recorded (each files (none_has id (map recorded_id files) none)))
+unnamed_all c files id recorded none = over (live_files c) (all_recorded (λ r. r.id ≢ id) c files recorded (each files (none_has id (map recorded_id files) none)))
   where
     each : (rs : List Recorded) → IsNoneOf (map recorded_id rs) id → AllByRecursion (λ (r : Recorded). r.id ≢ id) rs
     each [] all = tt
     each (r ∷ rs) all = (all.0, each rs all.1)
 
-    over : (xs : List Shelved) → AllByRecursion (λ (r : Recorded). r.id ≢ id) (map recorded_of xs) → AllByRecursion (λ (x : Shelved). x.file.id ≢ id) xs
+    over : (xs : List LiveFile) → AllByRecursion (λ (r : Recorded). r.id ≢ id) (map recorded_of xs) → AllByRecursion (λ (x : LiveFile). x.file.id ≢ id) xs
     over [] all = tt
     over (x ∷ xs) all = (all.0, over xs all.1)
 
@@ -171,7 +171,7 @@ module _ (c : Catalog) (old one two : Story) (strays : List ℕ) (are : AreStray
   among_named : (id : ℕ) → has_number id (map recorded_id are.files) ≡ true → Among id (named c)
   among_named id has = ⊎_elim (λ e. some_has id (named c) e) (λ e. absurd (never id (map recorded_id are.files) (over are.files (all_files (none_has id (named c) e))) has)) (has_either (has_number id (named c)))
     where
-      under : (xs : List Shelved) → IsNoneOf (map shelved_id xs) id → AllByRecursion (λ (r : Recorded). r.id ≢ id) (map recorded_of xs)
+      under : (xs : List LiveFile) → IsNoneOf (map live_id xs) id → AllByRecursion (λ (r : Recorded). r.id ≢ id) (map recorded_of xs)
       under [] all = tt
       under (x ∷ xs) all = (all.0, under xs all.1)
 
@@ -180,7 +180,7 @@ module _ (c : Catalog) (old one two : Story) (strays : List ℕ) (are : AreStray
       over (r ∷ rs) all = (all.0, over rs all.1)
 
       all_files : IsNoneOf (named c) id → AllByRecursion (λ (r : Recorded). r.id ≢ id) are.files
-      all_files none = recorded_all (λ r. r.id ≢ id) c are.files are.recorded (under (shelved c) none)
+      all_files none = recorded_all (λ r. r.id ≢ id) c are.files are.recorded (under (live_files c) none)
 
   -- each file that is there in the end is named
   pub named_in_the_end : AreNamedOrWait (named c) [] two.told

@@ -1,7 +1,7 @@
 -- When a catalogue is stated anew, and by which body.
 use Rattle.std.specs.Prelude.{◌≡◌, ℕ, ◌+◌, ◌-◌, ◌^◌, ◌<◌, ◌≤◌, List, length, Option, None, Some}
-use Rattle.mesa_image_spec.specs.Catalog.{Catalog}
-use Rattle.mesa_image_spec.specs.Checkpoint.{checkpoint_body, checkpoint_of}
+use Rattle.mesa_store_spec.specs.Catalog.{Catalog}
+use Rattle.mesa_store_spec.specs.Checkpoint.{checkpoint_body, checkpoint_of}
 
 -- the end from which on an area is long
 abbrev pub long_end : ℕ

@@ -3,7 +3,7 @@ use Rattle.std.specs.Prelude.{◌≡◌, ◌≢◌, ◌⊎◌, ℕ, ◌≤◌, L
 use Rattle.sha2.specs.Sha256.{sha256}
 use Rattle.mesa_store.specs.mesa_io.Causes.{Rose}
 use Rattle.mesa_disk.specs.Story.{Story}
-use Rattle.mesa_table.specs.declared.recorded.Recorded.{Recorded}
+use Rattle.mesa_catalog_table.specs.declared.recorded.Recorded.{Recorded}
 use Rattle.mesa_disk.specs.declared.failures.ListFault.{ListFault}
 use Rattle.mesa_disk.specs.declared.failures.ListFault.TheVariants as list_fault
 use Rattle.mesa_recover.specs.declared.error.OpenError.{OpenError}

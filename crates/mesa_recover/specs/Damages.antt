@@ -2,9 +2,9 @@
 use Rattle.std.specs.Prelude.{◌≡◌, ◌⊎◌, ℕ, List, [], ◌∷◌, ◌++◌, length, drop, Option, Some, None, Result, Ok, Err, if◌then◌else◌}
 use Rattle.std.specs.List.{AllByRecursion}
 use Rattle.sha2.specs.Sha256.{sha256}
-use Rattle.mesa_table.specs.mesa_file.declared.damage.Damage.{Damage}
-use Rattle.mesa_table.specs.mesa_file.declared.damage.Seen.{Seen}
-use Rattle.mesa_table.specs.mesa_file.declared.damage.Seen.TheVariants as seen
+use Rattle.mesa_catalog_table.specs.mesa_file.declared.damage.Damage.{Damage}
+use Rattle.mesa_catalog_table.specs.mesa_file.declared.damage.Seen.{Seen}
+use Rattle.mesa_catalog_table.specs.mesa_file.declared.damage.Seen.TheVariants as seen
 use Rattle.mesa_disk.specs.Image.{Image, area_of, file_of}
 use Rattle.mesa_disk.specs.declared.area.Area.{Area}
 use Rattle.mesa_disk.specs.declared.area.Area.TheVariants.{Zero, One}
@@ -14,12 +14,12 @@ use Rattle.mesa_record.specs.declared.record.Record.{Record}
 use Rattle.mesa_record.specs.declared.error.RecordError.{RecordError}
 use Rattle.mesa_record.specs.declared.error.RecordError.TheVariants as fault
 use Rattle.mesa_record.specs.Reading.{record_at}
-use Rattle.mesa_table.specs.mesa_delta.Damages.{IsWrongLength, IsWrongDigest}
-use Rattle.mesa_image_spec.specs.Catalog.{Catalog}
-use Rattle.mesa_image_spec.specs.Fitting.{fits}
-use Rattle.mesa_image_spec.specs.Journaled.{catalog, first_body}
-use Rattle.mesa_table.specs.declared.recorded.Recorded.{Recorded}
-use Rattle.mesa_table.specs.Files.{AreRecorded}
+use Rattle.mesa_catalog_table.specs.mesa_delta.Damages.{IsWrongLength, IsWrongDigest}
+use Rattle.mesa_store_spec.specs.Catalog.{Catalog}
+use Rattle.mesa_store_spec.specs.Fitting.{fits}
+use Rattle.mesa_store_spec.specs.Journaled.{catalog, first_body}
+use Rattle.mesa_catalog_table.specs.declared.recorded.Recorded.{Recorded}
+use Rattle.mesa_catalog_table.specs.Files.{AreRecorded}
 
 -- ---- files
 

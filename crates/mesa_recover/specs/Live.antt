@@ -5,7 +5,7 @@ use Rattle.mesa_disk.specs.Story.{Story}
 use Rattle.mesa_disk.specs.declared.area.Area.{Area}
 use Rattle.mesa_journal.specs.Areas.{holds_body, number_of, other_of}
 use Rattle.mesa_record.specs.Reading.{record_at}
-use Rattle.mesa_image_spec.specs.Catalog.{Catalog}
+use Rattle.mesa_store_spec.specs.Catalog.{Catalog}
 use Rattle.mesa_recover.specs.declared.error.OpenError.{OpenError}
 use Rattle.mesa_recover.specs.declared.error.OpenError.TheVariants as open_error
 use Rattle.mesa_recover.specs.Damages.{misfit_of}

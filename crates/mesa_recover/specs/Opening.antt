@@ -2,21 +2,21 @@
 use Rattle.std.specs.Prelude.{◌≡◌, ◌≢◌, ◌⊎◌, ℕ, ◌-◌, ◌*◌, ◌^◌, ◌<◌, ◌≤◌, List, map, Bool, Some, Ok, true, ⊤}
 use Rattle.std.specs.List.{AllByRecursion}
 use Rattle.mesa_store.specs.mesa_io.Causes.{last, Rose}
-use Rattle.mesa_table.specs.mesa_key.Spelling.{AreBytes}
+use Rattle.mesa_catalog_table.specs.mesa_key.Spelling.{AreBytes}
 use Rattle.mesa_disk.specs.Image.{Image, area_of}
 use Rattle.mesa_disk.specs.Story.{Story}
 use Rattle.mesa_disk.specs.declared.area.Area.{Area}
 use Rattle.mesa_journal.specs.Areas.{HasJournal, holds_body, number_of, other_of}
-use Rattle.mesa_image_spec.specs.Catalog.{Catalog}
+use Rattle.mesa_store_spec.specs.Catalog.{Catalog}
 use Rattle.mesa_record.specs.Reading.{record_at}
-use Rattle.mesa_image_spec.specs.Fitting.{fits, shelved}
-use Rattle.mesa_image_spec.specs.Journaled.{catalog}
-use Rattle.mesa_image_spec.specs.Contents.{Rows, kept_of}
+use Rattle.mesa_store_spec.specs.Fitting.{fits, live_files}
+use Rattle.mesa_store_spec.specs.Journaled.{catalog}
+use Rattle.mesa_store_spec.specs.Contents.{Rows, kept_of}
 use Rattle.mesa_record.specs.declared.record.Record.{Record}
 use Rattle.mesa_record.specs.declared.record.Record.TheVariants as record_of
-use Rattle.mesa_image_spec.specs.Sound.{IsSoundAs, StandsFor}
-use Rattle.mesa_image_spec.specs.Held.{IsHeld, IsUnnamed}
-use Rattle.mesa_table.specs.Files.{recorded_of}
+use Rattle.mesa_store_spec.specs.Sound.{IsSoundAs, StandsFor}
+use Rattle.mesa_store_spec.specs.Held.{IsHeld, IsUnnamed}
+use Rattle.mesa_catalog_table.specs.Files.{recorded_of}
 use Rattle.mesa_recover.specs.declared.error.OpenError.{OpenError}
 use Rattle.mesa_recover.specs.declared.error.OpenError.TheVariants as open_error
 use Rattle.mesa_recover.specs.Damages.{IsAsRecorded, IsCutOff, code_of, HasMisfit, HasDamagedFile}
@@ -26,7 +26,7 @@ pub record IsRead (story : Story) (live : Area) (bodies : List (List ℕ)) (end 
   pub bytes : AllByRecursion AreBytes bodies
   pub records : catalog live bodies ≡ Some c
   pub journal : (i : Image) → story.told ≡ Some i → HasJournal i live bodies end
-  pub files : (i : Image) → story.told ≡ Some i → AllByRecursion (IsAsRecorded i) (map recorded_of (shelved c))
+  pub files : (i : Image) → story.told ≡ Some i → AllByRecursion (IsAsRecorded i) (map recorded_of (live_files c))
   pub gate : 1 < story.len live → end < story.len live
   pub none : story.len live ≤ 1 → end ≡ 0
 

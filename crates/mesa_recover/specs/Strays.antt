@@ -3,10 +3,10 @@ use Rattle.std.specs.Prelude.{◌≡◌, ℕ, List, map, filter, not, Some}
 use Rattle.std.specs.FinMap.{keys}
 use Rattle.mesa_disk.specs.Image.{Image}
 use Rattle.mesa_disk.specs.Story.{Story}
-use Rattle.mesa_image_spec.specs.Catalog.{Catalog}
-use Rattle.mesa_image_spec.specs.Fitting.{has_number}
-use Rattle.mesa_table.specs.declared.recorded.Recorded.{Recorded}
-use Rattle.mesa_table.specs.Files.{AreRecorded, recorded_id}
+use Rattle.mesa_store_spec.specs.Catalog.{Catalog}
+use Rattle.mesa_store_spec.specs.Fitting.{has_number}
+use Rattle.mesa_catalog_table.specs.declared.recorded.Recorded.{Recorded}
+use Rattle.mesa_catalog_table.specs.Files.{AreRecorded, recorded_id}
 
 -- those of some ids that are among no others
 abbrev pub unnamed_of : List ℕ → List ℕ → List ℕ

@@ -1,6 +1,6 @@
 // Beginning a run.
 ghost use Rattle.std.specs.Prelude.{◌≡◌, ◌<◌, ◌≤◌, ℕ, List, [], Some, IfOk, OnOk, Ok, IsTrue};
-ghost use Rattle.mesa_table.specs.mesa_key.Spelling.{AreBytes};
+ghost use Rattle.mesa_catalog_table.specs.mesa_key.Spelling.{AreBytes};
 ghost use Rattle.mesa_store.specs.mesa_io.Causes.{HasCause};
 ghost use Rattle.mesa_disk.specs.Image.{Image as AnyImage, area_of};
 ghost use Rattle.mesa_disk.specs.Story.{Spans};
@@ -8,10 +8,10 @@ ghost use Rattle.mesa_journal.specs.Areas.{holds_body, other_of};
 ghost use Rattle.mesa_catalog.specs.mesa_commit.Filed.{AreNamedOrWait};
 ghost use Rattle.mesa_record.specs.Reading.{record_at};
 ghost use Rattle.mesa_record.specs.Rules.{keeps_rules};
-ghost use Rattle.mesa_image_spec.specs.Catalog.{Catalog as AnyCatalog, applied};
-ghost use Rattle.mesa_image_spec.specs.Contents.{Rows, kept_of};
-ghost use Rattle.mesa_image_spec.specs.Sound.{StandsFor};
-ghost use Rattle.mesa_image_spec.specs.Ids.{named};
+ghost use Rattle.mesa_store_spec.specs.Catalog.{Catalog as AnyCatalog, applied};
+ghost use Rattle.mesa_store_spec.specs.Contents.{Rows, kept_of};
+ghost use Rattle.mesa_store_spec.specs.Sound.{StandsFor};
+ghost use Rattle.mesa_store_spec.specs.Ids.{named};
 ghost use Rattle.mesa_store.specs.Store.{IsFound, StatesIfAny, area_after};
 ghost use Rattle.mesa_recover.specs.Strays.{AreStrays};
 ghost use Rattle.mesa_recover.specs.Opening.{BeginsRun, IsHeldAs, run_record};

@@ -23,7 +23,7 @@ pub use checking::check_files;
 pub use error::OpenError;
 pub use framing::{frame, write_run};
 pub use mesa_catalog::Begun;
-pub use mesa_table::Recorded;
+pub use mesa_catalog_table::Recorded;
 pub use opened::Opened;
 pub use reading::read;
 pub use strays::find_strays;

@@ -1,12 +1,12 @@
 // Reading a store.
 ghost use Rattle.std.specs.Prelude.{◌≡◌, List, map, OnOk, IfOk, IfErr, None, Some};
 ghost use Rattle.std.specs.List.{AllByRecursion};
-ghost use Rattle.mesa_table.specs.mesa_file.declared.damage.Damage.{Damage as AnyDamage};
+ghost use Rattle.mesa_catalog_table.specs.mesa_file.declared.damage.Damage.{Damage as AnyDamage};
 ghost use Rattle.mesa_disk.specs.Image.{Image};
 ghost use Rattle.mesa_disk.specs.Story.{Unmoved};
-ghost use Rattle.mesa_image_spec.specs.Fitting.{shelved};
-ghost use Rattle.mesa_table.specs.Files.{AreRecorded, recorded_of};
-ghost use Rattle.mesa_table.specs.declared.recorded.Recorded.{Recorded as AnyRecorded};
+ghost use Rattle.mesa_store_spec.specs.Fitting.{live_files};
+ghost use Rattle.mesa_catalog_table.specs.Files.{AreRecorded, recorded_of};
+ghost use Rattle.mesa_catalog_table.specs.declared.recorded.Recorded.{Recorded as AnyRecorded};
 ghost use Rattle.mesa_recover.specs.declared.error.OpenError.TheVariants as open_error;
 ghost use Rattle.mesa_recover.specs.Checking.{Counts, IsOfFiles};
 ghost use Rattle.mesa_recover.specs.Damages.{IsAsRecorded, IsFirstDamage};
@@ -95,7 +95,7 @@ fn check_catalog<M: Made, D: Disk<M>>(
     disk: &mut D,
     catalog: &Catalog,
 ) -> Result<(), OpenError>
-    ensures good { OnOk result ((i : Image) → (D.story disk.old).told ≡ Some i → AllByRecursion (IsAsRecorded i) (map recorded_of (shelved catalog.now.catalogue))) }
+    ensures good { OnOk result ((i : Image) → (D.story disk.old).told ≡ Some i → AllByRecursion (IsAsRecorded i) (map recorded_of (live_files catalog.now.catalogue))) }
     ensures damaged { IfErr result (λ e. (d : AnyDamage) → e ≡ open_error.File d → (files : List AnyRecorded) × AreRecorded catalog.now.catalogue files × ((i : Image) → (D.story disk.old).told ≡ Some i → IsFirstDamage i files d)) }
     ensures kind { IfErr result IsOfFiles }
     ensures unmoved { Unmoved (D.story disk.old) (D.story disk.new) }

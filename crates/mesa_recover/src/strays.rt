@@ -1,8 +1,8 @@
 // Adopted files of which nothing is recorded.
 ghost use Rattle.std.specs.Prelude.{◌≡◌, map, IfOk, IfErr};
 ghost use Rattle.mesa_disk.specs.Story.{Unmoved};
-ghost use Rattle.mesa_image_spec.specs.Fitting.{has_number};
-ghost use Rattle.mesa_table.specs.Files.{RiseFrom, recorded_id};
+ghost use Rattle.mesa_store_spec.specs.Fitting.{has_number};
+ghost use Rattle.mesa_catalog_table.specs.Files.{RiseFrom, recorded_id};
 ghost use Rattle.mesa_recover.specs.Checking.{Counts, IsFaultOrMemory};
 ghost use Rattle.mesa_recover.specs.Strays.{AreUnrecorded, unnamed_of};
 

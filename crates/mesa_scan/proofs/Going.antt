@@ -25,7 +25,7 @@ use Rattle.mesa_scan.specs.Cursors.{IsInput, IsSameInput, lift_by, reader_in}
 use Rattle.mesa_scan.proofs.Lifted.{block_forms, lifts_all}
 use Rattle.mesa_scan.specs.declared.scanning.Scan.{Scan}
 use Rattle.mesa_scan.specs.Allowing.{allowed_among, allows_block, bounds_in}
-use Rattle.mesa_scan.specs.Matching.{matching_rows}
+use Rattle.mesa_scan.specs.MatchingRows.{matching_rows}
 use Rattle.mesa_scan.specs.Scanning.{HasScanned, IsFilterOf, filter_of, keys_in, matching, next_of, read_of}
 use Rattle.mesa_scan.proofs.Bounds.{allowed_few, allowed_more}
 use Rattle.mesa_scan.proofs.Blocks.{Passes, all_joined, all_passing, lifted_forms, lifted_spell, matching_more}

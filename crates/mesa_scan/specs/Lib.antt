@@ -5,6 +5,6 @@ pub mod Laws
 pub mod Cursors
 pub mod Allowing
 pub mod Damaged
-pub mod Matching
+pub mod MatchingRows
 pub mod Moving
 pub mod Scanning

@@ -13,7 +13,7 @@ mod whole;
 
 pub use ahead::read_ahead;
 pub use allowing::allows;
-pub use matching::Matching;
+pub use matching::MatchingRows;
 pub use scanning::Scan;
 pub use whole::{ScanCount, scan};
 pub use cursor::Cursor;

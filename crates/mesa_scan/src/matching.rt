@@ -4,7 +4,7 @@ ghost use Rattle.std.specs.List.{AllByRecursion};
 ghost use Rattle.mesa_key.specs.Spelling.{is_spelling};
 ghost use Rattle.mesa_schema.specs.declared.rows.Row.{Row as AnyRow};
 ghost use Rattle.mesa_schema.specs.Lent.{lent};
-ghost use Rattle.mesa_scan.specs.Matching.{matching_rows};
+ghost use Rattle.mesa_scan.specs.MatchingRows.{matching_rows};
 
 use mesa_block::Block;
 use mesa_filter::Filter;
@@ -14,13 +14,13 @@ use std::marker::Model;
 
 /// The rows of a block that match a filter, in their order. They stand where they were read, and are lent from there.
 #[derive(Drop)]
-pub struct Matching {
+pub struct MatchingRows {
     block: Block,
     // Where the rows stand in the block.
     places: Vec<usize>,
 }
 
-impl Model for Matching {
+impl Model for MatchingRows {
     ghost use Rattle.std.specs.Prelude.{◌<◌, List, length};
     ghost use Rattle.std.specs.List.{AllByRecursion};
     ghost use Rattle.mesa_schema.specs.declared.rows.Row.{Row};
@@ -33,12 +33,12 @@ impl Model for Matching {
     ghost invariant = { λ m. AllByRecursion (λ place. place < length m.block) m.places.items };
 }
 
-impl Matching {
+impl MatchingRows {
     // No rows.
     pub(crate) fn none(alloc: Global) -> Self
         ensures { result ≡ [] }
     {
-        Matching {
+        MatchingRows {
             block: Block::none(alloc),
             places: Vec::new(alloc),
         }
@@ -65,7 +65,7 @@ pub(crate) fn matching_in(
     alloc: Global,
     filter: &Filter,
     block: Block,
-) -> Result<Matching, AllocError>
+) -> Result<MatchingRows, AllocError>
     requires { AllByRecursion (λ (row : AnyRow). IsTrue (is_spelling filter.now.kinds row.key)) block }
     ensures { IfOk result (λ m. m ≡ matching_rows filter.now block) }
 {
@@ -75,5 +75,5 @@ pub(crate) fn matching_in(
             places.push(place)?;
         }
     }
-    Ok(Matching { block, places })
+    Ok(MatchingRows { block, places })
 }

@@ -13,7 +13,7 @@ ghost use Rattle.mesa_scan.specs.Scanning.{HasScanned, IsFilterOf, filter_of, ne
 
 use crate::ahead::read_on;
 use crate::allowing::{key_columns, may_have};
-use crate::matching::{Matching, matching_in};
+use crate::matching::{MatchingRows, matching_in};
 use mesa_block::fits_alone;
 use mesa_delta::{Ahead, FileError, Input, keys_between};
 use mesa_disk::{FileReader, ReadFailed};
@@ -75,7 +75,7 @@ impl<'a> Scan<'a> {
     }
 
     /// Goes on by a block: its matching rows, lifted. After an error the scan stands where it stood.
-    pub fn block<R: FileReader>(&mut self, input: &mut Input<R>) -> Result<Matching, FileError>
+    pub fn block<R: FileReader>(&mut self, input: &mut Input<R>) -> Result<MatchingRows, FileError>
         requires scanning { (given : List AnyRow) × HasScanned R.bytes input.old self.old given }
         requires left { next_of self.old < length (index_of input.old.reader).entries }
         ensures more { IfOk result (λ more. (given : List AnyRow) → HasScanned R.bytes input.old self.old given → HasScanned R.bytes input.new self.new (given ++ more)) }
@@ -102,7 +102,7 @@ impl<'a> Scan<'a> {
         let _blocks = index.blocks();
         if !may_have(self.filter, self.columns, index, self.next) {
             self.next += 1;
-            return Ok(Matching::none(self.alloc));
+            return Ok(MatchingRows::none(self.alloc));
         }
         let block = match input.reader.block(self.next) {
             Ok(block) => block,
@@ -120,7 +120,7 @@ impl<'a> Scan<'a> {
         input: &mut Input<R>,
         place: usize,
         ahead: &mut Ahead,
-    ) -> Result<Matching, FileError>
+    ) -> Result<MatchingRows, FileError>
         requires scanning { (given : List AnyRow) × HasScanned R.bytes input.old self.old given }
         requires left { next_of self.old < length (index_of input.old.reader).entries }
         requires ahead { AreOfFile (R.bytes (reader_in input.old)) (index_of input.old.reader) place ahead.old }
@@ -151,7 +151,7 @@ impl<'a> Scan<'a> {
         let _blocks = index.blocks();
         if !may_have(self.filter, self.columns, index, self.next) {
             self.next += 1;
-            return Ok(Matching::none(self.alloc));
+            return Ok(MatchingRows::none(self.alloc));
         }
         self.fill(input, place, ahead)?;
         let block = match input.reader.take_block(self.next, place, ahead) {

@@ -13,7 +13,7 @@ ghost use Rattle.mesa_scan.specs.Allowing.{allowed_among};
 ghost use Rattle.mesa_scan.specs.Damaged.{IsDamaged};
 ghost use Rattle.mesa_scan.specs.Scanning.{IsFilterOf, keys_in};
 
-use crate::matching::Matching;
+use crate::matching::MatchingRows;
 use crate::scanning::Scan;
 use mesa_delta::{FileError, Input};
 use mesa_disk::FileReader;
@@ -103,7 +103,7 @@ fn scan_onto<R: FileReader>(
 }
 
 // Adds copies of rows behind those that are there. After an error some of them may be there.
-fn add_copies(alloc: Global, more: &Matching, rows: &mut Vec<Row>) -> Result<(), AllocError>
+fn add_copies(alloc: Global, more: &MatchingRows, rows: &mut Vec<Row>) -> Result<(), AllocError>
     ensures added { OnOk result (rows.new.items ≡ rows.old.items ++ more.now) }
     ensures grows { (some : List AnyRow) × (rows.new.items ≡ rows.old.items ++ some) }
 {

@@ -16,18 +16,18 @@ use Rattle.mesa_query.specs.mesa_scan.Cursors.{reader_in}
 use Rattle.mesa_query.specs.mesa_scan.Damaged.{IsDamaged}
 use Rattle.mesa_query.specs.mesa_view.SumDamage.{IsSumDamage}
 use Rattle.mesa_core.specs.mesa_merge.Faults.{SomeRose, faults_of}
-use Rattle.mesa_tasks.specs.declared.querying.PinnedInput.{PinnedInput}
+use Rattle.mesa_open_files.specs.declared.querying.PinnedInput.{PinnedInput}
 use Rattle.mesa_query.specs.Files.{IsDamageIn}
 use Rattle.mesa_query.specs.Sums.{IsSumIn}
-use Rattle.mesa_tasks.specs.declared.merging.Task.{Task}
+use Rattle.mesa_open_files.specs.declared.merging.Task.{Task}
 use Rattle.mesa_compact.specs.Damaged.{IsMergeDamage}
 use Rattle.mesa_compact.specs.Regrouped.{IsRegroupDamage}
 use Rattle.mesa_compact.specs.Tasks.{IsFilesDamage, IsTaskDamage}
 use Rattle.mesa_split.specs.Split.{IsSplitDamage}
-use Rattle.mesa_tasks.specs.GivingBack.{SomeFailed}
-use Rattle.mesa_tasks.specs.Errors.{Differs}
-use Rattle.mesa_tasks.specs.Recasts.{own, recast_in, recast_table}
-use Rattle.mesa_tasks.specs.declared.recasting.Recast.{Recast}
+use Rattle.mesa_open_files.specs.GivingBack.{SomeFailed}
+use Rattle.mesa_open_files.specs.Errors.{Differs}
+use Rattle.mesa_open_files.specs.Recasts.{own, recast_in, recast_table}
+use Rattle.mesa_open_files.specs.declared.recasting.Recast.{Recast}
 use Rattle.mesa_copy.specs.Copying.{IsRecastDamage}
 use Rattle.mesa_core.specs.mesa_schema.Changes.{columns_of}
 use Rattle.mesa_core.specs.mesa_schema.Columns.{Columns}

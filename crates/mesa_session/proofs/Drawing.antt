@@ -1,7 +1,7 @@
 -- The ids of a session's drafts, over several steps of a command.
 use Rattle.std.proofs.Common.{◌≡◌, ℕ, zero, suc, ◌+◌, refl, ap, ◌∙◌, subst, arith}
 use Rattle.std.specs.Prelude.{Option, Some, None, IfNone, IfSome}
-use Rattle.mesa_tasks.specs.Serials.{Drafts, after_drafts, next_serials}
+use Rattle.mesa_open_files.specs.Serials.{Drafts, after_drafts, next_serials}
 use Rattle.mesa_session.specs.Drafts.{AreOf, GoOn, first_drafts}
 
 drawn_more : (n m : ℕ) (d : Drafts) → after_drafts m (after_drafts n d) ≡ after_drafts (m + n) d

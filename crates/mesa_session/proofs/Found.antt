@@ -25,12 +25,12 @@ use Rattle.mesa_core.specs.mesa_history_spec.Rows.{Rows, no_rows}
 use Rattle.mesa_core.specs.mesa_invariant_spec.Queries.{IsOpenFrom}
 use Rattle.mesa_core.specs.mesa_invariant_spec.Turns.{Shown, IsTurn, IsSeen}
 use Rattle.mesa_core.specs.mesa_invariant_spec.Invariant.{run_at}
-use Rattle.mesa_tasks.specs.declared.prepared.LoadError.{LoadError}
-use Rattle.mesa_tasks.specs.declared.prepared.Prepared.{Prepared}
-use Rattle.mesa_tasks.specs.declared.querying.Pinned.{Pinned}
+use Rattle.mesa_open_files.specs.declared.prepared.LoadError.{LoadError}
+use Rattle.mesa_open_files.specs.declared.prepared.Prepared.{Prepared}
+use Rattle.mesa_open_files.specs.declared.querying.Pinned.{Pinned}
 use Rattle.mesa_core.proofs.Behind.{comes_in_time, place_found, whole_found}
 use Rattle.mesa_core.proofs.Turning.{found_history}
-use Rattle.mesa_tasks.specs.Batches.{HasPrepared}
+use Rattle.mesa_open_files.specs.Batches.{HasPrepared}
 use Rattle.mesa_core.specs.Pins.{CanBeAnswered, IsOpenQuery, KnownPin, TakesQuery, known_pin}
 use Rattle.mesa_core.specs.Works.{WasGranted}
 use Rattle.mesa_session.specs.Loads.{StaysPrepared}

@@ -13,20 +13,20 @@ use Rattle.mesa_io.specs.Causes.{HasFaultCause, last}
 use Rattle.mesa_core.specs.mesa_file.declared.damage.Damage.{Damage}
 use Rattle.mesa_core.specs.mesa_merge.Faults.{faults_of}
 use Rattle.mesa_core.specs.mesa_merge.Inputs.{knowns_of}
-use Rattle.mesa_tasks.specs.GivingBack.{task_inputs}
-use Rattle.mesa_tasks.specs.Tasks.{AreMergedViews, HaveMerged, IsMerged, IsTask}
-use Rattle.mesa_tasks.specs.declared.made.MadeFiles.{MadeFiles}
-use Rattle.mesa_tasks.specs.declared.made.MadeView.{MadeView}
-use Rattle.mesa_tasks.specs.declared.merging.CompactError.{CompactError}
-use Rattle.mesa_tasks.specs.declared.merging.CompactError.TheVariants as compact
-use Rattle.mesa_tasks.specs.declared.merging.NewDelta.{NewDelta}
-use Rattle.mesa_tasks.specs.declared.merging.Task.{Task}
-use Rattle.mesa_tasks.specs.declared.merging.TaskView.{TaskView}
+use Rattle.mesa_open_files.specs.GivingBack.{task_inputs}
+use Rattle.mesa_open_files.specs.Tasks.{AreMergedViews, HaveMerged, IsMerged, IsTask}
+use Rattle.mesa_open_files.specs.declared.made.MadeFiles.{MadeFiles}
+use Rattle.mesa_open_files.specs.declared.made.MadeView.{MadeView}
+use Rattle.mesa_open_files.specs.declared.merging.CompactError.{CompactError}
+use Rattle.mesa_open_files.specs.declared.merging.CompactError.TheVariants as compact
+use Rattle.mesa_open_files.specs.declared.merging.NewDelta.{NewDelta}
+use Rattle.mesa_open_files.specs.declared.merging.Task.{Task}
+use Rattle.mesa_open_files.specs.declared.merging.TaskView.{TaskView}
 use Rattle.mesa_compact.specs.Bounded.{AreBounded, AreOwnBounded, IsBounded}
 use Rattle.mesa_compact.specs.Tasks.{IsSameTask, KnownView, known_view, known_views}
 use Rattle.mesa_core.proofs.Known.{cons_none, first_same, merge_stays, none_some, only_stays, rest_same, some_same}
 use Rattle.mesa_compact.specs.Writing.{HasCauses, IsDraftFault, damaged_by}
-use Rattle.mesa_tasks.specs.Errors.{Differs}
+use Rattle.mesa_open_files.specs.Errors.{Differs}
 use Rattle.mesa_core.specs.Answers.{Owes}
 use Rattle.mesa_core.specs.Drafts.{owed_by_work}
 use Rattle.mesa_core.specs.Works.{IsDeltaOf, known_task}

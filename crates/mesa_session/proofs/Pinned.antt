@@ -17,10 +17,10 @@ use Rattle.mesa_core.specs.mesa_merge.Faults.{SomeRose, faults_of}
 use Rattle.mesa_core.specs.mesa_merge.Inputs.{Known, AreTold, known_of, knowns_of}
 use Rattle.mesa_query.specs.mesa_scan.Cursors.{reader_in}
 use Rattle.mesa_filter.specs.Query.{BuiltQuery}
-use Rattle.mesa_tasks.specs.GivingBack.{SomeFailed, pinned_inputs}
-use Rattle.mesa_tasks.specs.Pins.{relation_rows}
-use Rattle.mesa_tasks.specs.declared.querying.Pinned.{Pinned}
-use Rattle.mesa_tasks.specs.declared.querying.PinnedInput.{PinnedInput}
+use Rattle.mesa_open_files.specs.GivingBack.{SomeFailed, pinned_inputs}
+use Rattle.mesa_open_files.specs.Pins.{relation_rows}
+use Rattle.mesa_open_files.specs.declared.querying.Pinned.{Pinned}
+use Rattle.mesa_open_files.specs.declared.querying.PinnedInput.{PinnedInput}
 use Rattle.mesa_core.proofs.Known.{cons_none, first_same, rest_same}
 use Rattle.mesa_query.specs.Files.{IsDamageIn, inputs_in, owns_in}
 use Rattle.mesa_query.specs.Relation.{page_over, parts_pinned, parts_ungrouped, rows_under}

@@ -7,12 +7,12 @@ use Rattle.mesa_batch.specs.Glance.{Sight, tables_of}
 use Rattle.mesa_batch.specs.declared.words.BatchError.{BatchError}
 use Rattle.mesa_batch.specs.declared.words.RowWords.{RowWords}
 use Rattle.mesa_model.specs.declared.entries.Entry.{Entry}
-use Rattle.mesa_tasks.specs.Batches.{HasPrepared, IsPrepared, IsUnprepared}
-use Rattle.mesa_tasks.specs.declared.prepared.LoadError.{LoadError}
-use Rattle.mesa_tasks.specs.declared.prepared.LoadError.TheVariants as load
-use Rattle.mesa_tasks.specs.declared.prepared.Prepared.{Prepared}
-use Rattle.mesa_tasks.specs.declared.merging.CompactError.{CompactError}
-use Rattle.mesa_tasks.specs.declared.merging.CompactError.TheVariants as compact
+use Rattle.mesa_open_files.specs.Batches.{HasPrepared, IsPrepared, IsUnprepared}
+use Rattle.mesa_open_files.specs.declared.prepared.LoadError.{LoadError}
+use Rattle.mesa_open_files.specs.declared.prepared.LoadError.TheVariants as load
+use Rattle.mesa_open_files.specs.declared.prepared.Prepared.{Prepared}
+use Rattle.mesa_open_files.specs.declared.merging.CompactError.{CompactError}
+use Rattle.mesa_open_files.specs.declared.merging.CompactError.TheVariants as compact
 use Rattle.mesa_load.specs.Preparing.{IsReason}
 use Rattle.mesa_core.specs.Answers.{Owes}
 use Rattle.mesa_core.specs.Drafts.{owed_by_error, owed_by_load, owed_by_work}

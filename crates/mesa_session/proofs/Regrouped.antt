@@ -12,12 +12,12 @@ use Rattle.mesa_core.specs.mesa_file.declared.damage.Damage.{Damage}
 use Rattle.mesa_core.specs.mesa_history_spec.Machine.{Recasts}
 use Rattle.mesa_core.specs.mesa_schema.Changes.{Lineage, columns_of}
 use Rattle.mesa_core.specs.Recasts.{CanBeRegrouped, HasRegrouped, IsUnmade, KnownRecast, known_recast}
-use Rattle.mesa_tasks.specs.Errors.{Differs}
-use Rattle.mesa_tasks.specs.Recasts.{IsRecastTask, IsRecasted, claim_of_recast, recast_inputs, recast_table}
-use Rattle.mesa_tasks.specs.declared.merging.CompactError.{CompactError}
-use Rattle.mesa_tasks.specs.declared.merging.CompactError.TheVariants as compact
-use Rattle.mesa_tasks.specs.declared.recasting.Recast.{Recast}
-use Rattle.mesa_tasks.specs.declared.recasting.Recasted.{Recasted}
+use Rattle.mesa_open_files.specs.Errors.{Differs}
+use Rattle.mesa_open_files.specs.Recasts.{IsRecastTask, IsRecasted, claim_of_recast, recast_inputs, recast_table}
+use Rattle.mesa_open_files.specs.declared.merging.CompactError.{CompactError}
+use Rattle.mesa_open_files.specs.declared.merging.CompactError.TheVariants as compact
+use Rattle.mesa_open_files.specs.declared.recasting.Recast.{Recast}
+use Rattle.mesa_open_files.specs.declared.recasting.Recasted.{Recasted}
 use Rattle.mesa_session.proofs.Damaged.{rose_failed}
 
 -- no damage was met where none is told

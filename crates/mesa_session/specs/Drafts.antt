@@ -1,6 +1,6 @@
 -- The ids of a session's drafts, from command to command.
 use Rattle.std.specs.Prelude.{◌≡◌, ℕ, Option, Some, IfNone, IfSome}
-use Rattle.mesa_tasks.specs.Serials.{Drafts, after_drafts}
+use Rattle.mesa_open_files.specs.Serials.{Drafts, after_drafts}
 
 -- Ids of this session's drafts in this run, if it has drawn any.
 abbrev pub AreOf : ℕ → ℕ → Option Drafts → Type 0

@@ -3,9 +3,9 @@ use Rattle.std.specs.Prelude.{◌≡◌, ℕ, List, ◌++◌, Option, Result}
 use Rattle.mesa_batch.specs.Glance.{Sight}
 use Rattle.mesa_batch.specs.declared.words.RowWords.{RowWords}
 use Rattle.mesa_model.specs.declared.entries.Entry.{Entry}
-use Rattle.mesa_tasks.specs.declared.prepared.LoadError.{LoadError}
-use Rattle.mesa_tasks.specs.declared.prepared.Prepared.{Prepared}
-use Rattle.mesa_tasks.specs.Batches.{HasPrepared}
+use Rattle.mesa_open_files.specs.declared.prepared.LoadError.{LoadError}
+use Rattle.mesa_open_files.specs.declared.prepared.Prepared.{Prepared}
+use Rattle.mesa_open_files.specs.Batches.{HasPrepared}
 
 -- What was prepared of rows, by what was seen after a history, stands after every history that goes on from there with this generation.
 abbrev pub StaysPrepared : {M : Type 0} → (M → Option (List ℕ)) → (M → ℕ) → (List Entry → Sight) → List Entry → ℕ → List RowWords → Result (Prepared M) LoadError → Type 0

@@ -23,7 +23,7 @@ use mesa_disk::{Bench, Disk, Made};
 use mesa_engine::{Naming, Who};
 use mesa_io::Sink;
 use mesa_model::Command;
-use mesa_tasks::Serials;
+use mesa_open_files::Serials;
 use mesa_turn::{Pass, TurnLock};
 use std::alloc::Global;
 use std::sync::Wait;

@@ -3,9 +3,9 @@ ghost use Rattle.std.specs.Prelude.{◌≡◌, ◌≤◌, ◌<◌, ◌+◌, ◌^
 ghost use Rattle.mesa_io.specs.Causes.{last};
 ghost use Rattle.mesa_model.specs.declared.entries.Entry.{Entry as AnyEntry};
 ghost use Rattle.mesa_core.specs.mesa_history_spec.Rows.{no_rows};
-ghost use Rattle.mesa_tasks.specs.declared.prepared.LoadError.TheVariants as load;
-ghost use Rattle.mesa_tasks.specs.Batches.{HasPrepared, batch_ids};
-ghost use Rattle.mesa_tasks.specs.Serials.{AreNext, after_drafts};
+ghost use Rattle.mesa_open_files.specs.declared.prepared.LoadError.TheVariants as load;
+ghost use Rattle.mesa_open_files.specs.Batches.{HasPrepared, batch_ids};
+ghost use Rattle.mesa_open_files.specs.Serials.{AreNext, after_drafts};
 ghost use Rattle.mesa_core.specs.Answers.{Owes};
 ghost use Rattle.mesa_core.specs.Drafts.{owed_by_load};
 ghost use Rattle.mesa_core.specs.Sight.{sight_after};
@@ -18,7 +18,7 @@ use mesa_disk::{Bench, Disk, Made};
 use mesa_engine::Naming;
 use mesa_io::Sink;
 use mesa_load::prepare;
-use mesa_tasks::{LoadError, Prepared, Serials};
+use mesa_open_files::{LoadError, Prepared, Serials};
 use std::alloc::{AllocError, Global};
 use std::thread::Threads;
 

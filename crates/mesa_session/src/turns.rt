@@ -16,9 +16,9 @@ ghost use Rattle.mesa_core.specs.Pins.{CanBeAnswered, HasAnswered, IsOpenQuery, 
 ghost use Rattle.mesa_core.specs.Sight.{sight_after};
 ghost use Rattle.mesa_core.specs.Recasts.{CanBeRegrouped, IsUnmade, known_recast};
 ghost use Rattle.mesa_core.specs.Works.{CanBeMerged, HasMerged, WasGranted, known_task};
-ghost use Rattle.mesa_tasks.specs.Recasts.{IsRecasted, claim_of_recast};
-ghost use Rattle.mesa_tasks.specs.Tasks.{claim_in};
-ghost use Rattle.mesa_tasks.specs.Serials.{after_drafts};
+ghost use Rattle.mesa_open_files.specs.Recasts.{IsRecasted, claim_of_recast};
+ghost use Rattle.mesa_open_files.specs.Tasks.{claim_in};
+ghost use Rattle.mesa_open_files.specs.Serials.{after_drafts};
 ghost use Rattle.mesa_session.specs.Loads.{StaysPrepared};
 
 use crate::outside::regrouped_now;
@@ -30,7 +30,7 @@ use mesa_disk::{Bench, Disk, Made};
 use mesa_engine::{Naming, Who};
 use mesa_io::Sink;
 use mesa_script::Rendered;
-use mesa_tasks::{
+use mesa_open_files::{
     CompactError, LoadError, NewDelta, Pinned, Prepared, Recast, Recasted, Serials, Task,
 };
 use mesa_turn::{Pass, TurnLock};

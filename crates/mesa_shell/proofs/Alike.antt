@@ -3,12 +3,12 @@ use Rattle.std.proofs.Common.{◌≡◌, ℕ, List, [], ◌∷◌, map, refl}
 use Rattle.mesa_model.specs.declared.commands.Script.{Script}
 use Rattle.mesa_session.specs.mesa_history_spec.Bare.{bare, bare_table, bare_state}
 use Rattle.mesa_session.specs.mesa_history_spec.Rows.{Rows}
-use Rattle.mesa_engine.specs.mesa_image_spec.Catalog.{Stock, Catalog, applied}
-use Rattle.mesa_engine.specs.mesa_image_spec.Contents.{kept_of, table_of}
+use Rattle.mesa_engine.specs.mesa_store_spec.Catalog.{TableMeta, Catalog, applied}
+use Rattle.mesa_engine.specs.mesa_store_spec.Contents.{kept_of, table_of}
 use Rattle.mesa_recover.specs.Opening.{run_record}
 use Rattle.mesa_shell.specs.StoreStart.{start_of}
 
-tables_alike : (rows others : Rows) (next : ℕ) (ts : List Stock) → map bare_table (map (table_of rows next) ts) ≡ map bare_table (map (table_of others next) ts)
+tables_alike : (rows others : Rows) (next : ℕ) (ts : List TableMeta) → map bare_table (map (table_of rows next) ts) ≡ map bare_table (map (table_of others next) ts)
 tables_alike rows others next [] = refl
 tables_alike rows others next (t ∷ ts) = λ i. bare_table (table_of rows next t) ∷ tables_alike rows others next ts i
 

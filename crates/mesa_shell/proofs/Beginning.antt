@@ -16,11 +16,11 @@ use Rattle.mesa_session.specs.mesa_history_spec.Rows.{Rows}
 use Rattle.mesa_engine.specs.mesa_commit.Filed.{AreFresh}
 use Rattle.mesa_engine.specs.mesa_commit.Holding.{Among}
 use Rattle.mesa_session.specs.mesa_invariant_spec.Books.{AreBooksOf}
-use Rattle.mesa_engine.specs.mesa_image_spec.Catalog.{Stock, Catalog, ranges_of}
-use Rattle.mesa_engine.specs.mesa_image_spec.Contents.{kept_of, table_of}
-use Rattle.mesa_engine.specs.mesa_image_spec.Sound.{StandsFor}
-use Rattle.mesa_engine.specs.mesa_image_spec.Ids.{named}
-use Rattle.mesa_engine.proofs.mesa_image_spec.AllSourced.{all_found}
+use Rattle.mesa_engine.specs.mesa_store_spec.Catalog.{TableMeta, Catalog, ranges_of}
+use Rattle.mesa_engine.specs.mesa_store_spec.Contents.{kept_of, table_of}
+use Rattle.mesa_engine.specs.mesa_store_spec.Sound.{StandsFor}
+use Rattle.mesa_engine.specs.mesa_store_spec.Ids.{named}
+use Rattle.mesa_engine.proofs.mesa_store_spec.AllSourced.{all_found}
 use Rattle.mesa_engine.specs.EngineState.{books_of, first_id, projection_of}
 use Rattle.mesa_engine.specs.Vault.{IsReady, Starts}
 use Rattle.mesa_engine.specs.Memory.{opened_state}
@@ -41,7 +41,7 @@ turns_are (x ∷ xs) = let rest = turns_are xs in omega (arith, rest)
 pub few_turns : (script : Script) → IsSmall script → turns_of script.sessions ≤ most_turns
 few_turns script small = let turns = turns_are script.sessions in omega (arith, turns, small.commands)
 
-bare_tables : (rows : Rows) (next : ℕ) (ts : List Stock) → map bare_table (map (table_of rows next) ts) ≡ map projection_of ts
+bare_tables : (rows : Rows) (next : ℕ) (ts : List TableMeta) → map bare_table (map (table_of rows next) ts) ≡ map projection_of ts
 bare_tables rows next [] = refl
 bare_tables rows next (t ∷ ts) = ap (λ (x : List Table). projection_of t ∷ x) (bare_tables rows next ts)
 
@@ -106,7 +106,7 @@ module _ {D : Type 0} (story : D → Story) (b : Begun D) (ready : IsReadyToRun 
       sink = refl;
       holds = λ is. absurd (let no : false ≡ true = is in cc);
       found = λ is. absurd (let no : false ≡ true = is in cc);
-      stocked = λ is. absurd (let no : false ≡ true = is in cc);
+      sound_rows = λ is. absurd (let no : false ≡ true = is in cc);
       read = λ is. absurd (let no : false ≡ true = is in cc);
       sourced = λ is. absurd (let no : false ≡ true = is in cc);
     }
@@ -130,9 +130,9 @@ module _ {D : Type 0} (story : D → Story) (b : Begun D) (ready : IsReadyToRun 
       sink = refl;
       holds = λ is. s.held.1;
       found = λ is below t x from to left. found_first script c w t x (s.found below t x from to left);
-      stocked = λ is. s.held.1.stocked;
+      sound_rows = λ is. s.held.1.sound_rows;
       read = λ is. s.read;
-      sourced = λ is. all_found w c ready.shaped s.held.1.stocked;
+      sourced = λ is. all_found w c ready.shaped s.held.1.sound_rows;
     }
 
     -- on every store, and with the rows of a sound one

@@ -6,9 +6,9 @@ use Rattle.mesa_disk.specs.Story.{Story}
 use Rattle.mesa_parse.specs.declared.forms.Form.TheVariants as form
 use Rattle.mesa_engine.specs.mesa_commit.Images.{Has}
 use Rattle.mesa_session.specs.mesa_history_spec.Rows.{Rows}
-use Rattle.mesa_engine.specs.mesa_image_spec.Catalog.{Catalog}
-use Rattle.mesa_engine.specs.mesa_image_spec.Fitting.{shelved}
-use Rattle.mesa_engine.specs.mesa_image_spec.Sound.{AreStocked, IsSound, wants}
+use Rattle.mesa_engine.specs.mesa_store_spec.Catalog.{Catalog}
+use Rattle.mesa_engine.specs.mesa_store_spec.Fitting.{live_files}
+use Rattle.mesa_engine.specs.mesa_store_spec.Sound.{HaveSoundRows, IsSound, wants}
 use Rattle.mesa_recover.specs.declared.error.OpenError.{OpenError}
 use Rattle.mesa_recover.specs.declared.error.OpenError.TheVariants as open_error
 use Rattle.mesa_recover.specs.Opening.{IsSoundStart, ReadsAs}
@@ -43,7 +43,7 @@ module _ (story : Story) (c : Catalog) (fault : Option Fault) (reads : ReadsAs s
   sound_faultless : IsSound i → fault ≡ None
   sound_faultless s =
       let same : s.catalogue ≡ c = same_catalog i s.is.live reads.0 s.bodies reads.1 s.is.end reads.2 s.catalogue c s.is.journal (reads.3.journal i told) s.is.records reads.3.records in
-      first.unsound i told (s.rows, subst (λ (k : Catalog). Has (wants s.rows (shelved k)) i) same s.is.files, subst (λ (k : Catalog). AreStocked s.rows k) same s.is.rows_are)
+      first.unsound i told (s.rows, subst (λ (k : Catalog). Has (wants s.rows (live_files k)) i) same s.is.files, subst (λ (k : Catalog). HaveSoundRows s.rows k) same s.is.rows_are)
 
 -- The status of a verdict is 0 exactly there.
 pub sound_exactly : (story : Story) (c : Catalog) (fault : Option Fault) (status : ℕ) → status ≡ verdict_status fault → ReadsAs story c → IsFirstFault story c fault → (i : Image) → story.told ≡ Some i → (status ≡ 0) ↔ IsSound i

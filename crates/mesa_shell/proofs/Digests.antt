@@ -8,7 +8,7 @@ use Rattle.mesa_store_digest.specs.Latest.{HasLookReason}
 use Rattle.mesa_store_digest.specs.declared.error.LookError.{LookError}
 use Rattle.mesa_store_digest.specs.declared.error.LookError.TheVariants as look
 use Rattle.mesa_store_digest.specs.Looked.{IsDigestOf}
-use Rattle.mesa_engine.specs.mesa_image_spec.Catalog.{Catalog}
+use Rattle.mesa_engine.specs.mesa_store_spec.Catalog.{Catalog}
 use Rattle.mesa_recover.specs.declared.error.OpenError.{OpenError}
 use Rattle.mesa_recover.specs.declared.error.OpenError.TheVariants as open_error
 use Rattle.mesa_recover.specs.Opening.{HasReason, IsRead}

@@ -6,10 +6,10 @@ use Rattle.mesa_recover.specs.mesa_journal.Journal.{IsJournal}
 use Rattle.mesa_model.specs.declared.commands.Script.{Script}
 use Rattle.mesa_session.specs.mesa_history_spec.Run.{nothing_there}
 use Rattle.mesa_session.specs.mesa_history_spec.Rows.{no_rows}
-use Rattle.mesa_engine.specs.mesa_image_spec.Catalog.{empty_catalog}
-use Rattle.mesa_engine.specs.mesa_image_spec.Contents.{kept_of}
-use Rattle.mesa_engine.specs.mesa_image_spec.Fitting.{catalog_from}
-use Rattle.mesa_engine.specs.mesa_image_spec.Sound.{IsSoundAs, StandsFor}
+use Rattle.mesa_engine.specs.mesa_store_spec.Catalog.{empty_catalog}
+use Rattle.mesa_engine.specs.mesa_store_spec.Contents.{kept_of}
+use Rattle.mesa_engine.specs.mesa_store_spec.Fitting.{catalog_from}
+use Rattle.mesa_engine.specs.mesa_store_spec.Sound.{IsSoundAs, StandsFor}
 use Rattle.mesa_shell.specs.Life.{kept_at_first}
 use Rattle.mesa_shell.specs.StoreStart.{start_of}
 

@@ -7,7 +7,7 @@ use Rattle.mesa_model.specs.declared.commands.Script.{Script}
 use Rattle.mesa_session.specs.mesa_history_spec.Refused.{some_refused}
 use Rattle.mesa_session.specs.mesa_history_spec.Run.{begins}
 use Rattle.mesa_session.specs.mesa_history_spec.Rows.{Rows}
-use Rattle.mesa_engine.specs.mesa_image_spec.Catalog.{Catalog}
+use Rattle.mesa_engine.specs.mesa_store_spec.Catalog.{Catalog}
 use Rattle.mesa_recover.specs.declared.error.OpenError.{OpenError}
 use Rattle.mesa_shell.specs.Ports.{Ports}
 use Rattle.mesa_shell.specs.Exits.{memory_status, memory_line, open_line, open_status}

@@ -4,7 +4,7 @@ use Rattle.mesa_parse.specs.declared.forms.Form.{Form}
 use Rattle.mesa_parse.specs.declared.forms.Form.TheVariants as form
 use Rattle.mesa_model.specs.declared.commands.Script.{Script}
 use Rattle.mesa_session.specs.mesa_history_spec.Rows.{Rows}
-use Rattle.mesa_engine.specs.mesa_image_spec.Catalog.{Catalog}
+use Rattle.mesa_engine.specs.mesa_store_spec.Catalog.{Catalog}
 use Rattle.mesa_recover.specs.Opening.{IsSoundStart}
 use Rattle.mesa_shell.specs.Ports.{Ports}
 use Rattle.mesa_shell.specs.Completing.{AsksFor, Completes, Decides, HasRoomToRun, IsUndamaged, NoneRose, NothingFailed}

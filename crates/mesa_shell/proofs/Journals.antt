@@ -4,8 +4,8 @@ use Rattle.mesa_disk.specs.Image.{Image}
 use Rattle.mesa_disk.specs.declared.area.Area.{Area}
 use Rattle.mesa_recover.specs.mesa_journal.Areas.{HasJournal}
 use Rattle.mesa_recover.proofs.mesa_journal.Live.{one_live, same_live}
-use Rattle.mesa_engine.specs.mesa_image_spec.Catalog.{Catalog}
-use Rattle.mesa_engine.specs.mesa_image_spec.Journaled.{catalog}
+use Rattle.mesa_engine.specs.mesa_store_spec.Catalog.{Catalog}
+use Rattle.mesa_engine.specs.mesa_store_spec.Journaled.{catalog}
 
 some_same : (o : Option Catalog) (c d : Catalog) → o ≡ Some c → o ≡ Some d → c ≡ d
 some_same o c d a b = cc

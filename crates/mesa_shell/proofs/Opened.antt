@@ -7,13 +7,13 @@ use Rattle.mesa_disk.specs.Image.{Image}
 use Rattle.mesa_disk.specs.Story.{Story, Unmoved}
 use Rattle.mesa_engine.specs.mesa_commit.Filed.{FilesAdopted}
 use Rattle.mesa_session.specs.mesa_history_spec.Rows.{Rows}
-use Rattle.mesa_engine.specs.mesa_image_spec.Catalog.{Catalog, applied}
-use Rattle.mesa_engine.specs.mesa_image_spec.Shape.{IsCatalog}
-use Rattle.mesa_engine.specs.mesa_image_spec.Fitting.{max_runs}
-use Rattle.mesa_engine.specs.mesa_image_spec.Countable.{AreCounted}
-use Rattle.mesa_engine.specs.mesa_image_spec.Ids.{HasOwnIds, named}
-use Rattle.mesa_engine.specs.mesa_image_spec.Recordable.{AreRecordable}
-use Rattle.mesa_engine.proofs.mesa_image_spec.Wholes.{catalog_whole}
+use Rattle.mesa_engine.specs.mesa_store_spec.Catalog.{Catalog, applied}
+use Rattle.mesa_engine.specs.mesa_store_spec.Shape.{IsCatalog}
+use Rattle.mesa_engine.specs.mesa_store_spec.Fitting.{max_runs}
+use Rattle.mesa_engine.specs.mesa_store_spec.Countable.{AreCounted}
+use Rattle.mesa_engine.specs.mesa_store_spec.Ids.{HasOwnIds, named}
+use Rattle.mesa_engine.specs.mesa_store_spec.Recordable.{AreRecordable}
+use Rattle.mesa_engine.proofs.mesa_store_spec.Wholes.{catalog_whole}
 use Rattle.mesa_recover.specs.declared.error.OpenError.{OpenError}
 use Rattle.mesa_recover.specs.declared.error.OpenError.TheVariants as open_error
 use Rattle.mesa_recover.specs.Opening.{HasReason, IsHeldAs, IsSoundStart, Keeps, first_id, most_runs, run_record}

@@ -13,10 +13,10 @@ use Rattle.mesa_session.specs.mesa_history_spec.Run.{begins}
 use Rattle.mesa_session.specs.mesa_history_laws.Printed.{AnswersFromTheFold}
 use Rattle.mesa_session.proofs.mesa_history_laws.ReachedAnswers.{pages_fold}
 use Rattle.mesa_session.specs.mesa_history_spec.Rows.{Rows}
-use Rattle.mesa_engine.specs.mesa_image_spec.Catalog.{Catalog}
-use Rattle.mesa_engine.specs.mesa_image_spec.Contents.{kept_of}
-use Rattle.mesa_engine.specs.mesa_image_spec.Sound.{StandsFor}
-use Rattle.mesa_engine.proofs.mesa_image_spec.Wholes.{catalog_whole}
+use Rattle.mesa_engine.specs.mesa_store_spec.Catalog.{Catalog}
+use Rattle.mesa_engine.specs.mesa_store_spec.Contents.{kept_of}
+use Rattle.mesa_engine.specs.mesa_store_spec.Sound.{StandsFor}
+use Rattle.mesa_engine.proofs.mesa_store_spec.Wholes.{catalog_whole}
 use Rattle.mesa_recover.specs.Opening.{IsSoundStart, Keeps}
 use Rattle.mesa_engine.specs.mesa_catalog.declared.begun.Begun.{Begun}
 use Rattle.mesa_shell.specs.Counting.{HasBenchCounts}

@@ -10,10 +10,10 @@ use Rattle.mesa_engine.specs.mesa_record.declared.record.Record.{Record}
 use Rattle.mesa_engine.specs.mesa_record.declared.error.RecordError.{RecordError}
 use Rattle.mesa_engine.specs.mesa_record.Reading.{record_at}
 use Rattle.mesa_session.specs.mesa_history_spec.Rows.{Rows}
-use Rattle.mesa_engine.specs.mesa_image_spec.Catalog.{Catalog}
-use Rattle.mesa_engine.specs.mesa_image_spec.Fitting.{applied_if, catalog_from, fits, read_record, then_bodies, with_body}
-use Rattle.mesa_engine.specs.mesa_image_spec.Journaled.{catalog, first_body}
-use Rattle.mesa_engine.specs.mesa_image_spec.Sound.{IsSoundAs}
+use Rattle.mesa_engine.specs.mesa_store_spec.Catalog.{Catalog}
+use Rattle.mesa_engine.specs.mesa_store_spec.Fitting.{applied_if, catalog_from, fits, read_record, then_bodies, with_body}
+use Rattle.mesa_engine.specs.mesa_store_spec.Journaled.{catalog, first_body}
+use Rattle.mesa_engine.specs.mesa_store_spec.Sound.{IsSoundAs}
 use Rattle.mesa_recover.specs.Damages.{HasMisfit, IsCutOff, MisfitsBehind, first_place, misfit_of, place_if_none}
 use Rattle.mesa_recover.specs.Opening.{IsSoundStart, ReadsAs}
 use Rattle.mesa_shell.proofs.Journals.{same_catalog}

@@ -12,7 +12,7 @@ use Rattle.mesa_script.specs.Script.{script_of}
 use Rattle.mesa_session.specs.mesa_history_spec.Rows.{Rows}
 use Rattle.mesa_session.specs.mesa_invariant_spec.Printing.{HasAll, HasAllButRows, IsOutputButRows}
 use Rattle.mesa_session.specs.mesa_history_spec.Output.{IsOutput}
-use Rattle.mesa_engine.specs.mesa_image_spec.Catalog.{Catalog}
+use Rattle.mesa_engine.specs.mesa_store_spec.Catalog.{Catalog}
 use Rattle.mesa_generate.specs.Excerpt.{CutsOut, HasPlainNames}
 use Rattle.mesa_shell.specs.Ports.{ports}
 use Rattle.mesa_shell.specs.Exits.{gen_line, memory_line, memory_status}

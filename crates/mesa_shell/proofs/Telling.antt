@@ -12,7 +12,7 @@ use Rattle.mesa_script.specs.Script.{script_of}
 use Rattle.mesa_parse.specs.declared.forms.Form.{Form}
 use Rattle.mesa_parse.specs.declared.forms.Form.TheVariants as form
 use Rattle.mesa_session.specs.mesa_history_spec.Rows.{no_rows}
-use Rattle.mesa_engine.specs.mesa_image_spec.Catalog.{Catalog}
+use Rattle.mesa_engine.specs.mesa_store_spec.Catalog.{Catalog}
 use Rattle.mesa_recover.specs.declared.error.OpenError.{OpenError}
 use Rattle.mesa_recover.specs.declared.error.OpenError.TheVariants as open_error
 use Rattle.mesa_store_digest.specs.Latest.{relation_named}

@@ -22,12 +22,12 @@ use Rattle.mesa_delta.proofs.Placed.{laid}
 use Rattle.mesa_delta.proofs.Tailing.{foot_long}
 use Rattle.mesa_session.specs.mesa_history_spec.Rows.{Rows}
 use Rattle.mesa_engine.specs.mesa_commit.Images.{Has}
-use Rattle.mesa_engine.specs.mesa_image_spec.Catalog.{Catalog}
-use Rattle.mesa_engine.specs.mesa_image_spec.Fitting.{Shelved, shelved, stock_shelved}
-use Rattle.mesa_engine.specs.mesa_image_spec.Sound.{IsSoundAs, IsStocked, IsTold, bytes_of, layout_of, wants}
-use Rattle.mesa_engine.proofs.mesa_image_spec.Lists.{all_flat}
-use Rattle.mesa_check.specs.mesa_table.declared.recorded.Recorded.{Recorded}
-use Rattle.mesa_check.specs.mesa_table.Files.{recorded_of}
+use Rattle.mesa_engine.specs.mesa_store_spec.Catalog.{Catalog}
+use Rattle.mesa_engine.specs.mesa_store_spec.Fitting.{LiveFile, live_files, meta_live}
+use Rattle.mesa_engine.specs.mesa_store_spec.Sound.{IsSoundAs, HasSoundRows, IsTold, bytes_of, layout_of, wants}
+use Rattle.mesa_engine.proofs.mesa_store_spec.Lists.{all_flat}
+use Rattle.mesa_check.specs.mesa_catalog_table.declared.recorded.Recorded.{Recorded}
+use Rattle.mesa_check.specs.mesa_catalog_table.Files.{recorded_of}
 use Rattle.mesa_recover.specs.Damages.{HasDamagedFile, IsFileDamage}
 use Rattle.mesa_recover.proofs.Reasons.{recorded_all}
 use Rattle.mesa_shell.proofs.Journals.{same_catalog}
@@ -73,7 +73,7 @@ module _ (image : Image) (rows : Rows) (d : Damage) where
   abbrev IsWell : Recorded → Type 0
   IsWell r = IsFileDamage (file_of image r.id) r d → ⊥
 
-  told_well : (x : Shelved) → IsTold rows x → file_of image x.file.id ≡ Some (bytes_of rows x) → IsWell (recorded_of x)
+  told_well : (x : LiveFile) → IsTold rows x → file_of image x.file.id ≡ Some (bytes_of rows x) → IsWell (recorded_of x)
   told_well x told there damage = by (subst (λ o. IsFileDamage o (recorded_of x) d) there damage)
     where
       place : tail_place (layout_of x) x.file + length (file_tail (layout_of x) (rows x.file.id)) ≡ length (file_bytes (layout_of x) (rows x.file.id))
@@ -90,7 +90,7 @@ module _ (image : Image) (rows : Rows) (d : Damage) where
       by (inl long) = long.1 (sym told.true.len)
       by (inr other) = other.1.1 digest
 
-  all_well : (files : List Shelved) → AllByRecursion (IsTold rows) files → Has (wants rows files) image → AllByRecursion IsWell (map recorded_of files)
+  all_well : (files : List LiveFile) → AllByRecursion (IsTold rows) files → Has (wants rows files) image → AllByRecursion IsWell (map recorded_of files)
   all_well [] told has = tt
   all_well (x ∷ files) told has = (told_well x told.0 has.0, all_well files told.1 has.1)
 
@@ -101,7 +101,7 @@ in_middle P (y ∷ xs) x ys all = in_middle P xs x ys all.1
 pub sound_undamaged : (image : Image) (bodies : List (List ℕ)) (c : Catalog) (rows : Rows) → IsSoundAs image bodies c rows → (d : Damage) → HasDamagedFile image d → ⊥
 sound_undamaged image bodies c rows s d h =
     let same : c ≡ h.catalogue = same_catalog image s.live h.live bodies h.bodies s.end h.end c h.catalogue s.journal h.journal s.records h.records in
-    let told = all_flat (IsTold rows) stock_shelved c.tables (all_so (IsStocked rows) (λ t. AllByRecursion (IsTold rows) (stock_shelved t)) c.tables (λ t stocked. stocked.files) s.rows_are) in
-    let named = subst (λ (k : Catalog). AllByRecursion (IsWell image rows d) (map recorded_of (shelved k))) same (all_well image rows d (shelved c) told s.files) in
+    let told = all_flat (IsTold rows) meta_live c.tables (all_so (HasSoundRows rows) (λ t. AllByRecursion (IsTold rows) (meta_live t)) c.tables (λ t sound_rows. sound_rows.files) s.rows_are) in
+    let named = subst (λ (k : Catalog). AllByRecursion (IsWell image rows d) (map recorded_of (live_files k))) same (all_well image rows d (live_files c) told s.files) in
     let tested = recorded_all (IsWell image rows d) h.catalogue h.files h.recorded named in
     in_middle (IsWell image rows d) h.first.before h.first.file h.first.behind (subst (AllByRecursion (IsWell image rows d)) h.first.split tested) h.first.damaged

@@ -5,7 +5,7 @@ use Rattle.mesa_disk.specs.Image.{Image}
 use Rattle.mesa_disk.specs.Story.{Story, Unmoved}
 use Rattle.mesa_disk.specs.declared.area.Area.{Area}
 use Rattle.mesa_session.specs.mesa_history_spec.Rows.{Rows}
-use Rattle.mesa_engine.specs.mesa_image_spec.Catalog.{Catalog}
+use Rattle.mesa_engine.specs.mesa_store_spec.Catalog.{Catalog}
 use Rattle.mesa_recover.specs.declared.error.OpenError.{OpenError}
 use Rattle.mesa_recover.specs.declared.error.OpenError.TheVariants as open_error
 use Rattle.mesa_recover.specs.Opening.{HasReason, IsRead, IsSoundStart, Keeps}

@@ -4,7 +4,7 @@ use Rattle.std.proofs.lemmas.Bool.{cases_lt}
 use Rattle.mesa_io.specs.Causes.{last, Rose}
 use Rattle.mesa_disk.specs.Story.{Story, Unmoved}
 use Rattle.mesa_disk.specs.declared.area.Area.{Area}
-use Rattle.mesa_engine.specs.mesa_image_spec.Catalog.{Catalog}
+use Rattle.mesa_engine.specs.mesa_store_spec.Catalog.{Catalog}
 use Rattle.mesa_check.specs.Faults.{Fault}
 use Rattle.mesa_check.specs.Verdict.{IsFirstFault}
 use Rattle.mesa_recover.specs.declared.error.OpenError.{OpenError}

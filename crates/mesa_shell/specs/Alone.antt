@@ -12,7 +12,7 @@ use Rattle.mesa_session.specs.mesa_history_spec.Replay.{go, told_by}
 use Rattle.mesa_session.specs.mesa_history_spec.Run.{Run, Told, begins}
 use Rattle.mesa_parse.specs.declared.forms.Form.TheVariants as form
 use Rattle.mesa_session.specs.mesa_history_spec.Rows.{Rows}
-use Rattle.mesa_engine.specs.mesa_image_spec.Catalog.{Catalog}
+use Rattle.mesa_engine.specs.mesa_store_spec.Catalog.{Catalog}
 use Rattle.mesa_shell.specs.Ports.{Ports}
 use Rattle.mesa_shell.specs.Exits.{memory_status}
 use Rattle.mesa_shell.specs.StoreStart.{start_of}

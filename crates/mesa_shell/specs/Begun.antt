@@ -6,13 +6,13 @@ use Rattle.mesa_disk.specs.Story.{Story}
 use Rattle.mesa_disk.specs.declared.area.Area.{Area}
 use Rattle.mesa_engine.specs.mesa_commit.Filed.{FilesAdopted}
 use Rattle.mesa_session.specs.mesa_history_spec.Rows.{Rows}
-use Rattle.mesa_engine.specs.mesa_image_spec.Catalog.{Catalog, applied}
-use Rattle.mesa_engine.specs.mesa_image_spec.Contents.{kept_of}
-use Rattle.mesa_engine.specs.mesa_image_spec.Shape.{IsCatalog}
-use Rattle.mesa_engine.specs.mesa_image_spec.Sound.{StandsFor}
-use Rattle.mesa_engine.specs.mesa_image_spec.Countable.{AreCounted}
-use Rattle.mesa_engine.specs.mesa_image_spec.Ids.{HasOwnIds, named}
-use Rattle.mesa_engine.specs.mesa_image_spec.Recordable.{AreRecordable}
+use Rattle.mesa_engine.specs.mesa_store_spec.Catalog.{Catalog, applied}
+use Rattle.mesa_engine.specs.mesa_store_spec.Contents.{kept_of}
+use Rattle.mesa_engine.specs.mesa_store_spec.Shape.{IsCatalog}
+use Rattle.mesa_engine.specs.mesa_store_spec.Sound.{StandsFor}
+use Rattle.mesa_engine.specs.mesa_store_spec.Countable.{AreCounted}
+use Rattle.mesa_engine.specs.mesa_store_spec.Ids.{HasOwnIds, named}
+use Rattle.mesa_engine.specs.mesa_store_spec.Recordable.{AreRecordable}
 use Rattle.mesa_recover.specs.Opening.{IsHeldAs, IsSoundStart, Keeps, ReadsAs, first_id, most_runs, run_record}
 use Rattle.mesa_engine.specs.Vault.{IsRead}
 use Rattle.mesa_engine.specs.mesa_catalog.declared.begun.Begun.{Begun}

@@ -16,7 +16,7 @@ use Rattle.mesa_script.specs.Script.{script_of}
 use Rattle.mesa_parse.specs.declared.forms.Form.{Form}
 use Rattle.mesa_parse.specs.declared.forms.Form.TheVariants as form
 use Rattle.mesa_session.specs.mesa_history_spec.Rows.{Rows}
-use Rattle.mesa_engine.specs.mesa_image_spec.Catalog.{Catalog}
+use Rattle.mesa_engine.specs.mesa_store_spec.Catalog.{Catalog}
 use Rattle.mesa_recover.specs.Damages.{HasDamagedFile, HasMisfit, IsCutOff}
 use Rattle.mesa_recover.specs.Opening.{most_runs}
 use Rattle.mesa_shell.specs.Ports.{Ports}

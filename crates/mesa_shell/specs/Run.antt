@@ -17,8 +17,8 @@ use Rattle.mesa_session.specs.mesa_history_spec.Rows.{Rows}
 use Rattle.mesa_session.specs.mesa_invariant_spec.Printing.{IsPrinted, IsPrintedButRows}
 use Rattle.mesa_session.specs.mesa_invariant_spec.Undamaged.{NoneDamaged}
 use Rattle.mesa_session.specs.mesa_invariant_spec.Invariant.{AllFound, HasCounted, Outset, run_at}
-use Rattle.mesa_engine.specs.mesa_image_spec.Catalog.{Catalog}
-use Rattle.mesa_engine.specs.mesa_image_spec.Sound.{StandsFor}
+use Rattle.mesa_engine.specs.mesa_store_spec.Catalog.{Catalog}
+use Rattle.mesa_engine.specs.mesa_store_spec.Sound.{StandsFor}
 use Rattle.mesa_recover.specs.Opening.{ReadsAs, most_runs}
 use Rattle.mesa_shell.specs.Ports.{Ports}
 use Rattle.mesa_shell.specs.StoreStart.{IsSoundStore, start_of}

@@ -6,8 +6,8 @@ use Rattle.mesa_session.specs.mesa_history_spec.Machine.{machine_of}
 use Rattle.mesa_session.specs.mesa_history_spec.Run.{State}
 use Rattle.mesa_session.specs.mesa_history_spec.Found.{Kept}
 use Rattle.mesa_session.specs.mesa_history_spec.Rows.{Rows}
-use Rattle.mesa_engine.specs.mesa_image_spec.Catalog.{Catalog}
-use Rattle.mesa_engine.specs.mesa_image_spec.Contents.{kept_of}
+use Rattle.mesa_engine.specs.mesa_store_spec.Catalog.{Catalog}
+use Rattle.mesa_engine.specs.mesa_store_spec.Contents.{kept_of}
 use Rattle.mesa_recover.specs.Opening.{IsSoundStart}
 
 -- the state of a run that starts from what a store keeps: no pins, no leases, not closed

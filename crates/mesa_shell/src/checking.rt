@@ -7,7 +7,7 @@ ghost use Rattle.mesa_recover.specs.declared.error.OpenError.TheVariants as open
 ghost use Rattle.mesa_check.specs.Verdict.{IsFirstFault, fault_told};
 ghost use Rattle.mesa_shell.specs.Ports.{ports};
 ghost use Rattle.mesa_shell.specs.Unopened.{HasSameCounts};
-ghost use Rattle.mesa_engine.specs.mesa_image_spec.Catalog.{Catalog};
+ghost use Rattle.mesa_engine.specs.mesa_store_spec.Catalog.{Catalog};
 
 use mesa_check::{CheckError, Verdict, check};
 use mesa_disk::{Bench, Disk, Made};

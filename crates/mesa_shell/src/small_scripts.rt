@@ -11,9 +11,9 @@ ghost use Rattle.mesa_shell.specs.StoreStart.{start_of};
 ghost use Rattle.mesa_shell.specs.declared.done.Devices.{Devices};
 ghost use Rattle.mesa_shell.specs.declared.done.Done.{Done};
 ghost use Rattle.mesa_session.specs.mesa_history_spec.Run.{nothing_there};
-ghost use Rattle.mesa_engine.specs.mesa_image_spec.Catalog.{Catalog, empty_catalog};
-ghost use Rattle.mesa_engine.specs.mesa_image_spec.Shape.{IsCatalog};
-ghost use Rattle.mesa_engine.specs.mesa_image_spec.Sound.{AreStocked, IsSoundAs, StandsFor};
+ghost use Rattle.mesa_engine.specs.mesa_store_spec.Catalog.{Catalog, empty_catalog};
+ghost use Rattle.mesa_engine.specs.mesa_store_spec.Shape.{IsCatalog};
+ghost use Rattle.mesa_engine.specs.mesa_store_spec.Sound.{HaveSoundRows, IsSoundAs, StandsFor};
 ghost use Rattle.mesa_model.specs.WellFormed.{IsWellFormed};
 ghost use Rattle.mesa_model.specs.declared.commands.Script.{Script};
 ghost use Rattle.mesa_script.specs.Script.{script_of};
@@ -30,7 +30,7 @@ pub fn stores_start_alike()
 
 /// A sound store is a well-formed warehouse: what the fold law asks of a start holds of it.
 pub fn stores_start_well_formed()
-    ensures { (script : Script) (c : Catalog) (rows : Rows) → IsCatalog c → AreStocked rows c → IsWellFormed (start_of script c rows).warehouse }
+    ensures { (script : Script) (c : Catalog) (rows : Rows) → IsCatalog c → HaveSoundRows rows c → IsWellFormed (start_of script c rows).warehouse }
 {}
 
 /// A store in which nothing was written, in neither area of its journal, is sound, it stands for what an empty store keeps, and a run starts

@@ -7,15 +7,15 @@ use Rattle.mesa_schema.specs.Columns.{Columns, aggs_of}
 use Rattle.mesa_schema.specs.Changes.{Lineage, columns_of}
 use Rattle.mesa_schema.specs.Folded.{folded}
 use Rattle.mesa_schema.specs.Views.{view_columns, view_rows}
-use Rattle.mesa_tasks.specs.Inputs.{AreTold, present_parts}
-use Rattle.mesa_tasks.specs.Made.{Content, IsMadeFile}
-use Rattle.mesa_tasks.specs.Tasks.{AreMergedViews, HaveMerged, IsMerged, IsMergedView}
-use Rattle.mesa_tasks.specs.declared.made.MadeFile.{MadeFile}
-use Rattle.mesa_tasks.specs.declared.made.MadeFiles.{MadeFiles}
-use Rattle.mesa_tasks.specs.declared.made.MadeView.{MadeView}
-use Rattle.mesa_tasks.specs.declared.merging.NewDelta.{NewDelta}
-use Rattle.mesa_tasks.specs.declared.merging.Task.{Task}
-use Rattle.mesa_tasks.specs.declared.merging.TaskView.{TaskView}
+use Rattle.mesa_open_files.specs.Inputs.{AreTold, present_parts}
+use Rattle.mesa_open_files.specs.Made.{Content, IsMadeFile}
+use Rattle.mesa_open_files.specs.Tasks.{AreMergedViews, HaveMerged, IsMerged, IsMergedView}
+use Rattle.mesa_open_files.specs.declared.made.MadeFile.{MadeFile}
+use Rattle.mesa_open_files.specs.declared.made.MadeFiles.{MadeFiles}
+use Rattle.mesa_open_files.specs.declared.made.MadeView.{MadeView}
+use Rattle.mesa_open_files.specs.declared.merging.NewDelta.{NewDelta}
+use Rattle.mesa_open_files.specs.declared.merging.Task.{Task}
+use Rattle.mesa_open_files.specs.declared.merging.TaskView.{TaskView}
 use Rattle.mesa_split.specs.Laws.{AreSameDeltas, AreSameFiles, AreSameViews, OwnAgree}
 
 module _ {M : Type 0} (bytes : M → Option (List ℕ)) (id_of : M → ℕ) where

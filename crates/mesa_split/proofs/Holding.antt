@@ -8,7 +8,7 @@ use Rattle.mesa_schema.specs.declared.rows.Row.{Row}
 use Rattle.mesa_delta.specs.Writing.{HasTaken, columns_of, draft_of, id_of}
 use Rattle.mesa_delta.specs.declared.error.FileError.TheVariants.{Memory, Read}
 use Rattle.mesa_delta.specs.declared.writer.DeltaWriter.{DeltaWriter}
-use Rattle.mesa_tasks.specs.declared.merging.CompactError.TheVariants.{Draft, File}
+use Rattle.mesa_open_files.specs.declared.merging.CompactError.TheVariants.{Draft, File}
 use Rattle.mesa_compact.specs.Writing.{damaged_by}
 use Rattle.mesa_split.specs.Held.{held_bytes, sent_bytes}
 use Rattle.mesa_split.specs.Rounds.{IsFlushed}

@@ -10,7 +10,7 @@ use Rattle.mesa_delta.specs.declared.error.FileError.TheVariants.{Read}
 use Rattle.mesa_delta.specs.declared.input.Input.{Input}
 use Rattle.mesa_merge.specs.Damaged.{IsDamageOf}
 use Rattle.mesa_merge.specs.Faults.{HaveFaultCause, faults_of}
-use Rattle.mesa_tasks.specs.declared.merging.Spare.{Spare}
+use Rattle.mesa_open_files.specs.declared.merging.Spare.{Spare}
 use Rattle.mesa_split.specs.Lending.{AreEmpty, AreLent, IsDamageIn, Moved, counts_in, items_of, lists_in, lists_of, own_in, returned}
 use Rattle.mesa_split.specs.declared.parts.Part.{Part}
 

@@ -12,9 +12,9 @@ use Rattle.mesa_delta.specs.declared.writer.DeltaWriter.{DeltaWriter}
 use Rattle.mesa_delta.specs.Writing.{HasTaken, columns_of, draft_of, id_of}
 use Rattle.mesa_answer.specs.declared.groups.Groups.{Groups}
 use Rattle.mesa_merge.specs.Inputs.{knowns_of}
-use Rattle.mesa_tasks.specs.Made.{IsMadeFile}
-use Rattle.mesa_tasks.specs.declared.made.MadeFile.{MadeFile}
-use Rattle.mesa_tasks.specs.declared.merging.CompactError.{CompactError}
+use Rattle.mesa_open_files.specs.Made.{IsMadeFile}
+use Rattle.mesa_open_files.specs.declared.made.MadeFile.{MadeFile}
+use Rattle.mesa_open_files.specs.declared.merging.CompactError.{CompactError}
 use Rattle.mesa_compact.specs.Grouping.{HavePut, wanted_in}
 use Rattle.mesa_compact.specs.Writing.{HasCauses, IsDraftFault, IsReadFault, damaged_by}
 use Rattle.mesa_split.specs.Held.{held_bytes}

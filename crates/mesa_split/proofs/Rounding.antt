@@ -14,8 +14,8 @@ use Rattle.mesa_answer.specs.declared.groups.Groups.{Groups}
 use Rattle.mesa_compact.specs.mesa_scan.Cursors.{IsInput}
 use Rattle.mesa_merge.specs.Faults.{faults_of}
 use Rattle.mesa_merge.specs.Inputs.{knowns_of}
-use Rattle.mesa_tasks.specs.declared.merging.CompactError.{CompactError}
-use Rattle.mesa_tasks.specs.declared.merging.CompactError.TheVariants.{Draft, File}
+use Rattle.mesa_open_files.specs.declared.merging.CompactError.{CompactError}
+use Rattle.mesa_open_files.specs.declared.merging.CompactError.TheVariants.{Draft, File}
 use Rattle.mesa_compact.specs.Writing.{IsDraftFault, IsReadFault, damaged_by}
 use Rattle.mesa_split.specs.Held.{held_bytes, held_faults, sent_bytes, sent_number}
 use Rattle.mesa_split.specs.Lending.{AreReady, HavePieces, Moved, answers_of, counts_in, lists_in, own_in}

@@ -17,8 +17,8 @@ use Rattle.mesa_answer.specs.declared.groups.Groups.{Groups}
 use Rattle.mesa_compact.specs.mesa_scan.Cut.{CutsRise}
 use Rattle.mesa_merge.specs.Inputs.{knowns_of}
 use Rattle.mesa_merge.specs.Sums.{sum_damage}
-use Rattle.mesa_tasks.specs.declared.merging.CompactError.{CompactError}
-use Rattle.mesa_tasks.specs.declared.merging.CompactError.TheVariants.{Draft, File}
+use Rattle.mesa_open_files.specs.declared.merging.CompactError.{CompactError}
+use Rattle.mesa_open_files.specs.declared.merging.CompactError.TheVariants.{Draft, File}
 use Rattle.mesa_compact.specs.Bounded.{AreBounded}
 use Rattle.mesa_compact.specs.Damaged.{LeavesAmong, RowLeaves}
 use Rattle.mesa_compact.specs.Grouping.{TakesRows}

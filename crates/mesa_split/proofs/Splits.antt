@@ -15,18 +15,18 @@ use Rattle.mesa_merge.specs.Faults.{faults_of}
 use Rattle.mesa_merge.specs.Inputs.{knowns_of}
 use Rattle.mesa_merge.specs.Sums.{sum_damage}
 use Rattle.mesa_merge.proofs.Inputs.{SameEnd}
-use Rattle.mesa_tasks.specs.GivingBack.{own_inputs, spare_inputs, task_inputs}
-use Rattle.mesa_tasks.specs.Inputs.{IsMergeOf}
-use Rattle.mesa_tasks.specs.Made.{IsMadeFile}
-use Rattle.mesa_tasks.specs.Serials.{Drafts, after_drafts}
-use Rattle.mesa_tasks.specs.Spares.{IsSpareOf}
-use Rattle.mesa_tasks.specs.Tasks.{AreMergedViews, AreTaskViews, HaveMerged, IsMerged, IsTask}
-use Rattle.mesa_tasks.specs.declared.made.MadeFiles.{MadeFiles}
-use Rattle.mesa_tasks.specs.declared.merging.CompactError.{CompactError}
-use Rattle.mesa_tasks.specs.declared.merging.CompactError.TheVariants.{File}
-use Rattle.mesa_tasks.specs.declared.merging.Spare.{Spare}
-use Rattle.mesa_tasks.specs.declared.merging.Task.{Task}
-use Rattle.mesa_tasks.specs.declared.merging.TaskView.{TaskView}
+use Rattle.mesa_open_files.specs.GivingBack.{own_inputs, spare_inputs, task_inputs}
+use Rattle.mesa_open_files.specs.Inputs.{IsMergeOf}
+use Rattle.mesa_open_files.specs.Made.{IsMadeFile}
+use Rattle.mesa_open_files.specs.Serials.{Drafts, after_drafts}
+use Rattle.mesa_open_files.specs.Spares.{IsSpareOf}
+use Rattle.mesa_open_files.specs.Tasks.{AreMergedViews, AreTaskViews, HaveMerged, IsMerged, IsTask}
+use Rattle.mesa_open_files.specs.declared.made.MadeFiles.{MadeFiles}
+use Rattle.mesa_open_files.specs.declared.merging.CompactError.{CompactError}
+use Rattle.mesa_open_files.specs.declared.merging.CompactError.TheVariants.{File}
+use Rattle.mesa_open_files.specs.declared.merging.Spare.{Spare}
+use Rattle.mesa_open_files.specs.declared.merging.Task.{Task}
+use Rattle.mesa_open_files.specs.declared.merging.TaskView.{TaskView}
 use Rattle.mesa_compact.specs.Bounded.{AreBounded, AreViewsBounded, IsBounded}
 use Rattle.mesa_compact.specs.Damaged.{IsMergeDamage, IsNewestOf, ViewLeaves}
 use Rattle.mesa_compact.specs.Grouping.{HavePut}

@@ -27,17 +27,17 @@ use Rattle.mesa_merge.proofs.Bounds.{full_all}
 use Rattle.mesa_merge.proofs.Combining.{aggs_count}
 use Rattle.mesa_merge.proofs.Inputs.{SameEnd}
 use Rattle.mesa_answer.specs.Answering.{KeepsSums}
-use Rattle.mesa_tasks.specs.Inputs.{AreInputsOf, IsMergeOf, lineage_of, present_parts}
-use Rattle.mesa_tasks.specs.Inputs.{AreTold as AreToldInputs}
-use Rattle.mesa_tasks.specs.Spares.{AreSpareInputs, AreSpareViews, HasSpareOwn, IsSpareInput, IsSpareOf}
-use Rattle.mesa_tasks.specs.declared.merging.Task.{Task}
-use Rattle.mesa_tasks.specs.declared.merging.TaskView.{TaskView}
-use Rattle.mesa_tasks.specs.GivingBack.{own_inputs, spare_inputs}
-use Rattle.mesa_tasks.specs.Tasks.{HaveMerged, IsMerged}
-use Rattle.mesa_tasks.specs.declared.made.MadeFiles.{MadeFiles}
-use Rattle.mesa_tasks.specs.declared.merging.CompactError.{CompactError}
-use Rattle.mesa_tasks.specs.declared.merging.Spare.{Spare}
-use Rattle.mesa_tasks.proofs.Spares.{spares_are, spares_told}
+use Rattle.mesa_open_files.specs.Inputs.{AreInputsOf, IsMergeOf, lineage_of, present_parts}
+use Rattle.mesa_open_files.specs.Inputs.{AreTold as AreToldInputs}
+use Rattle.mesa_open_files.specs.Spares.{AreSpareInputs, AreSpareViews, HasSpareOwn, IsSpareInput, IsSpareOf}
+use Rattle.mesa_open_files.specs.declared.merging.Task.{Task}
+use Rattle.mesa_open_files.specs.declared.merging.TaskView.{TaskView}
+use Rattle.mesa_open_files.specs.GivingBack.{own_inputs, spare_inputs}
+use Rattle.mesa_open_files.specs.Tasks.{HaveMerged, IsMerged}
+use Rattle.mesa_open_files.specs.declared.made.MadeFiles.{MadeFiles}
+use Rattle.mesa_open_files.specs.declared.merging.CompactError.{CompactError}
+use Rattle.mesa_open_files.specs.declared.merging.Spare.{Spare}
+use Rattle.mesa_open_files.proofs.Spares.{spares_are, spares_told}
 use Rattle.mesa_compact.specs.Bounded.{AreBounded}
 use Rattle.mesa_compact.specs.Damaged.{IsMergeDamage}
 use Rattle.mesa_compact.specs.Tasks.{KnownView, known_spares, known_view, known_views}

@@ -18,13 +18,13 @@ use Rattle.mesa_compact.specs.mesa_scan.Cursors.{IsInput}
 use Rattle.mesa_merge.specs.Faults.{HaveFaultCause, NoneFell, SomeRose, faults_of}
 use Rattle.mesa_merge.specs.Inputs.{AreInputs, knowns_of}
 use Rattle.mesa_merge.proofs.Inputs.{none_fell}
-use Rattle.mesa_tasks.specs.GivingBack.{spare_inputs}
-use Rattle.mesa_tasks.specs.Inputs.{AreInputsOf, IsMergeOf}
-use Rattle.mesa_tasks.specs.Spares.{AreSpareInputs}
-use Rattle.mesa_tasks.specs.declared.made.MadeFile.{MadeFile}
-use Rattle.mesa_tasks.specs.declared.merging.CompactError.{CompactError}
-use Rattle.mesa_tasks.specs.declared.merging.CompactError.TheVariants.{File}
-use Rattle.mesa_tasks.specs.declared.merging.Spare.{Spare}
+use Rattle.mesa_open_files.specs.GivingBack.{spare_inputs}
+use Rattle.mesa_open_files.specs.Inputs.{AreInputsOf, IsMergeOf}
+use Rattle.mesa_open_files.specs.Spares.{AreSpareInputs}
+use Rattle.mesa_open_files.specs.declared.made.MadeFile.{MadeFile}
+use Rattle.mesa_open_files.specs.declared.merging.CompactError.{CompactError}
+use Rattle.mesa_open_files.specs.declared.merging.CompactError.TheVariants.{File}
+use Rattle.mesa_open_files.specs.declared.merging.Spare.{Spare}
 use Rattle.mesa_compact.specs.Bounded.{AreBounded}
 use Rattle.mesa_compact.specs.Damaged.{IsMergeDamage}
 use Rattle.mesa_compact.specs.Writing.{HasCauses, IsReadFault, damaged_by}

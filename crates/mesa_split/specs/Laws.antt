@@ -10,15 +10,15 @@ use Rattle.mesa_schema.specs.Views.{view_columns, view_rows}
 use Rattle.mesa_compact.specs.mesa_scan.Cut.{CutsRise}
 use Rattle.mesa_merge.specs.Inputs.{Known, lifted_parts}
 use Rattle.mesa_merge.specs.Inputs.{AreTold as AreToldKnowns}
-use Rattle.mesa_tasks.specs.Inputs.{AreTold, present_parts}
-use Rattle.mesa_tasks.specs.Made.{Content, IsMadeFile}
-use Rattle.mesa_tasks.specs.Tasks.{IsMerged, MergeOnlyTo}
-use Rattle.mesa_tasks.specs.declared.made.MadeFile.{MadeFile}
-use Rattle.mesa_tasks.specs.declared.made.MadeFiles.{MadeFiles}
-use Rattle.mesa_tasks.specs.declared.made.MadeView.{MadeView}
-use Rattle.mesa_tasks.specs.declared.merging.NewDelta.{NewDelta}
-use Rattle.mesa_tasks.specs.declared.merging.Task.{Task}
-use Rattle.mesa_tasks.specs.declared.merging.TaskView.{TaskView}
+use Rattle.mesa_open_files.specs.Inputs.{AreTold, present_parts}
+use Rattle.mesa_open_files.specs.Made.{Content, IsMadeFile}
+use Rattle.mesa_open_files.specs.Tasks.{IsMerged, MergeOnlyTo}
+use Rattle.mesa_open_files.specs.declared.made.MadeFile.{MadeFile}
+use Rattle.mesa_open_files.specs.declared.made.MadeFiles.{MadeFiles}
+use Rattle.mesa_open_files.specs.declared.made.MadeView.{MadeView}
+use Rattle.mesa_open_files.specs.declared.merging.NewDelta.{NewDelta}
+use Rattle.mesa_open_files.specs.declared.merging.Task.{Task}
+use Rattle.mesa_open_files.specs.declared.merging.TaskView.{TaskView}
 use Rattle.mesa_split.specs.Parts.{ArePartsOf}
 
 -- The parts at rising cuts, one after the other, make a file's rows on every store: they have the form, and their keys rise.

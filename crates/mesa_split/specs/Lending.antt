@@ -7,8 +7,8 @@ use Rattle.mesa_delta.specs.declared.error.FileError.TheVariants.{Read}
 use Rattle.mesa_merge.specs.Damaged.{IsDamageOf}
 use Rattle.mesa_merge.specs.Faults.{HaveFaultCause, faults_of}
 use Rattle.mesa_merge.specs.Inputs.{AreInputs, AreTold, Known, knowns_of, lifted_parts}
-use Rattle.mesa_tasks.specs.declared.merging.CompactError.{CompactError}
-use Rattle.mesa_tasks.specs.declared.merging.CompactError.TheVariants.{File}
+use Rattle.mesa_open_files.specs.declared.merging.CompactError.{CompactError}
+use Rattle.mesa_open_files.specs.declared.merging.CompactError.TheVariants.{File}
 use Rattle.mesa_compact.specs.Writing.{IsReadFault}
 use Rattle.mesa_split.specs.Parts.{HasPiece}
 use Rattle.mesa_split.specs.Split.{IsFailureOf, IsGained}
@@ -16,8 +16,8 @@ use Rattle.std.specs.declared.alloc.Global.{Global}
 use Rattle.mesa_schema.specs.declared.rows.Row.{Row}
 use Rattle.mesa_delta.specs.declared.error.FileError.{FileError}
 use Rattle.mesa_delta.specs.declared.input.Input.{Input}
-use Rattle.mesa_tasks.specs.declared.merging.Spare.{Spare}
-use Rattle.mesa_tasks.specs.declared.merging.TaskView.{TaskView}
+use Rattle.mesa_open_files.specs.declared.merging.Spare.{Spare}
+use Rattle.mesa_open_files.specs.declared.merging.TaskView.{TaskView}
 use Rattle.mesa_split.specs.declared.parts.Part.{Part}
 
 -- all lists of inputs: the first part's, and then each spare's

@@ -17,9 +17,9 @@ use Rattle.mesa_answer.specs.declared.groups.Groups.{Groups}
 use Rattle.mesa_compact.specs.mesa_scan.Cursors.{IsInput}
 use Rattle.mesa_merge.specs.Inputs.{Known, knowns_of, lifted_parts}
 use Rattle.mesa_merge.specs.Sums.{sum_damage}
-use Rattle.mesa_tasks.specs.Made.{IsMadeFile}
-use Rattle.mesa_tasks.specs.declared.made.MadeFile.{MadeFile}
-use Rattle.mesa_tasks.specs.declared.merging.CompactError.{CompactError}
+use Rattle.mesa_open_files.specs.Made.{IsMadeFile}
+use Rattle.mesa_open_files.specs.declared.made.MadeFile.{MadeFile}
+use Rattle.mesa_open_files.specs.declared.merging.CompactError.{CompactError}
 use Rattle.mesa_compact.specs.Bounded.{AreBounded}
 use Rattle.mesa_compact.specs.Damaged.{BeginMerged, LeavesAmong, RowLeaves}
 use Rattle.mesa_compact.specs.Grouping.{HavePut, wanted_in}

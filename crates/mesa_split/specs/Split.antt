@@ -7,15 +7,15 @@ use Rattle.mesa_delta.specs.declared.error.FileError.{FileError}
 use Rattle.mesa_delta.specs.declared.error.FileError.TheVariants.{Read}
 use Rattle.mesa_schema.specs.Changes.{Lineage}
 use Rattle.mesa_merge.specs.Faults.{faults_of}
-use Rattle.mesa_tasks.specs.GivingBack.{task_inputs}
-use Rattle.mesa_tasks.specs.Serials.{Drafts, after_drafts}
-use Rattle.mesa_tasks.specs.Spares.{IsSpareOf}
-use Rattle.mesa_tasks.specs.Tasks.{IsMerged, IsTask}
-use Rattle.mesa_tasks.specs.declared.merging.CompactError.{CompactError}
+use Rattle.mesa_open_files.specs.GivingBack.{task_inputs}
+use Rattle.mesa_open_files.specs.Serials.{Drafts, after_drafts}
+use Rattle.mesa_open_files.specs.Spares.{IsSpareOf}
+use Rattle.mesa_open_files.specs.Tasks.{IsMerged, IsTask}
+use Rattle.mesa_open_files.specs.declared.merging.CompactError.{CompactError}
 use Rattle.mesa_compact.specs.Bounded.{IsBounded}
-use Rattle.mesa_tasks.specs.declared.made.MadeFiles.{MadeFiles}
-use Rattle.mesa_tasks.specs.declared.merging.Spare.{Spare}
-use Rattle.mesa_tasks.specs.declared.merging.Task.{Task}
+use Rattle.mesa_open_files.specs.declared.made.MadeFiles.{MadeFiles}
+use Rattle.mesa_open_files.specs.declared.merging.Spare.{Spare}
+use Rattle.mesa_open_files.specs.declared.merging.Task.{Task}
 use Rattle.mesa_compact.specs.Damaged.{IsMergeDamage}
 use Rattle.mesa_compact.specs.Tasks.{AreNumbered, IsFilesDamage, IsSameTask}
 use Rattle.mesa_compact.specs.Writing.{HasCauses, damaged_by}

@@ -8,7 +8,7 @@ use Rattle.mesa_delta.specs.declared.writer.DeltaWriter.{DeltaWriter}
 use Rattle.mesa_answer.specs.Answering.{KeepsSums}
 use Rattle.mesa_answer.specs.declared.groups.Groups.{Groups}
 use Rattle.mesa_merge.specs.Sums.{sum_damage}
-use Rattle.mesa_tasks.specs.declared.merging.CompactError.{CompactError}
+use Rattle.mesa_open_files.specs.declared.merging.CompactError.{CompactError}
 use Rattle.mesa_compact.specs.Damaged.{LeavesAmong, RowLeaves}
 use Rattle.mesa_compact.specs.Grouping.{HavePut, wanted_in}
 use Rattle.mesa_compact.specs.Writing.{HasCauses, damaged_by}

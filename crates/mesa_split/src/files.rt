@@ -17,7 +17,7 @@ use mesa_delta::DeltaWriter;
 use mesa_disk::{Bench, Draft, FileReader, Made};
 use mesa_file::FileId;
 use mesa_schema::{KeyList, Schema};
-use mesa_tasks::{CompactError, MadeFile};
+use mesa_open_files::{CompactError, MadeFile};
 use std::alloc::Global;
 use std::thread::Threads;
 

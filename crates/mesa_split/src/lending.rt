@@ -5,7 +5,7 @@ ghost use Rattle.mesa_split.specs.Lending.{AreEmpty, AreLent, lists_in, lists_of
 use crate::parts::Part;
 use mesa_delta::{FileError, Input};
 use mesa_disk::FileReader;
-use mesa_tasks::Spare;
+use mesa_open_files::Spare;
 use std::alloc::{AllocError, Global};
 use std::collections::VecDeque;
 use std::mem;

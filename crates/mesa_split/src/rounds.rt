@@ -24,7 +24,7 @@ use mesa_disk::{Draft, DraftError, FileReader, Made};
 use mesa_file::FileId;
 use mesa_key::KeyBytes;
 use mesa_schema::{KeyList, Schema};
-use mesa_tasks::CompactError;
+use mesa_open_files::CompactError;
 use std::alloc::Global;
 use std::mem;
 use std::thread::{Threads, join_mut};

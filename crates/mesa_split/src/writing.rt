@@ -19,7 +19,7 @@ use mesa_compact::{put_all, sum_fault};
 use mesa_delta::{DeltaWriter, FileError};
 use mesa_disk::{Draft, Made};
 use mesa_file::FileId;
-use mesa_tasks::CompactError;
+use mesa_open_files::CompactError;
 use std::alloc::Global;
 
 /// Gives a writer the rows of more parts, one part after the other, and puts them into the groups. A total that leaves its type is told of this file.

@@ -13,11 +13,11 @@ use Rattle.mesa_commit.specs.Images.{Has, Shows, Stands}
 use Rattle.mesa_commit.specs.Restated.{TakesOver, OldOrRestated}
 use Rattle.mesa_commit.proofs.Files.{has_changed}
 use Rattle.mesa_commit.proofs.Calls.{behind_changed}
-use Rattle.mesa_image_spec.specs.Catalog.{Catalog}
-use Rattle.mesa_image_spec.specs.Fitting.{shelved}
-use Rattle.mesa_image_spec.specs.Contents.{Rows, kept_of}
-use Rattle.mesa_image_spec.specs.Sound.{wants, StandsFor}
-use Rattle.mesa_image_spec.specs.Held.{IsHeld}
+use Rattle.mesa_store_spec.specs.Catalog.{Catalog}
+use Rattle.mesa_store_spec.specs.Fitting.{live_files}
+use Rattle.mesa_store_spec.specs.Contents.{Rows, kept_of}
+use Rattle.mesa_store_spec.specs.Sound.{wants, StandsFor}
+use Rattle.mesa_store_spec.specs.Held.{IsHeld}
 use Rattle.mesa_store.specs.Store.{IsFound, Restates, StatesIfAny}
 use Rattle.mesa_store.proofs.Joined.{shows_stands}
 
@@ -52,14 +52,14 @@ module _ (live : Area) (bodies : List (List ℕ)) (end : ℕ) (c : Catalog) (row
     journal : (x : Image) → s1.told ≡ Some x → HasJournal x live bodies end
     journal x is = found.journal x (sym same ∙ is)
 
-    files : (x : Image) → s1.told ≡ Some x → Has (wants rows (shelved c)) x
+    files : (x : Image) → s1.told ≡ Some x → Has (wants rows (live_files c)) x
     files x is = found.files x (sym same ∙ is)
 
     -- the area has records or a gate
     pub held : ((x : Image) → s1.told ≡ Some x → 1 < length (area_of live x)) → IsHeld s1 live bodies end c rows
-    held long = record { bytes = found.bytes; records = found.records; stocked = found.stocked; stands = record { read = read; left = λ x l. read x (durable x l) } }
+    held long = record { bytes = found.bytes; records = found.records; sound_rows = found.sound_rows; stands = record { read = read; left = λ x l. read x (durable x l) } }
       where
-        read : (x : Image) → s1.told ≡ Some x → Shows live bodies end (wants rows (shelved c)) x
+        read : (x : Image) → s1.told ≡ Some x → Shows live bodies end (wants rows (live_files c)) x
         read x is = record { journal = long_journal (area_of live x) bodies end (journal x is).whole (long x is); behind = (journal x is).behind; has = files x is }
 
     -- it has none
@@ -87,8 +87,8 @@ module _ (live : Area) (bodies : List (List ℕ)) (end : ℕ) (c : Catalog) (row
               end = here.0;
               journal = record { whole = here.1; behind = behind_changed live bodies _ from.0 x from.2 was.behind };
               records = found.records;
-              files = has_changed (wants rows (shelved c)) live _ from.0 x from.2 (files from.0 told);
-              rows_are = found.stocked;
+              files = has_changed (wants rows (live_files c)) live _ from.0 x from.2 (files from.0 told);
+              rows_are = found.sound_rows;
             };
             same = refl;
           }
@@ -99,9 +99,9 @@ module _ (live : Area) (bodies : List (List ℕ)) (end : ℕ) (c : Catalog) (row
 
       -- once it is written
       pub held_gated : (s2 : Story) → IsSettled s2 live [] 0 → Steps (AnyChange live) s1.told s2.told → ((x : Image) → s2.may_leave x → s2.told ≡ Some x) → IsHeld s2 live bodies end c rows
-      held_gated s2 settled changed now = record { bytes = found.bytes; records = found.records; stocked = found.stocked; stands = record { read = read; left = λ x l. read x (now x l) } }
+      held_gated s2 settled changed now = record { bytes = found.bytes; records = found.records; sound_rows = found.sound_rows; stands = record { read = read; left = λ x l. read x (now x l) } }
         where
-          read : (x : Image) → s2.told ≡ Some x → Shows live bodies end (wants rows (shelved c)) x
+          read : (x : Image) → s2.told ≡ Some x → Shows live bodies end (wants rows (live_files c)) x
           read x is =
               let from = changed.back x is in
               let was = journal from.0 from.1 in
@@ -110,7 +110,7 @@ module _ (live : Area) (bodies : List (List ℕ)) (end : ℕ) (c : Catalog) (row
               record {
                 journal = subst (λ b. Closed (area_of live x) b end) (sym none) (subst (λ e. Closed (area_of live x) [] e) (sym at) (settled.read x is));
                 behind = behind_changed live bodies _ from.0 x from.2 was.behind;
-                has = has_changed (wants rows (shelved c)) live _ from.0 x from.2 (files from.0 from.1);
+                has = has_changed (wants rows (live_files c)) live _ from.0 x from.2 (files from.0 from.1);
               }
 
 -- a sync, and a change of the area
@@ -126,17 +126,17 @@ told_synced live old one same = record {
 -- ---- a checkpoint
 
 module _ (live : Area) (bodies : List (List ℕ)) (end : ℕ) (c : Catalog) (rows : Rows) (body : List ℕ) (s0 : Story) (r : Restates s0 live bodies end c rows body) where
-  pub takes_over : TakesOver s0 live bodies end (wants rows (shelved c)) body
+  pub takes_over : TakesOver s0 live bodies end (wants rows (live_files c)) body
   takes_over = record { stands = r.held.stands; alone = r.alone; leads = r.leads }
 
   -- whichever journal an image has, it stands for the same
-  pub either_stands : (x : Image) → OldOrRestated live bodies end (wants rows (shelved c)) body x → StandsFor x (kept_of rows c)
+  pub either_stands : (x : Image) → OldOrRestated live bodies end (wants rows (live_files c)) body x → StandsFor x (kept_of rows c)
   either_stands x is =
-      ⊎_elim (λ old. shows_stands live bodies end c rows x r.held.records r.held.stocked old)
-      (λ new. shows_stands (other_of live) (body ∷ []) (length body + 5) c rows x r.states r.held.stocked new) is
+      ⊎_elim (λ old. shows_stands live bodies end c rows x r.held.records r.held.sound_rows old)
+      (λ new. shows_stands (other_of live) (body ∷ []) (length body + 5) c rows x r.states r.held.sound_rows new) is
 
-  pub held_restated : (s1 : Story) → Stands s1 (other_of live) (body ∷ []) (length body + 5) (wants rows (shelved c)) → IsHeld s1 (other_of live) (body ∷ []) (length body + 5) c rows
-  held_restated s1 stands = record { bytes = (r.bytes, tt); records = r.states; stocked = r.held.stocked; stands = stands }
+  pub held_restated : (s1 : Story) → Stands s1 (other_of live) (body ∷ []) (length body + 5) (wants rows (live_files c)) → IsHeld s1 (other_of live) (body ∷ []) (length body + 5) c rows
+  held_restated s1 stands = record { bytes = (r.bytes, tt); records = r.states; sound_rows = r.held.sound_rows; stands = stands }
 
 -- ---- an opening that carries on
 

@@ -2,30 +2,30 @@
 use Rattle.std.proofs.Common.{◌≡◌, ◌≢◌, inl, inr, ⊎_elim, ℕ, ◌+◌, List, [], ◌∷◌, ◌++◌, map, length, Option, Some, Bool, true, false, not, ◌&&◌, ◌||◌, ◌==◌, refl, sym, ◌∙◌, ap, subst, arith}
 use Rattle.std.proofs.lemmas.Bool.Decides.{nat_tests}
 use Rattle.std.specs.List.{AllByRecursion}
-use Rattle.mesa_image_spec.specs.mesa_key.Spelling.{AreBytes}
+use Rattle.mesa_store_spec.specs.mesa_key.Spelling.{AreBytes}
 use Rattle.mesa_disk.specs.Image.{Image}
 use Rattle.mesa_disk.specs.Files.{IsNoneOf}
 use Rattle.mesa_disk.specs.Story.{Story}
 use Rattle.mesa_disk.specs.declared.area.Area.{Area}
 use Rattle.mesa_commit.specs.Images.{ids_of, Shows, Stands}
 use Rattle.mesa_commit.specs.Turn.{AreApart, Brings, OldOrNew}
-use Rattle.mesa_image_spec.specs.mesa_record.declared.record.Record.{Record}
-use Rattle.mesa_image_spec.specs.Catalog.{Catalog, applied}
-use Rattle.mesa_image_spec.specs.Fitting.{Shelved, fits, kind_fits, shelved, brought, shelved_id, are_new_ids, has_number, run_of_id}
-use Rattle.mesa_image_spec.specs.Journaled.{catalog}
-use Rattle.mesa_image_spec.specs.Contents.{Rows, kept_of}
-use Rattle.mesa_image_spec.specs.Sound.{wants, AreStocked, StandsFor}
-use Rattle.mesa_image_spec.specs.Held.{IsHeld, IsUnnamed, StandsForEither}
-use Rattle.mesa_image_spec.proofs.OneMore.{catalog_more}
+use Rattle.mesa_store_spec.specs.mesa_record.declared.record.Record.{Record}
+use Rattle.mesa_store_spec.specs.Catalog.{Catalog, applied}
+use Rattle.mesa_store_spec.specs.Fitting.{LiveFile, fits, kind_fits, live_files, brought, live_id, are_new_ids, has_number, run_of_id}
+use Rattle.mesa_store_spec.specs.Journaled.{catalog}
+use Rattle.mesa_store_spec.specs.Contents.{Rows, kept_of}
+use Rattle.mesa_store_spec.specs.Sound.{wants, HaveSoundRows, StandsFor}
+use Rattle.mesa_store_spec.specs.Held.{IsHeld, IsUnnamed, StandsForEither}
+use Rattle.mesa_store_spec.proofs.OneMore.{catalog_more}
 use Rattle.mesa_store.specs.Store.{Writes}
 
 -- an image that shows a catalogue's bodies and files stands for what the catalogue stands for
-pub shows_stands : (live : Area) (bodies : List (List ℕ)) (end : ℕ) (c : Catalog) (rows : Rows) (i : Image) → catalog live bodies ≡ Some c → AreStocked rows c → Shows live bodies end (wants rows (shelved c)) i → StandsFor i (kept_of rows c)
-shows_stands live bodies end c rows i records stocked is = record {
+pub shows_stands : (live : Area) (bodies : List (List ℕ)) (end : ℕ) (c : Catalog) (rows : Rows) (i : Image) → catalog live bodies ≡ Some c → HaveSoundRows rows c → Shows live bodies end (wants rows (live_files c)) i → StandsFor i (kept_of rows c)
+shows_stands live bodies end c rows i records sound_rows is = record {
   bodies = bodies;
   catalogue = c;
   rows = rows;
-  is = record { live = live; end = end; journal = record { whole = inr is.journal; behind = is.behind }; records = records; files = is.has; rows_are = stocked };
+  is = record { live = live; end = end; journal = record { whole = inr is.journal; behind = is.behind }; records = records; files = is.has; rows_are = sound_rows };
   same = refl;
 }
 
@@ -78,45 +78,45 @@ apart_turned xs (y ∷ ys) apart = one_more y ys xs (none_turned xs y apart.0) (
 
 -- ---- ids of files
 
-wants_ids : (rows : Rows) (files : List Shelved) → ids_of (wants rows files) ≡ map shelved_id files
+wants_ids : (rows : Rows) (files : List LiveFile) → ids_of (wants rows files) ≡ map live_id files
 wants_ids rows [] = refl
 wants_ids rows (x ∷ files) = ap (λ ids. x.file.id ∷ ids) (wants_ids rows files)
 
-unnamed_ids : (id : ℕ) (files : List Shelved) → AllByRecursion (λ (x : Shelved). x.file.id ≢ id) files → IsNoneOf (map shelved_id files) id
+unnamed_ids : (id : ℕ) (files : List LiveFile) → AllByRecursion (λ (x : LiveFile). x.file.id ≢ id) files → IsNoneOf (map live_id files) id
 unnamed_ids id [] all = tt
 unnamed_ids id (x ∷ files) all = (all.0, unnamed_ids id files all.1)
 
-none_named : (c : Catalog) (dropped : List ℕ) → AllByRecursion (IsUnnamed c) dropped → AreApart (map shelved_id (shelved c)) dropped
+none_named : (c : Catalog) (dropped : List ℕ) → AllByRecursion (IsUnnamed c) dropped → AreApart (map live_id (live_files c)) dropped
 none_named c [] all = tt
-none_named c (id ∷ dropped) all = (unnamed_ids id (shelved c) all.0, none_named c dropped all.1)
+none_named c (id ∷ dropped) all = (unnamed_ids id (live_files c) all.0, none_named c dropped all.1)
 
 -- ---- a record that is written
 
 module _ (s0 : Story) (live : Area) (bodies : List (List ℕ)) (end : ℕ) (c : Catalog) (rows : Rows) (r : Record) (body : List ℕ) (made : List (ℕ × Option (List ℕ))) (dropped : List ℕ) (writes : Writes s0 live bodies end c rows r body made dropped) where
-  brings_new : are_new_ids c.run (map shelved_id (shelved c)) (map shelved_id (brought c r)) ≡ true
+  brings_new : are_new_ids c.run (map live_id (live_files c)) (map live_id (brought c r)) ≡ true
   unfolding fits
-  brings_new = (both_true (kind_fits c r) (are_new_ids c.run (map shelved_id (shelved c)) (map shelved_id (brought c r))) writes.step.fitting).1
+  brings_new = (both_true (kind_fits c r) (are_new_ids c.run (map live_id (live_files c)) (map live_id (brought c r))) writes.step.fitting).1
 
-  pub brings : Brings s0 live bodies end (wants rows (shelved c)) (wants rows (brought c r)) (wants rows (shelved (applied c r))) dropped
+  pub brings : Brings s0 live bodies end (wants rows (live_files c)) (wants rows (brought c r)) (wants rows (live_files (applied c r))) dropped
   brings = record {
     stands = writes.held.stands;
-    apart = subst (λ ids. AreApart ids (ids_of (wants rows (shelved c)))) (sym (wants_ids rows (brought c r)))
-        (subst (AreApart (map shelved_id (brought c r))) (sym (wants_ids rows (shelved c))) (apart_turned (map shelved_id (shelved c)) (map shelved_id (brought c r)) (new_ids c.run (map shelved_id (shelved c)) (map shelved_id (brought c r)) brings_new)));
+    apart = subst (λ ids. AreApart ids (ids_of (wants rows (live_files c)))) (sym (wants_ids rows (brought c r)))
+        (subst (AreApart (map live_id (brought c r))) (sym (wants_ids rows (live_files c))) (apart_turned (map live_id (live_files c)) (map live_id (brought c r)) (new_ids c.run (map live_id (live_files c)) (map live_id (brought c r)) brings_new)));
     there = λ i new old. writes.step.grows i old new;
-    gone = subst (AreApart dropped) (sym (wants_ids rows (shelved (applied c r)))) (apart_turned (map shelved_id (shelved (applied c r))) dropped (none_named (applied c r) dropped writes.unnamed));
+    gone = subst (AreApart dropped) (sym (wants_ids rows (live_files (applied c r)))) (apart_turned (map live_id (live_files (applied c r))) dropped (none_named (applied c r) dropped writes.unnamed));
   }
 
   records_more : catalog live (bodies ++ body ∷ []) ≡ Some (applied c r)
   records_more = catalog_more live bodies body c r writes.held.records writes.step.reads writes.step.fitting
 
-  pub either : (i : Image) → OldOrNew live bodies end (wants rows (shelved c)) body (wants rows (shelved (applied c r))) i → StandsForEither (kept_of rows c) (kept_of rows (applied c r)) i
+  pub either : (i : Image) → OldOrNew live bodies end (wants rows (live_files c)) body (wants rows (live_files (applied c r))) i → StandsForEither (kept_of rows c) (kept_of rows (applied c r)) i
   either i shows =
-      ⊎_elim (λ old. inl (shows_stands live bodies end c rows i writes.held.records writes.held.stocked old))
-      (λ new. inr (shows_stands live (bodies ++ body ∷ []) (end + length body + 5) (applied c r) rows i records_more writes.step.stocked new)) shows
+      ⊎_elim (λ old. inl (shows_stands live bodies end c rows i writes.held.records writes.held.sound_rows old))
+      (λ new. inr (shows_stands live (bodies ++ body ∷ []) (end + length body + 5) (applied c r) rows i records_more writes.step.sound_rows new)) shows
 
   bytes_more : (xs : List (List ℕ)) → AllByRecursion AreBytes xs → AllByRecursion AreBytes (xs ++ body ∷ [])
   bytes_more [] all = (writes.step.bytes, tt)
   bytes_more (x ∷ xs) all = (all.0, bytes_more xs all.1)
 
-  pub held_on : (now : Story) → Stands now live (bodies ++ body ∷ []) (end + length body + 5) (wants rows (shelved (applied c r))) → IsHeld now live (bodies ++ body ∷ []) (end + length body + 5) (applied c r) rows
-  held_on now stands = record { bytes = bytes_more bodies writes.held.bytes; records = records_more; stocked = writes.step.stocked; stands = stands }
+  pub held_on : (now : Story) → Stands now live (bodies ++ body ∷ []) (end + length body + 5) (wants rows (live_files (applied c r))) → IsHeld now live (bodies ++ body ∷ []) (end + length body + 5) (applied c r) rows
+  held_on now stands = record { bytes = bytes_more bodies writes.held.bytes; records = records_more; sound_rows = writes.step.sound_rows; stands = stands }

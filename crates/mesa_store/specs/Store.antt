@@ -1,28 +1,28 @@
 -- A disk on which a store was found, and a record that is written to one.
 use Rattle.std.specs.Prelude.{◌≡◌, ℕ, ◌+◌, List, [], ◌∷◌, length, Option, None, Some, ⊤}
 use Rattle.std.specs.List.{AllByRecursion}
-use Rattle.mesa_image_spec.specs.mesa_key.Spelling.{AreBytes}
+use Rattle.mesa_store_spec.specs.mesa_key.Spelling.{AreBytes}
 use Rattle.mesa_disk.specs.Image.{Image}
 use Rattle.mesa_disk.specs.Story.{Story}
 use Rattle.mesa_disk.specs.declared.area.Area.{Area}
 use Rattle.mesa_journal.specs.Areas.{HasJournal, Leads, other_of}
 use Rattle.mesa_commit.specs.Images.{Has}
 use Rattle.mesa_commit.specs.Turn.{told_files}
-use Rattle.mesa_image_spec.specs.mesa_record.declared.record.Record.{Record}
-use Rattle.mesa_image_spec.specs.Catalog.{Catalog, applied}
-use Rattle.mesa_image_spec.specs.Fitting.{brought, shelved}
-use Rattle.mesa_image_spec.specs.Journaled.{catalog}
-use Rattle.mesa_image_spec.specs.Contents.{Rows, kept_of}
-use Rattle.mesa_image_spec.specs.Sound.{wants, AreStocked, StandsFor}
-use Rattle.mesa_image_spec.specs.Held.{IsHeld, IsStep, IsUnnamed}
+use Rattle.mesa_store_spec.specs.mesa_record.declared.record.Record.{Record}
+use Rattle.mesa_store_spec.specs.Catalog.{Catalog, applied}
+use Rattle.mesa_store_spec.specs.Fitting.{brought, live_files}
+use Rattle.mesa_store_spec.specs.Journaled.{catalog}
+use Rattle.mesa_store_spec.specs.Contents.{Rows, kept_of}
+use Rattle.mesa_store_spec.specs.Sound.{wants, HaveSoundRows, StandsFor}
+use Rattle.mesa_store_spec.specs.Held.{IsHeld, IsStep, IsUnnamed}
 
 -- What a read gives is sound, with these bodies, this catalogue and these rows, and each image that a crash may leave stands for the same.
 pub record IsFound (story : Story) (live : Area) (bodies : List (List ℕ)) (end : ℕ) (c : Catalog) (rows : Rows) : Type 0 where
   pub bytes : AllByRecursion AreBytes bodies
   pub records : catalog live bodies ≡ Some c
-  pub stocked : AreStocked rows c
+  pub sound_rows : HaveSoundRows rows c
   pub journal : (i : Image) → story.told ≡ Some i → HasJournal i live bodies end
-  pub files : (i : Image) → story.told ≡ Some i → Has (wants rows (shelved c)) i
+  pub files : (i : Image) → story.told ≡ Some i → Has (wants rows (live_files c)) i
   pub left : (x : Image) → story.may_leave x → StandsFor x (kept_of rows c)
 
 -- A record is to be written: the disk holds a catalogue, which the record fits, the files that are made are those that it brings, and none that is dropped is named after it.

@@ -4,10 +4,10 @@ ghost use Rattle.mesa_disk.specs.Image.{Image, area_of, file_of};
 ghost use Rattle.mesa_disk.specs.Story.{Spans, Steps};
 ghost use Rattle.mesa_disk.specs.declared.area.Area.{Area};
 ghost use Rattle.mesa_journal.specs.Areas.{holds_body, other_of};
-ghost use Rattle.mesa_image_spec.specs.Catalog.{Catalog};
-ghost use Rattle.mesa_image_spec.specs.Contents.{Rows, kept_of};
-ghost use Rattle.mesa_image_spec.specs.Sound.{StandsFor};
-ghost use Rattle.mesa_image_spec.specs.Held.{IsHeld};
+ghost use Rattle.mesa_store_spec.specs.Catalog.{Catalog};
+ghost use Rattle.mesa_store_spec.specs.Contents.{Rows, kept_of};
+ghost use Rattle.mesa_store_spec.specs.Sound.{StandsFor};
+ghost use Rattle.mesa_store_spec.specs.Held.{IsHeld};
 ghost use Rattle.mesa_store.specs.Store.{IsFound, StatesIfAny, area_after, bodies_after, end_after};
 
 use crate::{restate, settle};

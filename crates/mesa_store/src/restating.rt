@@ -3,10 +3,10 @@ ghost use Rattle.mesa_commit.specs.mesa_io.Causes.{HasCause};
 ghost use Rattle.mesa_disk.specs.Image.{AnyChange, Image, area_of};
 ghost use Rattle.mesa_disk.specs.Story.{Spans, Steps};
 ghost use Rattle.mesa_journal.specs.Areas.{holds_body, other_of};
-ghost use Rattle.mesa_image_spec.specs.Catalog.{Catalog};
-ghost use Rattle.mesa_image_spec.specs.Contents.{Rows, kept_of};
-ghost use Rattle.mesa_image_spec.specs.Sound.{StandsFor};
-ghost use Rattle.mesa_image_spec.specs.Held.{IsHeld};
+ghost use Rattle.mesa_store_spec.specs.Catalog.{Catalog};
+ghost use Rattle.mesa_store_spec.specs.Contents.{Rows, kept_of};
+ghost use Rattle.mesa_store_spec.specs.Sound.{StandsFor};
+ghost use Rattle.mesa_store_spec.specs.Held.{IsHeld};
 ghost use Rattle.mesa_store.specs.Store.{Restates};
 
 use mesa_disk::{Area, Disk, DiskFailed, Made};

@@ -1,15 +1,15 @@
 ghost use Rattle.std.specs.Prelude.{◌≡◌, ◌+◌, ◌<◌, ◌≤◌, ℕ, List, [], ◌∷◌, ◌++◌, length, IfOk, OnOk, Some};
 ghost use Rattle.mesa_commit.specs.mesa_io.Causes.{HasCause, Rose};
-ghost use Rattle.mesa_image_spec.specs.mesa_key.Spelling.{AreBytes};
+ghost use Rattle.mesa_store_spec.specs.mesa_key.Spelling.{AreBytes};
 ghost use Rattle.mesa_disk.specs.Image.{Image};
 ghost use Rattle.mesa_disk.specs.Files.{files_of, AreAbsent, AreGone, AreThere, HasDistinctIds};
 ghost use Rattle.mesa_disk.specs.Story.{Spans, Steps};
 ghost use Rattle.mesa_disk.specs.declared.area.Area.{Area};
 ghost use Rattle.mesa_commit.specs.Turn.{AreApart, MovesOnly, made_ids};
-ghost use Rattle.mesa_image_spec.specs.mesa_record.declared.record.Record.{Record};
-ghost use Rattle.mesa_image_spec.specs.Catalog.{Catalog, applied};
-ghost use Rattle.mesa_image_spec.specs.Contents.{Rows, kept_of};
-ghost use Rattle.mesa_image_spec.specs.Held.{IsHeld, StandsForEither};
+ghost use Rattle.mesa_store_spec.specs.mesa_record.declared.record.Record.{Record};
+ghost use Rattle.mesa_store_spec.specs.Catalog.{Catalog, applied};
+ghost use Rattle.mesa_store_spec.specs.Contents.{Rows, kept_of};
+ghost use Rattle.mesa_store_spec.specs.Held.{IsHeld, StandsForEither};
 ghost use Rattle.mesa_store.specs.Store.{Writes};
 
 use mesa_commit::commit_turn;

@@ -5,25 +5,25 @@ use Rattle.std.specs.List.{concat, cons_option, enumerate_from, list_all, list_a
 use Rattle.std.proofs.lemmas.Bool.{eq-eqb}
 use Rattle.std.proofs.lemmas.List.{length-map, length_push}
 use Rattle.mesa_list.specs.Checks.{◌>>=◌, ◌>>◌, refused_as}
-use Rattle.mesa_plans.specs.mesa_key.declared.KeyType.{KeyType}
-use Rattle.mesa_plans.specs.mesa_key.declared.KeyValue.{KeyValue}
-use Rattle.mesa_plans.specs.mesa_key.Spelling.{columns_of, key_of, value_spelling}
-use Rattle.mesa_plans.specs.mesa_schema.declared.columns.KeyColumn.{KeyColumn}
-use Rattle.mesa_plans.specs.mesa_schema.declared.columns.ValueColumn.{ValueColumn}
-use Rattle.mesa_plans.specs.mesa_schema.declared.rows.Row.{Row}
-use Rattle.mesa_plans.specs.mesa_schema.Columns.{Columns, aggs_of, chosen, kinds_of}
-use Rattle.mesa_plans.specs.mesa_schema.Folded.{folded, regrouped}
-use Rattle.mesa_plans.specs.mesa_schema.Rows.{AreRowsOf, IsRowOf, keys_rise}
-use Rattle.mesa_plans.specs.mesa_schema.Views.{is_replace}
-use Rattle.mesa_plans.proofs.mesa_schema.GroupKeys.{columns_spelled, concat_spelled}
+use Rattle.mesa_pick_files.specs.mesa_key.declared.KeyType.{KeyType}
+use Rattle.mesa_pick_files.specs.mesa_key.declared.KeyValue.{KeyValue}
+use Rattle.mesa_pick_files.specs.mesa_key.Spelling.{columns_of, key_of, value_spelling}
+use Rattle.mesa_pick_files.specs.mesa_schema.declared.columns.KeyColumn.{KeyColumn}
+use Rattle.mesa_pick_files.specs.mesa_schema.declared.columns.ValueColumn.{ValueColumn}
+use Rattle.mesa_pick_files.specs.mesa_schema.declared.rows.Row.{Row}
+use Rattle.mesa_pick_files.specs.mesa_schema.Columns.{Columns, aggs_of, chosen, kinds_of}
+use Rattle.mesa_pick_files.specs.mesa_schema.Folded.{folded, regrouped}
+use Rattle.mesa_pick_files.specs.mesa_schema.Rows.{AreRowsOf, IsRowOf, keys_rise}
+use Rattle.mesa_pick_files.specs.mesa_schema.Views.{is_replace}
+use Rattle.mesa_pick_files.proofs.mesa_schema.GroupKeys.{columns_spelled, concat_spelled}
 use Rattle.mesa_filter.specs.Asked.{Asked, asked_of, filter_refusal, places_below, refuse_replace, replace_asked}
 use Rattle.mesa_filter.specs.Filter.{filter_of, filtered}
 use Rattle.mesa_filter.specs.Query.{built, query_of}
 use Rattle.mesa_filter.specs.Resume.{resume_of}
 use Rattle.mesa_filter.specs.declared.words.QueryError.{QueryError}
 use Rattle.mesa_filter.specs.declared.words.QueryWords.{QueryWords}
-use Rattle.mesa_image_spec.proofs.Rising.{folds_itself}
-use Rattle.mesa_plans.specs.mesa_model.Query.{answer_rows}
+use Rattle.mesa_store_spec.proofs.Rising.{folds_itself}
+use Rattle.mesa_pick_files.specs.mesa_model.Query.{answer_rows}
 use Rattle.mesa_store_digest.specs.Latest.{all_asked}
 
 -- ---- what is asked

@@ -9,24 +9,24 @@ use Rattle.mesa_query.specs.mesa_scan.Cursors.{reader_in}
 use Rattle.mesa_digest.specs.Digests.{digests_of}
 use Rattle.mesa_digest.specs.Digests as digest
 use Rattle.mesa_digest.specs.declared.digesting.DigestPair.{DigestPair}
-use Rattle.mesa_plans.specs.mesa_schema.declared.rows.Row.{Row}
-use Rattle.mesa_plans.specs.mesa_schema.Columns.{Columns, aggs_of}
-use Rattle.mesa_plans.specs.mesa_schema.Rows.{AreRowsOf, keys_rise}
-use Rattle.mesa_plans.proofs.mesa_schema.RisingRows.{folded_rise}
+use Rattle.mesa_pick_files.specs.mesa_schema.declared.rows.Row.{Row}
+use Rattle.mesa_pick_files.specs.mesa_schema.Columns.{Columns, aggs_of}
+use Rattle.mesa_pick_files.specs.mesa_schema.Rows.{AreRowsOf, keys_rise}
+use Rattle.mesa_pick_files.proofs.mesa_schema.RisingRows.{folded_rise}
 use Rattle.mesa_filter.specs.Asked.{Asked, places_below}
-use Rattle.mesa_plans.specs.mesa_model.Query.{answer_rows}
-use Rattle.mesa_plans.specs.mesa_model.Relations.{relation_columns, relation_content}
-use Rattle.mesa_plans.specs.mesa_answer.Answering.{grouped_columns}
-use Rattle.mesa_image_spec.specs.Catalog.{Catalog}
-use Rattle.mesa_plans.specs.mesa_merge.Faults.{SomeRose, faults_of}
-use Rattle.mesa_plans.specs.mesa_merge.Inputs.{AreTold, knowns_of}
-use Rattle.mesa_plans.specs.Told.{TellContent}
+use Rattle.mesa_pick_files.specs.mesa_model.Query.{answer_rows}
+use Rattle.mesa_pick_files.specs.mesa_model.Relations.{relation_columns, relation_content}
+use Rattle.mesa_pick_files.specs.mesa_answer.Answering.{grouped_columns}
+use Rattle.mesa_store_spec.specs.Catalog.{Catalog}
+use Rattle.mesa_pick_files.specs.mesa_merge.Faults.{SomeRose, faults_of}
+use Rattle.mesa_pick_files.specs.mesa_merge.Inputs.{AreTold, knowns_of}
+use Rattle.mesa_pick_files.specs.Told.{TellContent}
 use Rattle.mesa_query.specs.Files.{inputs_in}
 use Rattle.mesa_query.specs.Relation.{parts_pinned}
 use Rattle.mesa_query.specs.Whole.{whole_over}
-use Rattle.mesa_tasks.specs.GivingBack.{GivesBack, SomeFailed}
-use Rattle.mesa_tasks.specs.declared.querying.Pinned.{Pinned}
-use Rattle.mesa_image_spec.specs.Contents.{kept_of}
+use Rattle.mesa_open_files.specs.GivingBack.{GivesBack, SomeFailed}
+use Rattle.mesa_open_files.specs.declared.querying.Pinned.{Pinned}
+use Rattle.mesa_store_spec.specs.Contents.{kept_of}
 use Rattle.mesa_store_digest.specs.Latest.{HasContent, IsLatest, all_asked}
 use Rattle.mesa_store_digest.specs.Looked.{AreDigests, IsDigestOf}
 use Rattle.mesa_store_digest.proofs.AllAsked.{answer_itself, chosen_below}

@@ -5,43 +5,43 @@ use Rattle.std.proofs.lemmas.Bool.{ltb-false, ltb-true}
 use Rattle.std.proofs.lemmas.Bool.Decides.{eqb_tells}
 use Rattle.std.proofs.lemmas.Simd.{map-map}
 use Rattle.mesa_recover.specs.mesa_io.Causes.{Rose, last}
-use Rattle.mesa_tasks.specs.mesa_file.declared.damage.Damage.{Damage}
+use Rattle.mesa_open_files.specs.mesa_file.declared.damage.Damage.{Damage}
 use Rattle.mesa_disk.specs.Story.{Story}
 use Rattle.mesa_delta.specs.declared.error.FileError.{FileError}
 use Rattle.mesa_delta.specs.declared.error.FileError.TheVariants as file_error
-use Rattle.mesa_plans.specs.mesa_schema.Columns.{Columns}
+use Rattle.mesa_pick_files.specs.mesa_schema.Columns.{Columns}
 use Rattle.mesa_filter.specs.Query.{BuiltQuery, IsQueryOf}
-use Rattle.mesa_plans.specs.mesa_model.Relations.{Relation, relation_columns, relation_content, relation_of}
-use Rattle.mesa_image_spec.specs.Catalog.{Catalog, Stock, no_stock, stock_at}
-use Rattle.mesa_image_spec.specs.Contents.{Rows, kept_of, table_of}
-use Rattle.mesa_image_spec.specs.Fitting.{delta_shelved, deltas_of}
-use Rattle.mesa_image_spec.specs.Shape.{IsCatalog, IsShaped}
-use Rattle.mesa_image_spec.specs.Sound.{IsStocked}
-use Rattle.mesa_image_spec.specs.Planned.{planned}
-use Rattle.mesa_image_spec.proofs.Lists.{all_unflat}
+use Rattle.mesa_pick_files.specs.mesa_model.Relations.{Relation, relation_columns, relation_content, relation_of}
+use Rattle.mesa_store_spec.specs.Catalog.{Catalog, TableMeta, no_meta, meta_at}
+use Rattle.mesa_store_spec.specs.Contents.{Rows, kept_of, table_of}
+use Rattle.mesa_store_spec.specs.Fitting.{delta_live, deltas_of}
+use Rattle.mesa_store_spec.specs.Shape.{IsCatalog, IsShaped}
+use Rattle.mesa_store_spec.specs.Sound.{HasSoundRows}
+use Rattle.mesa_store_spec.specs.Planned.{planned}
+use Rattle.mesa_store_spec.proofs.Lists.{all_unflat}
 use Rattle.mesa_catalog.specs.Lookups.{known_as, relation_of as place_named}
-use Rattle.mesa_catalog.proofs.Stocks.{all_at}
+use Rattle.mesa_catalog.proofs.TableMetas.{all_at}
 use Rattle.mesa_recover.specs.Opening.{IsSoundStart}
-use Rattle.mesa_plans.specs.Files.{want_in}
-use Rattle.mesa_plans.proofs.Among.{all_planned}
-use Rattle.mesa_plans.specs.Read.{IsPinnedFor, SomeUnsound, relation_read}
-use Rattle.mesa_plans.specs.Told.{TellContent}
-use Rattle.mesa_plans.proofs.Contents.{columns_found, present_contents, seen_content}
-use Rattle.mesa_plans.proofs.Given.{AreGiven, IsGiven, all_given}
-use Rattle.mesa_plans.proofs.Reading.{columns_read}
-use Rattle.mesa_plans.proofs.Telling.{content_read, pinned_content, pinned_is, stock_given}
-use Rattle.mesa_plans.proofs.There.{name_there}
-use Rattle.mesa_plans.proofs.Unsound.{seen_sound}
-use Rattle.mesa_rules.proofs.Answering.{columns_there, relation_there}
-use Rattle.mesa_rules.specs.Found.{columns_at, relation_seen}
-use Rattle.mesa_rules.specs.Seen.{known_in, known_of}
-use Rattle.mesa_rules.specs.declared.found.Found.{Found}
-use Rattle.mesa_plans.specs.mesa_table.declared.relation.Relation.{Relation as Place}
-use Rattle.mesa_rules.specs.mesa_history_spec.Rows.{no_rows}
-use Rattle.mesa_plans.specs.mesa_span.Ranges.{base_before}
-use Rattle.mesa_tasks.specs.Opening.{Counted, is_read_fault}
-use Rattle.mesa_tasks.specs.Pins.{IsPinned}
-use Rattle.mesa_tasks.specs.declared.querying.Pinned.{Pinned}
+use Rattle.mesa_pick_files.specs.Files.{want_in}
+use Rattle.mesa_pick_files.proofs.Among.{all_planned}
+use Rattle.mesa_pick_files.specs.Read.{IsPinnedFor, SomeUnsound, relation_read}
+use Rattle.mesa_pick_files.specs.Told.{TellContent}
+use Rattle.mesa_pick_files.proofs.Contents.{columns_found, present_contents, seen_content}
+use Rattle.mesa_pick_files.proofs.Given.{AreGiven, IsGiven, all_given}
+use Rattle.mesa_pick_files.proofs.Reading.{columns_read}
+use Rattle.mesa_pick_files.proofs.Telling.{content_read, pinned_content, pinned_is, meta_given}
+use Rattle.mesa_pick_files.proofs.There.{name_there}
+use Rattle.mesa_pick_files.proofs.Unsound.{seen_sound}
+use Rattle.mesa_validate.proofs.Answering.{columns_there, relation_there}
+use Rattle.mesa_validate.specs.Found.{columns_at, relation_seen}
+use Rattle.mesa_validate.specs.Seen.{known_in, known_of}
+use Rattle.mesa_validate.specs.declared.found.Found.{Found}
+use Rattle.mesa_pick_files.specs.mesa_catalog_table.declared.relation.Relation.{Relation as Place}
+use Rattle.mesa_validate.specs.mesa_history_spec.Rows.{no_rows}
+use Rattle.mesa_pick_files.specs.mesa_span.Ranges.{base_before}
+use Rattle.mesa_open_files.specs.Opening.{Counted, is_read_fault}
+use Rattle.mesa_open_files.specs.Pins.{IsPinned}
+use Rattle.mesa_open_files.specs.declared.querying.Pinned.{Pinned}
 use Rattle.mesa_store_digest.specs.Latest.{CanBeLookedAt, HasLookReason, IsLatest, all_asked, relation_named}
 use Rattle.mesa_store_digest.specs.Errors.{look_failure}
 use Rattle.mesa_store_digest.specs.declared.error.LookError.TheVariants as look_error
@@ -88,38 +88,38 @@ newest_is (suc n) version e = let same : Some version ≡ Some n = e ∙ version
 -- ---- the whole of a relation
 
 module _ {R : Type 0} (bytes : R → Option (List ℕ)) (faults : R → ℕ) (story : Story) (c : Catalog) (name : List ℕ) (f : Found) (is_catalog : IsCatalog c) (named : place_named c name ≡ Some f.relation) (newest : c.next ≡ f.query.version + 1) where
-  abbrev t : Stock
-  t = stock_at c f.relation.table
+  abbrev t : TableMeta
+  t = meta_at c f.relation.table
 
-  shaped : IsShaped c.floor c.next (stock_at c f.relation.table)
-  shaped = all_at (IsShaped c.floor c.next) c.tables f.relation.table no_stock is_catalog.tables (name_there c name f.relation named).0
+  shaped : IsShaped c.floor c.next (meta_at c f.relation.table)
+  shaped = all_at (IsShaped c.floor c.next) c.tables f.relation.table no_meta is_catalog.tables (name_there c name f.relation named).0
 
-  oldest_low : (stock_at c f.relation.table).oldest ≤ f.query.version
+  oldest_low : (meta_at c f.relation.table).oldest ≤ f.query.version
   oldest_low = elim shaped.oldest [ inl below ↦ omega (arith, newest, below) | inr none ↦ omega (arith, newest, none.1) ]
 
   -- From a sound start none of its files is unsound.
-  pub none_unsound : (rows : Rows) → IsSoundStart story c rows → SomeUnsound story.told (map want_in (relation_read (stock_at c f.relation.table).lineage f.relation.view (planned (stock_at c f.relation.table) f.query.version))) → ⊥
+  pub none_unsound : (rows : Rows) → IsSoundStart story c rows → SomeUnsound story.told (map want_in (relation_read (meta_at c f.relation.table).lineage f.relation.view (planned (meta_at c f.relation.table) f.query.version))) → ⊥
   none_unsound rows start unsound =
       let at = name_there c name f.relation named in
-      let given = stock_given rows c start.image f.relation.table start.sound.rows_are start.sound.files at.0 in
+      let given = meta_given rows c start.image f.relation.table start.sound.rows_are start.sound.files at.0 in
       seen_sound rows start.image story.told start.told (relation_read t.lineage f.relation.view (planned t f.query.version))
-      (all_given rows start.image t.lineage f.relation.view at.1 (planned t f.query.version) (all_planned (AreGiven rows start.image t.lineage) t (all_unflat (IsGiven rows start.image) (delta_shelved t.lineage) (deltas_of t) given) f.query.version)) unsound
+      (all_given rows start.image t.lineage f.relation.view at.1 (planned t f.query.version) (all_planned (AreGiven rows start.image t.lineage) t (all_unflat (IsGiven rows start.image) (delta_live t.lineage) (deltas_of t) given) f.query.version)) unsound
 
-  module _ (p : Pinned R) (files : IsPinnedFor bytes faults story.told (stock_at c f.relation.table) f p) where
-    tells : (rows : Rows) → IsSoundStart story c rows → TellContent bytes (columns_read (stock_at c f.relation.table).lineage f.relation.view) p (content_read rows (stock_at c f.relation.table) f.relation.view f.query.version)
+  module _ (p : Pinned R) (files : IsPinnedFor bytes faults story.told (meta_at c f.relation.table) f p) where
+    tells : (rows : Rows) → IsSoundStart story c rows → TellContent bytes (columns_read (meta_at c f.relation.table).lineage f.relation.view) p (content_read rows (meta_at c f.relation.table) f.relation.view f.query.version)
     tells rows start =
         let at = name_there c name f.relation named in
         pinned_content bytes faults story.told t f p files at.1 rows start.image start.told c.floor c.next shaped
-        (all_at (IsStocked rows) c.tables f.relation.table no_stock start.sound.rows_are at.0)
-        (stock_given rows c start.image f.relation.table start.sound.rows_are start.sound.files at.0)
+        (all_at (HasSoundRows rows) c.tables f.relation.table no_meta start.sound.rows_are at.0)
+        (meta_given rows c start.image f.relation.table start.sound.rows_are start.sound.files at.0)
 
-    content_is : (rows : Rows) → relation_content (relation_seen (kept_of rows c).store f.relation) p.version ≡ content_read rows (stock_at c f.relation.table) f.relation.view f.query.version
+    content_is : (rows : Rows) → relation_content (relation_seen (kept_of rows c).store f.relation) p.version ≡ content_read rows (meta_at c f.relation.table) f.relation.view f.query.version
     content_is rows =
         let at = name_there c name f.relation named in
         ap (relation_content (relation_seen (kept_of rows c).store f.relation)) files.version
         ∙ seen_content rows c f.query.version (kept_of rows c).store f.relation (present_contents rows c f.relation.table f.query.version at.0 oldest_low (omega (arith, newest)))
 
-    columns_are : relation_columns (relation_seen (kept_of no_rows c).store f.relation) ≡ columns_read (stock_at c f.relation.table).lineage f.relation.view
+    columns_are : relation_columns (relation_seen (kept_of no_rows c).store f.relation) ≡ columns_read (meta_at c f.relation.table).lineage f.relation.view
     columns_are = columns_there c (kept_of no_rows c).store f.relation (kept_known no_rows c) ∙ columns_found c f.relation
 
     -- A query of all its columns is the whole of it.

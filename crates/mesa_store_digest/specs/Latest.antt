@@ -3,18 +3,18 @@ use Rattle.std.specs.Prelude.{◌≡◌, ◌≢◌, ◌⊎◌, ℕ, ◌+◌, ◌
 use Rattle.mesa_recover.specs.mesa_io.Causes.{Rose}
 use Rattle.mesa_disk.specs.Story.{Story}
 use Rattle.mesa_delta.specs.declared.error.FileError.TheVariants as file_error
-use Rattle.mesa_plans.specs.mesa_schema.Columns.{Columns}
-use Rattle.mesa_plans.specs.mesa_schema.declared.rows.Row.{Row}
+use Rattle.mesa_pick_files.specs.mesa_schema.Columns.{Columns}
+use Rattle.mesa_pick_files.specs.mesa_schema.declared.rows.Row.{Row}
 use Rattle.mesa_filter.specs.Asked.{Asked, places_below}
-use Rattle.mesa_plans.specs.mesa_model.Relations.{Relation, relation_columns, relation_content, relation_of}
-use Rattle.mesa_plans.specs.mesa_model.Warehouse.{Store}
-use Rattle.mesa_image_spec.specs.Catalog.{Catalog}
-use Rattle.mesa_image_spec.specs.Contents.{Rows, kept_of}
+use Rattle.mesa_pick_files.specs.mesa_model.Relations.{Relation, relation_columns, relation_content, relation_of}
+use Rattle.mesa_pick_files.specs.mesa_model.Warehouse.{Store}
+use Rattle.mesa_store_spec.specs.Catalog.{Catalog}
+use Rattle.mesa_store_spec.specs.Contents.{Rows, kept_of}
 use Rattle.mesa_recover.specs.Opening.{IsSoundStart}
-use Rattle.mesa_plans.specs.Told.{TellContent}
-use Rattle.mesa_rules.specs.mesa_history_spec.Rows.{no_rows}
-use Rattle.mesa_tasks.specs.Pins.{IsPinned}
-use Rattle.mesa_tasks.specs.declared.querying.Pinned.{Pinned}
+use Rattle.mesa_pick_files.specs.Told.{TellContent}
+use Rattle.mesa_validate.specs.mesa_history_spec.Rows.{no_rows}
+use Rattle.mesa_open_files.specs.Pins.{IsPinned}
+use Rattle.mesa_open_files.specs.declared.querying.Pinned.{Pinned}
 use Rattle.mesa_store_digest.specs.declared.error.LookError.{LookError}
 use Rattle.mesa_store_digest.specs.declared.error.LookError.TheVariants as look_error
 

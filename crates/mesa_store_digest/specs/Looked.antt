@@ -1,17 +1,17 @@
 -- The digests of a relation at the newest version.
 use Rattle.std.specs.Prelude.{◌≡◌, ℕ, ◌+◌, List, length, Option, Some}
-use Rattle.mesa_plans.specs.mesa_schema.Columns.{Columns}
-use Rattle.mesa_plans.specs.mesa_schema.Rows.{AreRowsOf}
-use Rattle.mesa_plans.specs.mesa_schema.declared.rows.Row.{Row}
+use Rattle.mesa_pick_files.specs.mesa_schema.Columns.{Columns}
+use Rattle.mesa_pick_files.specs.mesa_schema.Rows.{AreRowsOf}
+use Rattle.mesa_pick_files.specs.mesa_schema.declared.rows.Row.{Row}
 use Rattle.mesa_digest.specs.Digests as digest
 use Rattle.mesa_digest.specs.declared.digesting.DigestPair.{DigestPair}
 use Rattle.mesa_disk.specs.Story.{Story}
-use Rattle.mesa_plans.specs.mesa_model.Relations.{Relation, relation_columns}
-use Rattle.mesa_image_spec.specs.Catalog.{Catalog}
-use Rattle.mesa_image_spec.specs.Contents.{Rows, kept_of}
+use Rattle.mesa_pick_files.specs.mesa_model.Relations.{Relation, relation_columns}
+use Rattle.mesa_store_spec.specs.Catalog.{Catalog}
+use Rattle.mesa_store_spec.specs.Contents.{Rows, kept_of}
 use Rattle.mesa_recover.specs.Opening.{IsSoundStart}
-use Rattle.mesa_plans.specs.Told.{TellContent}
-use Rattle.mesa_tasks.specs.declared.querying.Pinned.{Pinned}
+use Rattle.mesa_pick_files.specs.Told.{TellContent}
+use Rattle.mesa_open_files.specs.declared.querying.Pinned.{Pinned}
 use Rattle.mesa_store_digest.specs.Latest.{HasContent, relation_named}
 
 -- These are the number and the digests of rows of a relation's columns, at the newest version. From a sound start the rows are the relation's content at that version.

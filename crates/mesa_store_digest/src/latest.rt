@@ -4,11 +4,11 @@ ghost use Rattle.std.specs.List.{AllByRecursion};
 ghost use Rattle.mesa_delta.specs.declared.error.FileError.TheVariants as file_error;
 ghost use Rattle.mesa_disk.specs.Story.{Unmoved};
 ghost use Rattle.mesa_filter.specs.Query.{IsQueryOf};
-ghost use Rattle.mesa_image_spec.specs.Catalog.{stock_at};
+ghost use Rattle.mesa_store_spec.specs.Catalog.{meta_at};
 ghost use Rattle.mesa_query.specs.mesa_scan.Cursors.{reader_in};
 ghost use Rattle.mesa_catalog.specs.Lookups.{relation_of};
-ghost use Rattle.mesa_tasks.specs.GivingBack.{pinned_inputs};
-ghost use Rattle.mesa_rules.specs.Found.{columns_at};
+ghost use Rattle.mesa_open_files.specs.GivingBack.{pinned_inputs};
+ghost use Rattle.mesa_validate.specs.Found.{columns_at};
 ghost use Rattle.mesa_store_digest.specs.Latest.{HasLookReason, IsLatest, all_asked};
 ghost use Rattle.mesa_recover.specs.Opened.{IsOpened};
 
@@ -16,12 +16,12 @@ use crate::LookError;
 use mesa_catalog::{Catalog, Relation};
 use mesa_disk::{Disk, Made};
 use mesa_filter::{Query, QueryError, QueryWords, VersionWord};
-use mesa_image_spec::catalogs_are_shaped;
+use mesa_store_spec::catalogs_are_shaped;
 use mesa_list::Items;
-use mesa_plans::open_files;
+use mesa_pick_files::open_files;
 use mesa_recover::Opened;
-use mesa_rules::{Found, relation_asked, relation_schema};
-use mesa_tasks::Pinned;
+use mesa_validate::{Found, relation_asked, relation_schema};
+use mesa_open_files::Pinned;
 use std::alloc::{AllocError, Global};
 
 /// Opens the files of the relation of a name, a table or a view, for a query of all its rows at the newest version.
@@ -85,7 +85,7 @@ fn query_of_all(
     version: u32,
 ) -> Result<Found, AllocError>
     requires table { place.table < length catalog.now.catalogue.tables }
-    requires view { IfSome place.view (λ view. view < length (stock_at catalog.now.catalogue place.table).lineage.views) }
+    requires view { IfSome place.view (λ view. view < length (meta_at catalog.now.catalogue place.table).lineage.views) }
     ensures relation { IfOk result (λ f. f.relation ≡ place) }
     ensures version { IfOk result (λ f. f.query.version ≡ version) }
     ensures asked { IfOk result (λ f. f.query.asked ≡ all_asked (columns_at catalog.now.catalogue place)) }

@@ -2,16 +2,16 @@
 ghost use Rattle.std.specs.Prelude.{◌≡◌, ◌<◌, List, Err, IfErr, IfOk, IfSome, length};
 ghost use Rattle.mesa_delta.specs.declared.error.FileError.TheVariants as file_error;
 ghost use Rattle.mesa_disk.specs.Story.{Unmoved};
-ghost use Rattle.mesa_tasks.specs.mesa_file.declared.damage.Damage.{Damage as AnyDamage};
-ghost use Rattle.mesa_image_spec.specs.Catalog.{stock_at};
-ghost use Rattle.mesa_plans.specs.mesa_merge.Faults.{HaveFaultCause, faults_of};
-ghost use Rattle.mesa_plans.specs.Told.{TellContent};
+ghost use Rattle.mesa_open_files.specs.mesa_file.declared.damage.Damage.{Damage as AnyDamage};
+ghost use Rattle.mesa_store_spec.specs.Catalog.{meta_at};
+ghost use Rattle.mesa_pick_files.specs.mesa_merge.Faults.{HaveFaultCause, faults_of};
+ghost use Rattle.mesa_pick_files.specs.Told.{TellContent};
 ghost use Rattle.mesa_query.specs.Files.{inputs_in};
 ghost use Rattle.mesa_recover.specs.Opened.{IsOpened};
-ghost use Rattle.mesa_rules.specs.Found.{columns_at};
-ghost use Rattle.mesa_plans.specs.mesa_schema.declared.rows.Row.{Row as AnyRow};
-ghost use Rattle.mesa_tasks.specs.Errors.{Differs};
-ghost use Rattle.mesa_tasks.specs.Pins.{IsPinned};
+ghost use Rattle.mesa_validate.specs.Found.{columns_at};
+ghost use Rattle.mesa_pick_files.specs.mesa_schema.declared.rows.Row.{Row as AnyRow};
+ghost use Rattle.mesa_open_files.specs.Errors.{Differs};
+ghost use Rattle.mesa_open_files.specs.Pins.{IsPinned};
 ghost use Rattle.mesa_store_digest.specs.Latest.{HasLookReason, all_asked};
 ghost use Rattle.mesa_store_digest.specs.Looked.{AreDigests, IsDigestOf};
 
@@ -23,8 +23,8 @@ use mesa_digest::{DigestPair, digests};
 use mesa_disk::{Disk, FileReader, Made};
 use mesa_query::whole;
 use mesa_recover::Opened;
-use mesa_rules::{relation_asked, relation_schema};
-use mesa_tasks::{Pinned, retire_pinned};
+use mesa_validate::{relation_asked, relation_schema};
+use mesa_open_files::{Pinned, retire_pinned};
 use std::alloc::Global;
 
 /// The newest version, and the digests of the rows that the relation of a name has then. Nothing of the store is
@@ -62,7 +62,7 @@ fn digests_of<R: FileReader>(
     pinned: &mut Pinned<R>,
 ) -> Result<DigestPair, FileError>
     requires table { place.table < length catalog.now.catalogue.tables }
-    requires view { IfSome place.view (λ view. view < length (stock_at catalog.now.catalogue place.table).lineage.views) }
+    requires view { IfSome place.view (λ view. view < length (meta_at catalog.now.catalogue place.table).lineage.views) }
     requires pinned { IsPinned R.bytes (columns_at catalog.now.catalogue place) pinned.old }
     requires asked { pinned.old.query.asked ≡ all_asked (columns_at catalog.now.catalogue place) }
     ensures digests { IfOk result (AreDigests R.bytes (columns_at catalog.now.catalogue place) pinned.old) }

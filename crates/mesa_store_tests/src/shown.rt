@@ -18,7 +18,7 @@ fn put_versions(alloc: Global, out: &mut String, catalog: &Catalog) -> Result<()
 }
 
 // A table with its oldest version, whose deltas have these ranges.
-fn put_stock(
+fn put_meta(
     alloc: Global,
     out: &mut String,
     evolving: &Evolving,
@@ -47,7 +47,7 @@ fn put_table(
     let ranges = catalog.ranges(table)?;
     let totals = catalog.totals(table).as_slice();
     let oldest = catalog.oldest(table);
-    put_stock(alloc, out, catalog.evolving(table), oldest, totals, &ranges)
+    put_meta(alloc, out, catalog.evolving(table), oldest, totals, &ranges)
 }
 
 fn put_number(alloc: Global, out: &mut String, number: u64) -> Result<(), AllocError> {

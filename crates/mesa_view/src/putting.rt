@@ -14,7 +14,7 @@ ghost use Rattle.mesa_view.specs.SumDamage.{IsSumDamage};
 use mesa_answer::{GroupError, Groups};
 use mesa_delta::FileError;
 use mesa_disk::{Damage, FileId, Seen};
-use mesa_scan::Matching;
+use mesa_scan::MatchingRows;
 use mesa_schema::LentRow;
 
 /// One row more of a file. A sum that would leave its type is damage of the file: of sound files none does.
@@ -51,7 +51,7 @@ pub fn sum_damage(file: FileId) -> Damage
 }
 
 // The rows of a file's block more, in their order.
-pub(crate) fn put_rows(groups: &mut Groups, rows: &Matching) -> Result<(), GroupError>
+pub(crate) fn put_rows(groups: &mut Groups, rows: &MatchingRows) -> Result<(), GroupError>
     requires gathering { (given : List AnyRow) × HasPut groups.old given }
     requires form { AreRowsOf (wanted_of groups.old).schema rows.now }
     ensures put { OnOk result ((given : List AnyRow) → HasPut groups.old given → HasPut groups.new (given ++ rows.now)) }

@@ -14,32 +14,32 @@ use Rattle.mesa_write_turns.specs.mesa_schema.Views.{view_columns}
 use Rattle.mesa_write_turns.specs.mesa_schema.declared.rows.Row.{Row}
 use Rattle.mesa_write_turns.specs.mesa_schema.declared.views.View.{View}
 use Rattle.mesa_delta.specs.declared.input.Input.{Input}
-use Rattle.mesa_engine.specs.mesa_image_spec.Catalog.{Catalog, Delta, Stock, stock_at}
-use Rattle.mesa_engine.specs.mesa_image_spec.Contents.{Rows, present}
-use Rattle.mesa_engine.specs.mesa_image_spec.Fitting.{delta_shelved, deltas_of, shelved}
-use Rattle.mesa_engine.specs.mesa_image_spec.Sound.{wants}
-use Rattle.mesa_engine.proofs.mesa_image_spec.Lists.{all_unflat, stock_found}
-use Rattle.mesa_engine.specs.mesa_image_spec.Sound.{IsStocked}
-use Rattle.mesa_engine.specs.mesa_image_spec.Moves.{is_base, last_of}
+use Rattle.mesa_engine.specs.mesa_store_spec.Catalog.{Catalog, Delta, TableMeta, meta_at}
+use Rattle.mesa_engine.specs.mesa_store_spec.Contents.{Rows, present}
+use Rattle.mesa_engine.specs.mesa_store_spec.Fitting.{delta_live, deltas_of, live_files}
+use Rattle.mesa_engine.specs.mesa_store_spec.Sound.{wants}
+use Rattle.mesa_engine.proofs.mesa_store_spec.Lists.{all_unflat, meta_found}
+use Rattle.mesa_engine.specs.mesa_store_spec.Sound.{HasSoundRows}
+use Rattle.mesa_engine.specs.mesa_store_spec.Moves.{is_base, last_of}
 use Rattle.mesa_engine.specs.EngineState.{EngineState}
 use Rattle.mesa_engine.specs.Vault.{Origin, IsVault}
 use Rattle.mesa_engine.proofs.Standing.{held_there}
-use Rattle.mesa_plans.specs.mesa_merge.Inputs.{AreTold, knowns_of, lifted_parts}
+use Rattle.mesa_pick_files.specs.mesa_merge.Inputs.{AreTold, knowns_of, lifted_parts}
 use Rattle.mesa_model.specs.declared.entries.Entry.{Entry}
-use Rattle.mesa_plans.specs.Folding.{folded_deltas}
-use Rattle.mesa_plans.specs.Gathered.{IsGathered, unread_view}
-use Rattle.mesa_plans.specs.Read.{own_file}
-use Rattle.mesa_plans.proofs.Folds.{table_parts}
-use Rattle.mesa_plans.proofs.Given.{AreGiven, IsGiven, all_given, all_told, part_of, rows_seen}
-use Rattle.mesa_plans.proofs.Reading.{owned}
-use Rattle.mesa_plans.proofs.Sums.{folded_sums}
-use Rattle.mesa_plans.proofs.Telling.{stock_given}
-use Rattle.mesa_plans.proofs.Among.{all_folded}
-use Rattle.mesa_plans.specs.Files.{Seen, Want, table_wanted, want_of}
-use Rattle.mesa_tasks.specs.Opening.{HaveOpened}
-use Rattle.mesa_tasks.specs.declared.merging.Task.{Task}
-use Rattle.mesa_tasks.specs.declared.merging.TaskView.{TaskView}
-use Rattle.mesa_tasks.specs.declared.opening.Wanted.{Wanted}
+use Rattle.mesa_pick_files.specs.Folding.{folded_deltas}
+use Rattle.mesa_pick_files.specs.Gathered.{IsGathered, unread_view}
+use Rattle.mesa_pick_files.specs.Read.{own_file}
+use Rattle.mesa_pick_files.proofs.Folds.{table_parts}
+use Rattle.mesa_pick_files.proofs.Given.{AreGiven, IsGiven, all_given, all_told, part_of, rows_seen}
+use Rattle.mesa_pick_files.proofs.Reading.{owned}
+use Rattle.mesa_pick_files.proofs.Sums.{folded_sums}
+use Rattle.mesa_pick_files.proofs.Telling.{meta_given}
+use Rattle.mesa_pick_files.proofs.Among.{all_folded}
+use Rattle.mesa_pick_files.specs.Files.{Seen, Want, table_wanted, want_of}
+use Rattle.mesa_open_files.specs.Opening.{HaveOpened}
+use Rattle.mesa_open_files.specs.declared.merging.Task.{Task}
+use Rattle.mesa_open_files.specs.declared.merging.TaskView.{TaskView}
+use Rattle.mesa_open_files.specs.declared.opening.Wanted.{Wanted}
 use Rattle.mesa_write_turns.specs.mesa_invariant_spec.Invariant.{Outset}
 use Rattle.mesa_work_turns.proofs.Grants.{shaped_at}
 
@@ -66,12 +66,12 @@ lifted_are bytes faults told rows (w ∷ ws) (i ∷ is) (x ∷ wants) same have 
 
 module _ (o : Outset) (g : Origin) (l : EngineState) (story : Story) (held : Option (List ℕ)) (h : List Entry) (running refused : _) (v : IsVault o g true l story held h running refused) (opened : l.closed ≡ None)
     {R : Type 0} (bytes : R → Option (List ℕ)) (faults : R → ℕ) (t : Task R) (there : t.table < length l.catalogue.tables) (numbers : List ℕ) (views : t.views.items ≡ map unread_view numbers)
-    (gathered : IsGathered bytes faults story.told (stock_at l.catalogue t.table) t.work t) (whole : t.damage ≡ None) where
+    (gathered : IsGathered bytes faults story.told (meta_at l.catalogue t.table) t.work t) (whole : t.damage ≡ None) where
   abbrev c : Catalog
   c = l.catalogue
 
-  abbrev u : Stock
-  u = stock_at l.catalogue t.table
+  abbrev u : TableMeta
+  u = meta_at l.catalogue t.table
 
   abbrev lin : Lineage
   lin = u.lineage
@@ -80,23 +80,23 @@ module _ (o : Outset) (g : Origin) (l : EngineState) (story : Story) (held : Opt
   image = (v.read refl).0
 
   abbrev ds : List Delta
-  ds = folded_deltas (stock_at l.catalogue t.table) (is_base t.work) (last_of t.work)
+  ds = folded_deltas (meta_at l.catalogue t.table) (is_base t.work) (last_of t.work)
 
   abbrev seen : List Seen
-  seen = map own_file (flat_map (table_wanted (stock_at l.catalogue t.table).lineage) (folded_deltas (stock_at l.catalogue t.table) (is_base t.work) (last_of t.work)))
+  seen = map own_file (flat_map (table_wanted (meta_at l.catalogue t.table).lineage) (folded_deltas (meta_at l.catalogue t.table) (is_base t.work) (last_of t.work)))
 
-  has : Has (wants v.rows (shelved c)) image
+  has : Has (wants v.rows (live_files c)) image
   has = held_there story l.area v.bodies l.end c v.rows (v.stands refl opened) image (v.read refl).1
 
   given : AllByRecursion (AreGiven v.rows image lin) ds
-  given = all_folded (AreGiven v.rows image lin) u (all_unflat (IsGiven v.rows image) (delta_shelved lin) (deltas_of u) (stock_given v.rows c image t.table (v.stocked refl).0 has there)) (is_base t.work) (last_of t.work)
+  given = all_folded (AreGiven v.rows image lin) u (all_unflat (IsGiven v.rows image) (delta_live lin) (deltas_of u) (meta_given v.rows c image t.table (v.sound_rows refl).0 has there)) (is_base t.work) (last_of t.work)
 
   all_open : HaveOpened bytes faults story.told gathered.wanted t.inputs.items None
   all_open = subst (HaveOpened bytes faults story.told gathered.wanted t.inputs.items) whole gathered.opened
 
   -- The files of a range are told, and have the present rows of the deltas that are folded.
   pub range_told : (contents : List (List Row)) × AreTold (knowns_of bytes t.inputs.items) contents
-      × (rows_of (lifted_parts (knowns_of bytes t.inputs.items) contents) ≡ rows_of (map (present v.rows (stock_at l.catalogue t.table).lineage) (folded_deltas (stock_at l.catalogue t.table) (is_base t.work) (last_of t.work))))
+      × (rows_of (lifted_parts (knowns_of bytes t.inputs.items) contents) ≡ rows_of (map (present v.rows (meta_at l.catalogue t.table).lineage) (folded_deltas (meta_at l.catalogue t.table) (is_base t.work) (last_of t.work))))
   range_told = (
     map (rows_seen v.rows) seen,
     all_told v.rows image bytes faults story.told (v.read refl).1 gathered.wanted t.inputs.items seen (gathered.are ∙ sym (owned (flat_map (table_wanted lin) ds))) all_open (all_given v.rows image lin None tt ds given),
@@ -109,11 +109,11 @@ module _ (o : Outset) (g : Origin) (l : EngineState) (story : Story) (held : Opt
     told = range_told.1;
     bound = λ k sum.
         subst (λ n. n < sum_bound) (sym (zero-add _)) (subst (λ (rs : List Row). abs_total k rs < sum_bound) (sym range_told.2)
-        (folded_sums v.rows c.floor c.next u (shaped_at c v.shaped t.table there) (stock_found (IsStocked v.rows) c.tables t.table there (v.stocked refl).0) (is_base t.work) (last_of t.work) k sum));
+        (folded_sums v.rows c.floor c.next u (shaped_at c v.shaped t.table there) (meta_found (HasSoundRows v.rows) c.tables t.table there (v.sound_rows refl).0) (is_base t.work) (last_of t.work) k sum));
   }
 
   -- The sums over the files of a range, and over those of its views, stay in their type.
-  pub is_bounded : IsBounded bytes (stock_at l.catalogue t.table).lineage t
+  pub is_bounded : IsBounded bytes (meta_at l.catalogue t.table).lineage t
   is_bounded = record {
     table = table_bounded;
     views = λ i view tv of_table of_task. unread_bounded bytes (columns_of lin) numbers i view tv (subst (λ (xs : List (TaskView R)). slice_get xs i ≡ Some tv) views of_task);

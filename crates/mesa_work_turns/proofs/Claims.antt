@@ -11,12 +11,12 @@ use Rattle.mesa_span.specs.Ranges.{base_before}
 use Rattle.mesa_span.specs.Work.{missing_end, next_work}
 use Rattle.mesa_span.specs.declared.works.Work.TheVariants as range
 use Rattle.mesa_write_turns.specs.mesa_history_spec.Machine.{Claim, Machine, Merges, claim_of, ranges_at, refuse_busy}
-use Rattle.mesa_engine.specs.mesa_image_spec.Catalog.{Catalog, Stock, no_stock, ranges_of, start_in, stock_at}
-use Rattle.mesa_engine.specs.mesa_image_spec.Fitting.{is_number, may_be_work}
-use Rattle.mesa_engine.specs.mesa_image_spec.Shape.{IsShaped}
-use Rattle.mesa_engine.proofs.mesa_image_spec.Lists.{both_true, is_at_most, is_equal}
-use Rattle.mesa_engine.proofs.mesa_image_spec.ShapedBatches.{missing_there}
-use Rattle.mesa_engine.specs.mesa_image_spec.Moves.{first_of, is_base, last_of}
+use Rattle.mesa_engine.specs.mesa_store_spec.Catalog.{Catalog, TableMeta, no_meta, ranges_of, start_in, meta_at}
+use Rattle.mesa_engine.specs.mesa_store_spec.Fitting.{is_number, may_be_work}
+use Rattle.mesa_engine.specs.mesa_store_spec.Shape.{IsShaped}
+use Rattle.mesa_engine.proofs.mesa_store_spec.Lists.{both_true, is_at_most, is_equal}
+use Rattle.mesa_engine.proofs.mesa_store_spec.ShapedBatches.{missing_there}
+use Rattle.mesa_engine.specs.mesa_store_spec.Moves.{first_of, is_base, last_of}
 use Rattle.mesa_lease.specs.Book.{holder}
 use Rattle.mesa_model.specs.Refusals.{no_such_table, refuse_closed}
 use Rattle.mesa_model.specs.Relations.{table_number}
@@ -25,7 +25,7 @@ use Rattle.mesa_model.specs.declared.replies.Refusal.TheVariants as no
 use Rattle.mesa_model.specs.declared.replies.Reply.{Reply}
 use Rattle.mesa_model.specs.declared.replies.Reply.TheVariants as reply
 use Rattle.mesa_engine.specs.EngineState.{EngineState, books_of, projection_of}
-use Rattle.mesa_rules.specs.Seen.{number_of}
+use Rattle.mesa_validate.specs.Seen.{number_of}
 use Rattle.mesa_write_turns.specs.mesa_history_spec.Rows.{no_rows}
 
 module _ (l : EngineState) (at : ℕ) (name : List ℕ) where
@@ -68,16 +68,16 @@ module _ (l : EngineState) (at : ℕ) (name : List ℕ) where
       pub busy : (lease : ℕ) → holder l.leases table at ≡ Some lease → claim_of bare machine at name ≡ Err (reply.Busy lease)
       busy lease is = table_is ∙ ap (λ held. at_table table held (work_of table)) is
 
-      work_is : (o : Option Work) → next_work (ranges_of (stock_at l.catalogue table)) (stock_at l.catalogue table).oldest (base_before l.catalogue.next) ≡ o → work_of table ≡ o
+      work_is : (o : Option Work) → next_work (ranges_of (meta_at l.catalogue table)) (meta_at l.catalogue table).oldest (base_before l.catalogue.next) ≡ o → work_of table ≡ o
       work_is o is =
-          let ranges = get_or-map ranges_of l.catalogue.tables table no_stock in
-          let oldest = ap (λ (t : Table). t.oldest) (get_or-map projection_of l.catalogue.tables table no_stock) in
+          let ranges = get_or-map ranges_of l.catalogue.tables table no_meta in
+          let oldest = ap (λ (t : Table). t.oldest) (get_or-map projection_of l.catalogue.tables table no_meta) in
           (λ i. next_work (ranges i) (oldest i) (base_before l.catalogue.next)) ∙ is
 
-      pub idle : holder l.leases table at ≡ None → next_work (ranges_of (stock_at l.catalogue table)) (stock_at l.catalogue table).oldest (base_before l.catalogue.next) ≡ None → claim_of bare machine at name ≡ Err reply.Idle
+      pub idle : holder l.leases table at ≡ None → next_work (ranges_of (meta_at l.catalogue table)) (meta_at l.catalogue table).oldest (base_before l.catalogue.next) ≡ None → claim_of bare machine at name ≡ Err reply.Idle
       idle free is = table_is ∙ (λ i. at_table table (free i) (work_is None is i))
 
-      pub claimed : (work : Work) → holder l.leases table at ≡ None → next_work (ranges_of (stock_at l.catalogue table)) (stock_at l.catalogue table).oldest (base_before l.catalogue.next) ≡ Some work
+      pub claimed : (work : Work) → holder l.leases table at ≡ None → next_work (ranges_of (meta_at l.catalogue table)) (meta_at l.catalogue table).oldest (base_before l.catalogue.next) ≡ Some work
           → claim_of bare machine at name ≡ Ok (record { table = table; lease = l.leases.granted + 1; errand = Merges work })
       claimed work free is = table_is ∙ (λ i. at_table table (free i) (work_is (Some work) is i))
 
@@ -89,7 +89,7 @@ some_number None n is = absurd cc
 some_number (Some m) n is = ap Some (is_equal m n is)
 
 -- A range that work may give ends before the next version.
-pub work_ends : (c : Catalog) (t : Stock) (work : Work) → IsShaped c.floor c.next t → may_be_work c t (is_base work) (first_of work) (last_of work) ≡ true → last_of work < c.next
+pub work_ends : (c : Catalog) (t : TableMeta) (work : Work) → IsShaped c.floor c.next t → may_be_work c t (is_base work) (first_of work) (last_of work) ≡ true → last_of work < c.next
 work_ends c t (range.Base to) shaped may =
     let last = both_true ((0 == 0) && nat_le 1 to && nat_le (start_in t) to) (nat_le to t.oldest) may in
     let third = both_true ((0 == 0) && nat_le 1 to) (nat_le (start_in t) to) last.0 in

@@ -21,7 +21,7 @@ use Rattle.mesa_write_turns.specs.mesa_history_spec.Machine.{Claim, Errand, Mach
 use Rattle.mesa_write_turns.specs.mesa_history_spec.Run.{Place, Renewed}
 use Rattle.mesa_write_turns.specs.mesa_history_spec.Turns.{IsDue}
 use Rattle.mesa_engine.proofs.mesa_history_spec.Claiming.{held_is_live}
-use Rattle.mesa_engine.specs.mesa_image_spec.Catalog.{no_stock, ranges_of, stock_at}
+use Rattle.mesa_engine.specs.mesa_store_spec.Catalog.{no_meta, ranges_of, meta_at}
 use Rattle.mesa_write_turns.specs.mesa_history_spec.Bare.{bare_table}
 use Rattle.mesa_write_turns.specs.mesa_history_spec.Rows.{no_rows}
 use Rattle.mesa_write_turns.specs.mesa_invariant_spec.Invariant.{Outset, run_of}
@@ -54,8 +54,8 @@ checked_live l at table lease checked =
 pub record IsDueStill (l : EngineState) (claim : Claim) (work : Work) : Type 0 where
   pub oldest : ℕ
   pub next : ℕ
-  pub due : next_work (ranges_of (stock_at l.catalogue claim.table)) oldest (base_before next) ≡ Some work
-  pub later_oldest : oldest ≤ (stock_at l.catalogue claim.table).oldest
+  pub due : next_work (ranges_of (meta_at l.catalogue claim.table)) oldest (base_before next) ≡ Some work
+  pub later_oldest : oldest ≤ (meta_at l.catalogue claim.table).oldest
   pub later_next : next ≤ l.catalogue.next
   pub there : claim.table < length l.catalogue.tables
 
@@ -70,12 +70,12 @@ due_still o g l story held h running refused v s number words at claim work erra
     let oldest =
     sym (ap (λ (t : Table). t.oldest) (get_or-map bare_table (run_of o h).state.warehouse.store.tables claim.table no_table))
     ∙ ap (λ (x : Warehouse). (table_at x.store claim.table).oldest) v.invariant.state.projection
-    ∙ ap (λ (t : Table). t.oldest) (get_or-map projection_of l.catalogue.tables claim.table no_stock) in
+    ∙ ap (λ (t : Table). t.oldest) (get_or-map projection_of l.catalogue.tables claim.table no_meta) in
     let next = ap (λ (x : Warehouse). x.next) v.invariant.state.projection in
     record {
       oldest = has.oldest;
       next = has.versions;
-      due = ap (λ r. next_work r has.oldest (base_before has.versions)) (sym (get_or-map ranges_of l.catalogue.tables claim.table no_stock) ∙ stays live) ∙ has.next;
+      due = ap (λ r. next_work r has.oldest (base_before has.versions)) (sym (get_or-map ranges_of l.catalogue.tables claim.table no_meta) ∙ stays live) ∙ has.next;
       later_oldest = subst (λ q. has.oldest ≤ q) oldest has.later_oldest;
       later_next = subst (λ q. has.versions ≤ q) next has.later_versions;
       there = omega (arith, within, length-map l.catalogue.tables ranges_of);

@@ -36,9 +36,9 @@ use Rattle.mesa_engine.proofs.Swapping.{ended_granted}
 use Rattle.mesa_engine.specs.declared.log.Log.{Log}
 use Rattle.mesa_engine.specs.Printing.{PrintsBlock}
 use Rattle.mesa_engine.specs.Memory.{Memory, with_state}
-use Rattle.mesa_tasks.specs.GivingBack.{GivesBack, SomeFailed}
-use Rattle.mesa_tasks.specs.declared.merging.CompactError.{CompactError}
-use Rattle.mesa_tasks.specs.declared.merging.CompactError.TheVariants as compact
+use Rattle.mesa_open_files.specs.GivingBack.{GivesBack, SomeFailed}
+use Rattle.mesa_open_files.specs.declared.merging.CompactError.{CompactError}
+use Rattle.mesa_open_files.specs.declared.merging.CompactError.TheVariants as compact
 use Rattle.mesa_engine.specs.Engine.{IsEngine}
 use Rattle.mesa_engine.proofs.Turning.{told_engine}
 use Rattle.mesa_engine.proofs.Undone.{not_skipped}

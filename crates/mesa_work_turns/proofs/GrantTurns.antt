@@ -14,8 +14,8 @@ use Rattle.mesa_model.specs.declared.commands.Command.{Command}
 use Rattle.mesa_model.specs.declared.entries.Kind.TheVariants as kind
 use Rattle.mesa_model.specs.declared.entries.Outcome.TheVariants as outcome
 use Rattle.mesa_write_turns.specs.mesa_history_spec.Rows.{Rows, no_rows}
-use Rattle.mesa_tasks.specs.Opening.{Counted}
-use Rattle.mesa_tasks.specs.declared.opening.Unopened.{Unopened}
+use Rattle.mesa_open_files.specs.Opening.{Counted}
+use Rattle.mesa_open_files.specs.declared.opening.Unopened.{Unopened}
 use Rattle.mesa_write_turns.specs.mesa_invariant_spec.Causes.{Cause, Unwritten, is_read_fault, outcome_of, reply_of, told_at}
 use Rattle.mesa_write_turns.specs.mesa_invariant_spec.Turns.{AnswersDisk, Shown, SomeRose, Takes, entry, faults_of}
 use Rattle.mesa_write_turns.specs.mesa_invariant_spec.Invariant.{Counts, run_at}

@@ -12,9 +12,9 @@ use Rattle.mesa_write_turns.specs.mesa_history_spec.Refused.{is_refusal}
 use Rattle.mesa_write_turns.specs.mesa_history_spec.Replay.{claim_asked, grants, is_skip}
 use Rattle.mesa_write_turns.specs.mesa_history_spec.Run.{First, Granted, Finished}
 use Rattle.mesa_write_turns.specs.mesa_history_spec.Turns.{IsDue}
-use Rattle.mesa_engine.specs.mesa_image_spec.Catalog.{Catalog, no_stock, stock_at}
-use Rattle.mesa_engine.specs.mesa_image_spec.Shape.{IsCatalog, IsShaped}
-use Rattle.mesa_read_turns.proofs.mesa_catalog.Stocks.{all_at}
+use Rattle.mesa_engine.specs.mesa_store_spec.Catalog.{Catalog, no_meta, meta_at}
+use Rattle.mesa_engine.specs.mesa_store_spec.Shape.{IsCatalog, IsShaped}
+use Rattle.mesa_read_turns.proofs.mesa_catalog.TableMetas.{all_at}
 use Rattle.mesa_lease.specs.Book.{granted}
 use Rattle.mesa_model.specs.Warehouse.{Warehouse}
 use Rattle.mesa_model.specs.declared.commands.Command.{Command}
@@ -25,9 +25,9 @@ use Rattle.mesa_model.specs.declared.entries.Outcome.TheVariants as outcome
 use Rattle.mesa_write_turns.specs.mesa_history_spec.Output.{block}
 use Rattle.mesa_write_turns.specs.mesa_history_spec.Bare.{bare_table}
 use Rattle.mesa_write_turns.specs.mesa_history_spec.Rows.{Rows, no_rows}
-use Rattle.mesa_tasks.specs.Opening.{Counted}
-use Rattle.mesa_tasks.specs.declared.opening.Unopened.{Unopened}
-use Rattle.mesa_tasks.specs.declared.opening.Unopened.TheVariants as un
+use Rattle.mesa_open_files.specs.Opening.{Counted}
+use Rattle.mesa_open_files.specs.declared.opening.Unopened.{Unopened}
+use Rattle.mesa_open_files.specs.declared.opening.Unopened.TheVariants as un
 use Rattle.mesa_write_turns.specs.mesa_invariant_spec.Causes.{Cause, Damaged, NoMemory, Replies, Unread, Unwritten, is_read_fault, outcome_of, reply_of, told_at}
 use Rattle.mesa_write_turns.specs.mesa_invariant_spec.Printing.{IsPut}
 use Rattle.mesa_write_turns.specs.mesa_invariant_spec.Turns.{Shown, IsSeen, Takes, entry}
@@ -46,7 +46,7 @@ use Rattle.mesa_engine.specs.Printing.{PrintsBlock}
 use Rattle.mesa_engine.specs.Memory.{Memory, with_leases}
 use Rattle.mesa_engine.specs.Engine.{IsEngine}
 use Rattle.mesa_engine.proofs.Turning.{passed_engine, told_engine}
-use Rattle.mesa_plans.specs.Gathered.{is_fault_among}
+use Rattle.mesa_pick_files.specs.Gathered.{is_fault_among}
 use Rattle.mesa_work_turns.specs.Claims.{cause_met}
 
 -- ---- counts of faults
@@ -169,8 +169,8 @@ answers un.Memory = refl
 -- ---- its table
 
 -- a table of a catalogue is shaped
-pub shaped_at : (c : Catalog) → IsCatalog c → (table : ℕ) → table < length c.tables → IsShaped c.floor c.next (stock_at c table)
-shaped_at c is table there = all_at (IsShaped c.floor c.next) c.tables table no_stock is.tables there
+pub shaped_at : (c : Catalog) → IsCatalog c → (table : ℕ) → table < length c.tables → IsShaped c.floor c.next (meta_at c table)
+shaped_at c is table there = all_at (IsShaped c.floor c.next) c.tables table no_meta is.tables there
 
 -- ---- what stands behind a turn
 

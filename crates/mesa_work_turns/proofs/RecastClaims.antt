@@ -18,7 +18,7 @@ use Rattle.mesa_write_turns.specs.mesa_history_spec.Machine.{Claim, Machine, Rec
 use Rattle.mesa_lease.specs.Book.{holder}
 use Rattle.mesa_engine.specs.EngineState.{EngineState, books_of, projection_of}
 use Rattle.mesa_write_turns.specs.mesa_invariant_spec.Works.{HasNoClaim}
-use Rattle.mesa_engine.specs.mesa_image_spec.Catalog.{no_stock, ranges_of, start_in, stock_at}
+use Rattle.mesa_engine.specs.mesa_store_spec.Catalog.{no_meta, ranges_of, start_in, meta_at}
 use Rattle.mesa_model.specs.Refusals.{no_such_table, recast_refusal, refuse_closed}
 use Rattle.mesa_model.specs.Relations.{table_number}
 use Rattle.mesa_model.specs.Tables.{recast_asked}
@@ -28,8 +28,8 @@ use Rattle.mesa_model.specs.declared.replies.Refusal.{Refusal}
 use Rattle.mesa_model.specs.declared.replies.Refusal.TheVariants as no
 use Rattle.mesa_model.specs.declared.replies.Reply.{Reply}
 use Rattle.mesa_model.specs.declared.replies.Reply.TheVariants as reply
-use Rattle.mesa_rules.specs.Recastings.{recast_due}
-use Rattle.mesa_rules.specs.Seen.{number_of}
+use Rattle.mesa_validate.specs.Recastings.{recast_due}
+use Rattle.mesa_validate.specs.Seen.{number_of}
 use Rattle.mesa_write_turns.specs.mesa_history_spec.Rows.{no_rows}
 use Rattle.mesa_span.specs.Ranges.{base_before, start_of}
 use Rattle.mesa_work_turns.specs.Claims.{cause_refused}
@@ -78,8 +78,8 @@ module _ (l : EngineState) (at : ℕ) (words : RecastWords) where
 
   abbrev steps : Option ℕ → Option ℕ → Result Claim Reply
   steps closed number = refused_as reply.Refused (refuse_closed closed) >> (ok_or number (reply.Refused no_such_table)
-      >>= (λ table. allowed table (epoch_of (stock_at l.catalogue table).lineage) (recast_checked (stock_at l.catalogue table).lineage (recast_asked words)) (holder l.leases table at)
-      (nat_lt max_deltas (l.catalogue.next - start_in (stock_at l.catalogue table)))))
+      >>= (λ table. allowed table (epoch_of (meta_at l.catalogue table).lineage) (recast_checked (meta_at l.catalogue table).lineage (recast_asked words)) (holder l.leases table at)
+      (nat_lt max_deltas (l.catalogue.next - start_in (meta_at l.catalogue table)))))
 
   number_is : table_number bare.store words.table ≡ number_of l.catalogue words.table
   number_is = ap (place_of words.table) (map-map (λ (t : Table). t.name) projection_of l.catalogue.tables)
@@ -88,8 +88,8 @@ module _ (l : EngineState) (at : ℕ) (words : RecastWords) where
   claim_is : asked_of ≡ steps l.closed (number_of l.catalogue words.table)
   claim_is = (λ i. refused_as reply.Refused (refuse_closed l.closed) >> (ok_or (number_is i) (reply.Refused no_such_table)
       >>= (λ table.
-      let lineage = ap (λ (t : Table). t.lineage) (get_or-map projection_of l.catalogue.tables table no_stock) in
-      let ranges = get_or-map ranges_of l.catalogue.tables table no_stock in
+      let lineage = ap (λ (t : Table). t.lineage) (get_or-map projection_of l.catalogue.tables table no_meta) in
+      let ranges = get_or-map ranges_of l.catalogue.tables table no_meta in
       allowed table (epoch_of (lineage i)) (recast_checked (lineage i) (recast_asked words)) (holder l.leases table at) (nat_lt max_deltas (l.catalogue.next - start_of (ranges i))))))
 
   pub shut : (p : ℕ) → l.closed ≡ Some p → asked_of ≡ Err (reply.Refused (no.Closed p))
@@ -106,22 +106,22 @@ module _ (l : EngineState) (at : ℕ) (words : RecastWords) where
         of_checked : (table epoch : ℕ) (checked : Result (Unit {0}) RecastError) (held : Option ℕ) (many : Bool) → refused_as recast_refusal checked ≡ Err x → allowed table epoch checked held many ≡ Err (reply.Refused x)
         of_checked table epoch checked held many is = ap (λ (r : Result (Unit {0}) Refusal). refused_as reply.Refused r >> (refuse_busy held >> counted table epoch many)) is
 
-        by : (number : Option ℕ) → (ok_or number no_such_table >>= (λ table. refused_as recast_refusal (recast_checked (stock_at l.catalogue table).lineage (recast_asked words)))) ≡ Err x → steps None number ≡ Err (reply.Refused x)
+        by : (number : Option ℕ) → (ok_or number no_such_table >>= (λ table. refused_as recast_refusal (recast_checked (meta_at l.catalogue table).lineage (recast_asked words)))) ≡ Err x → steps None number ≡ Err (reply.Refused x)
         by None is = let same : no_such_table ≡ x = cc in ap (λ (r : Refusal). Err (reply.Refused r)) same
         by (Some table) is =
-            of_checked table (epoch_of (stock_at l.catalogue table).lineage) (recast_checked (stock_at l.catalogue table).lineage (recast_asked words)) (holder l.leases table at)
-            (nat_lt max_deltas (l.catalogue.next - start_in (stock_at l.catalogue table))) is
+            of_checked table (epoch_of (meta_at l.catalogue table).lineage) (recast_checked (meta_at l.catalogue table).lineage (recast_asked words)) (holder l.leases table at)
+            (nat_lt max_deltas (l.catalogue.next - start_in (meta_at l.catalogue table))) is
 
     pub denied : (failure : Failure) → IsDue (recast_due l.catalogue words) failure → HasNoClaim (books_of no_rows l) asked_of (cause_refused failure)
     denied (asked.Refused x) due = denied_as x due
     denied asked.Memory due = open'
 
-    module _ (table : ℕ) (there : number_of l.catalogue words.table ≡ Some table) (rule : recast_checked (stock_at l.catalogue table).lineage (recast_asked words) ≡ Ok tt) where
+    module _ (table : ℕ) (there : number_of l.catalogue words.table ≡ Some table) (rule : recast_checked (meta_at l.catalogue table).lineage (recast_asked words) ≡ Ok tt) where
       abbrev epoch : ℕ
-      epoch = epoch_of (stock_at l.catalogue table).lineage
+      epoch = epoch_of (meta_at l.catalogue table).lineage
 
       abbrev many : Bool
-      many = nat_lt max_deltas (l.catalogue.next - start_in (stock_at l.catalogue table))
+      many = nat_lt max_deltas (l.catalogue.next - start_in (meta_at l.catalogue table))
 
       table_is : asked_of ≡ (refuse_busy (holder l.leases table at) >> counted table epoch many)
       table_is = opened_is ∙ ap (steps None) there ∙ ap (λ checked. allowed table epoch checked (holder l.leases table at) many) rule

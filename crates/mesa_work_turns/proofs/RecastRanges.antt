@@ -7,7 +7,7 @@ use Rattle.mesa_engine.specs.mesa_commit.Images.{Has}
 use Rattle.mesa_disk.specs.Image.{Image}
 use Rattle.mesa_disk.specs.Story.{Story}
 use Rattle.mesa_file.specs.declared.damage.Damage.{Damage}
-use Rattle.mesa_plans.specs.mesa_value.declared.Agg.TheVariants.{Sum}
+use Rattle.mesa_pick_files.specs.mesa_value.declared.Agg.TheVariants.{Sum}
 use Rattle.mesa_write_turns.specs.mesa_schema.Changes.{Lineage, columns_at, columns_of, epoch_of, lifted}
 use Rattle.mesa_write_turns.specs.mesa_schema.Columns.{aggs_of}
 use Rattle.mesa_write_turns.specs.mesa_schema.Folded.{folded, rows_of}
@@ -18,34 +18,34 @@ use Rattle.mesa_record.specs.declared.record.Files.{Files}
 use Rattle.mesa_delta.specs.declared.input.Input.{Input}
 use Rattle.mesa_write_turns.specs.mesa_history_spec.Sources.{Written, range_rows, source_at, sources_from}
 use Rattle.mesa_model.specs.declared.entries.Entry.{Entry}
-use Rattle.mesa_plans.specs.Ranges.{IsDamagedRange, IsEmptyRange, IsOfRange, IsOneOf, IsOpenedRange, Ranged, base_ranged, range_wanted, ranged, singles_ranged}
-use Rattle.mesa_plans.specs.Files.{Want}
-use Rattle.mesa_engine.specs.mesa_image_spec.Catalog.{Delta, Ending, Stock, end_in, start_in, stock_at}
-use Rattle.mesa_engine.specs.mesa_image_spec.Contents.{Rows, present, rows_if_any}
-use Rattle.mesa_engine.specs.mesa_image_spec.Fitting.{base_deltas, delta_in, delta_shelved, deltas_of, files_shelved, shelved}
-use Rattle.mesa_engine.specs.mesa_image_spec.Shape.{IsShaped}
-use Rattle.mesa_engine.specs.mesa_image_spec.Sound.{IsStocked, bytes_of, wants}
+use Rattle.mesa_pick_files.specs.Ranges.{IsDamagedRange, IsEmptyRange, IsOfRange, IsOneOf, IsOpenedRange, Ranged, base_ranged, range_wanted, ranged, singles_ranged}
+use Rattle.mesa_pick_files.specs.Files.{Want}
+use Rattle.mesa_engine.specs.mesa_store_spec.Catalog.{Delta, Ending, TableMeta, end_in, start_in, meta_at}
+use Rattle.mesa_engine.specs.mesa_store_spec.Contents.{Rows, present, rows_if_any}
+use Rattle.mesa_engine.specs.mesa_store_spec.Fitting.{base_deltas, delta_in, delta_live, deltas_of, files_live, live_files}
+use Rattle.mesa_engine.specs.mesa_store_spec.Shape.{IsShaped}
+use Rattle.mesa_engine.specs.mesa_store_spec.Sound.{HasSoundRows, bytes_of, wants}
 use Rattle.mesa_engine.specs.EngineState.{EngineState}
 use Rattle.mesa_engine.specs.Vault.{Origin, IsVault, written_by}
-use Rattle.mesa_engine.specs.mesa_image_spec.Sourced.{AreMadeOf, IsMadeOf, IsSourced}
+use Rattle.mesa_engine.specs.mesa_store_spec.Sourced.{AreMadeOf, IsMadeOf, IsSourced}
 use Rattle.mesa_write_turns.specs.mesa_invariant_spec.Invariant.{Outset}
 use Rattle.mesa_engine.proofs.Standing.{held_there}
-use Rattle.mesa_engine.proofs.mesa_image_spec.AllSourced.{epochs_written, own as own_sources}
-use Rattle.mesa_engine.proofs.mesa_image_spec.Lists.{all_back, all_front, all_unflat, stock_found}
-use Rattle.mesa_engine.proofs.mesa_image_spec.Rising.{folds_itself}
-use Rattle.mesa_plans.specs.Read.{own_file}
-use Rattle.mesa_plans.proofs.Given.{AreGiven, IsGiven, all_told}
-use Rattle.mesa_plans.proofs.Sums.{abs_append, all_below}
-use Rattle.mesa_plans.proofs.Telling.{stock_given}
+use Rattle.mesa_engine.proofs.mesa_store_spec.AllSourced.{epochs_written, own as own_sources}
+use Rattle.mesa_engine.proofs.mesa_store_spec.Lists.{all_back, all_front, all_unflat, meta_found}
+use Rattle.mesa_engine.proofs.mesa_store_spec.Rising.{folds_itself}
+use Rattle.mesa_pick_files.specs.Read.{own_file}
+use Rattle.mesa_pick_files.proofs.Given.{AreGiven, IsGiven, all_told}
+use Rattle.mesa_pick_files.proofs.Sums.{abs_append, all_below}
+use Rattle.mesa_pick_files.proofs.Telling.{meta_given}
 use Rattle.mesa_span.specs.Ranges.{start_behind}
-use Rattle.mesa_write_turns.specs.mesa_publishing.Recasts.{HasItsRange, HasItsRanges}
+use Rattle.mesa_write_turns.specs.mesa_file_records.Recasts.{HasItsRange, HasItsRanges}
 use Rattle.mesa_copy.specs.mesa_compact.Bounded.{AreBounded}
-use Rattle.mesa_plans.specs.mesa_merge.Inputs.{AreTold, knowns_of, lifted_parts}
+use Rattle.mesa_pick_files.specs.mesa_merge.Inputs.{AreTold, knowns_of, lifted_parts}
 use Rattle.mesa_copy.specs.Copying.{AreRangesBounded, IsRecastBounded}
-use Rattle.mesa_tasks.specs.Inputs.{AreInputsTo, present_parts}
-use Rattle.mesa_tasks.specs.Recasts.{AreRangesOf, own, recast_table}
-use Rattle.mesa_tasks.specs.declared.recasting.Recast.{Recast}
-use Rattle.mesa_tasks.specs.declared.recasting.RecastRange.{RecastRange}
+use Rattle.mesa_open_files.specs.Inputs.{AreInputsTo, present_parts}
+use Rattle.mesa_open_files.specs.Recasts.{AreRangesOf, own, recast_table}
+use Rattle.mesa_open_files.specs.declared.recasting.Recast.{Recast}
+use Rattle.mesa_open_files.specs.declared.recasting.RecastRange.{RecastRange}
 use Rattle.mesa_work_turns.proofs.Grants.{shaped_at}
 use Rattle.mesa_work_turns.proofs.Sound.{present_lifted, same_folded, told_inputs}
 
@@ -70,7 +70,7 @@ base_ends next None count same = tt
 base_ends next (Some e) count same = (omega (arith, same), tt)
 
 module _ {R : Type 0} (bytes : R → Option (List ℕ)) (faults : R → ℕ) (told : Option Image) where
-  pub ranges_end : (floor next : ℕ) (u : Stock) → IsShaped floor next u → (xs : List (RecastRange R)) → AllByRecursion (IsOfRange bytes faults told u) xs → AllByRecursion (λ (x : RecastRange R). x.to < next) xs
+  pub ranges_end : (floor next : ℕ) (u : TableMeta) → IsShaped floor next u → (xs : List (RecastRange R)) → AllByRecursion (IsOfRange bytes faults told u) xs → AllByRecursion (λ (x : RecastRange R). x.to < next) xs
   ranges_end floor next u shaped [] are = tt
   ranges_end floor next u shaped (x ∷ xs) are = (
     ⊎_elim
@@ -85,20 +85,20 @@ module _ {R : Type 0} (bytes : R → Option (List ℕ)) (faults : R → ℕ) (to
 
   -- ---- each file is the table's
 
-  own_inputs : (u : Stock) (x : RecastRange R) → IsOfRange bytes faults told u x → AreInputsTo bytes (columns_of u.lineage) (own x)
+  own_inputs : (u : TableMeta) (x : RecastRange R) → IsOfRange bytes faults told u x → AreInputsTo bytes (columns_of u.lineage) (own x)
   own_inputs u x (inl is) =
       let o = is.opened in
       subst (AreInputsTo bytes (columns_of u.lineage)) (sym (ap option_to_list o.has)) ((o.opened.input, ap columns_of (o.opened.lineage ∙ ap (λ (w : Want). w.lineage) o.is)), tt)
   own_inputs u x (inr is) = subst (AreInputsTo bytes (columns_of u.lineage)) (sym (ap option_to_list is.none)) tt
 
-  pub ranges_inputs : (u : Stock) (xs : List (RecastRange R)) → AllByRecursion (IsOfRange bytes faults told u) xs → AreRangesOf bytes u.lineage xs
+  pub ranges_inputs : (u : TableMeta) (xs : List (RecastRange R)) → AllByRecursion (IsOfRange bytes faults told u) xs → AreRangesOf bytes u.lineage xs
   ranges_inputs u [] are = tt
   ranges_inputs u (x ∷ xs) are = (own_inputs u x are.0, ranges_inputs u xs are.1)
 
 -- ---- what a sound store has of a table's ranges
 
 -- what holds of the deltas of a base and of singletons holds of each range's
-ranged_all : (P : Delta → Type 0) (u : Stock) → AllByRecursion P (base_deltas u.base) → AllByRecursion P u.singles → AllByRecursion (λ (r : Ranged). P r.delta) (ranged u)
+ranged_all : (P : Delta → Type 0) (u : TableMeta) → AllByRecursion P (base_deltas u.base) → AllByRecursion P u.singles → AllByRecursion (λ (r : Ranged). P r.delta) (ranged u)
 ranged_all P u base singles = all_joined (λ (r : Ranged). P r.delta) (base_ranged u.base) (singles_ranged (start_in u) u.singles) (of_base u.base base) (of_singles (start_in u) u.singles singles)
   where
     of_base : (o : Option Ending) → AllByRecursion P (base_deltas o) → AllByRecursion (λ (r : Ranged). P r.delta) (base_ranged o)
@@ -122,7 +122,7 @@ module _ (rows : Rows) (written : List Written) where
   singles_made l version (d ∷ ds) made = (made.0, singles_made l (version + 1) ds made.1)
 
   -- each range's delta was made of what was written in it
-  ranges_made : (u : Stock) → IsSourced rows written u → AllByRecursion (Made u.lineage) (ranged u)
+  ranges_made : (u : TableMeta) → IsSourced rows written u → AllByRecursion (Made u.lineage) (ranged u)
   ranges_made u its =
       all_joined (Made u.lineage) (base_ranged u.base) (singles_ranged (start_in u) u.singles) (base_made u.lineage u.base its.base) (singles_made u.lineage (start_in u) u.singles its.singles)
 
@@ -142,52 +142,52 @@ module _ (o : Outset) (g : Origin) (l : EngineState) (story : Story) (held : Opt
   told_is : story.told ≡ Some image
   told_is = (v.read refl).1
 
-  has : Has (wants v.rows (shelved l.catalogue)) image
+  has : Has (wants v.rows (live_files l.catalogue)) image
   has = held_there story l.area v.bodies l.end l.catalogue v.rows (v.stands refl opened) image told_is
 
   -- a read gives the files of each range
-  ranges_given : (table : ℕ) → table < length l.catalogue.tables → AllByRecursion (λ (r : Ranged). AreGiven v.rows image (stock_at l.catalogue table).lineage r.delta) (ranged (stock_at l.catalogue table))
+  ranges_given : (table : ℕ) → table < length l.catalogue.tables → AllByRecursion (λ (r : Ranged). AreGiven v.rows image (meta_at l.catalogue table).lineage r.delta) (ranged (meta_at l.catalogue table))
   ranges_given table there =
-      let u = stock_at l.catalogue table in
+      let u = meta_at l.catalogue table in
       let P : Delta → Type 0 = AreGiven v.rows image u.lineage in
-      let all = all_unflat (IsGiven v.rows image) (delta_shelved u.lineage) (deltas_of u) (stock_given v.rows l.catalogue image table (v.stocked refl).0 has there) in
+      let all = all_unflat (IsGiven v.rows image) (delta_live u.lineage) (deltas_of u) (meta_given v.rows l.catalogue image table (v.sound_rows refl).0 has there) in
       ranged_all P u (all_front P (base_deltas u.base) (map delta_in u.cumulatives ++ u.singles) all) (all_back P (map delta_in u.cumulatives) u.singles (all_back P (base_deltas u.base) (map delta_in u.cumulatives ++ u.singles) all))
 
-  range_given : (table : ℕ) → table < length l.catalogue.tables → (r : Ranged) → IsOneOf r (ranged (stock_at l.catalogue table)) → (f : Files) → r.delta.files ≡ Some f → AllByRecursion (IsGiven v.rows image) (files_shelved (stock_at l.catalogue table).lineage r.delta.epoch (Some f))
+  range_given : (table : ℕ) → table < length l.catalogue.tables → (r : Ranged) → IsOneOf r (ranged (meta_at l.catalogue table)) → (f : Files) → r.delta.files ≡ Some f → AllByRecursion (IsGiven v.rows image) (files_live (meta_at l.catalogue table).lineage r.delta.epoch (Some f))
   range_given table there r one f is =
-      let u = stock_at l.catalogue table in
-      subst (λ (fs : Option Files). AllByRecursion (IsGiven v.rows image) (files_shelved u.lineage r.delta.epoch fs)) is
+      let u = meta_at l.catalogue table in
+      subst (λ (fs : Option Files). AllByRecursion (IsGiven v.rows image) (files_live u.lineage r.delta.epoch fs)) is
       (all_one (λ (x : Ranged). AreGiven v.rows image u.lineage x.delta) (ranged u) (ranges_given table there) r one)
 
   -- no sum over one of them leaves its type
-  range_below : (table : ℕ) → table < length l.catalogue.tables → (r : Ranged) → IsOneOf r (ranged (stock_at l.catalogue table)) → (k : ℕ) → slice_get (aggs_of (columns_of (stock_at l.catalogue table).lineage)) k ≡ Some Sum
-      → abs_total k (rows_of (present v.rows (stock_at l.catalogue table).lineage r.delta ∷ [])) < sum_bound
+  range_below : (table : ℕ) → table < length l.catalogue.tables → (r : Ranged) → IsOneOf r (ranged (meta_at l.catalogue table)) → (k : ℕ) → slice_get (aggs_of (columns_of (meta_at l.catalogue table).lineage)) k ≡ Some Sum
+      → abs_total k (rows_of (present v.rows (meta_at l.catalogue table).lineage r.delta ∷ [])) < sum_bound
   range_below table there r one k sum =
-      let u = stock_at l.catalogue table in
+      let u = meta_at l.catalogue table in
       let P : Delta → Type 0 = λ d. abs_total k (rows_of (present v.rows u.lineage d ∷ [])) < sum_bound in
-      let below = all_below v.rows l.catalogue.floor l.catalogue.next u (shaped_at l.catalogue v.shaped table there) (stock_found (IsStocked v.rows) l.catalogue.tables table there (v.stocked refl).0) k sum in
+      let below = all_below v.rows l.catalogue.floor l.catalogue.next u (shaped_at l.catalogue v.shaped table there) (meta_found (HasSoundRows v.rows) l.catalogue.tables table there (v.sound_rows refl).0) k sum in
       let each = each_below v.rows u.lineage k (base_deltas u.base ++ u.singles) below in
       all_one (λ (x : Ranged). P x.delta) (ranged u) (ranged_all P u (all_front P (base_deltas u.base) u.singles each) (all_back P (base_deltas u.base) u.singles each)) r one
 
   -- A table's files are none that is damaged.
-  pub none_damaged : (table : ℕ) → table < length l.catalogue.tables → (damage : Option Damage) → IfSome damage (IsDamagedRange story.told (stock_at l.catalogue table)) → damage ≡ None
+  pub none_damaged : (table : ℕ) → table < length l.catalogue.tables → (damage : Option Damage) → IfSome damage (IsDamagedRange story.told (meta_at l.catalogue table)) → damage ≡ None
   none_damaged table there None met = refl
   none_damaged table there (Some d) met =
-      let u = stock_at l.catalogue table in
+      let u = meta_at l.catalogue table in
       let its = met.damaged in
       let given = (range_given table there met.range met.one its.files its.there).0 in
       absurd (its.damaged.unsound image told_is (bytes_of v.rows (record { columns = columns_at u.lineage met.range.delta.epoch; file = its.files.file })) (v.rows its.files.file.id) given.1 given.0.file given.0.true)
 
   module _ {R : Type 0} (bytes : R → Option (List ℕ)) (faults : R → ℕ) (table : ℕ) (there : table < length l.catalogue.tables) where
-    abbrev u : Stock
-    u = stock_at l.catalogue table
+    abbrev u : TableMeta
+    u = meta_at l.catalogue table
 
     abbrev lin : Lineage
     lin = u.lineage
 
     -- the rows of a range's file, as they are at present
     abbrev rows_at : Ranged → List Row
-    rows_at r = present v.rows (stock_at l.catalogue table).lineage r.delta
+    rows_at r = present v.rows (meta_at l.catalogue table).lineage r.delta
 
     -- A range's file is told, and has the present rows of its delta.
     record TellsRange (r : Ranged) (is : List (Input R)) : Type 0 where
@@ -235,7 +235,7 @@ module _ (o : Outset) (g : Origin) (l : EngineState) (story : Story) (held : Opt
     range_bounded x (inr is) = told_bounded is.range is.one (own x) (empty_tells x is)
 
     -- Of the files of a table's ranges no sum over one leaves its type.
-    pub ranges_bounded : (xs : List (RecastRange R)) → AllByRecursion (IsOfRange bytes faults story.told (stock_at l.catalogue table)) xs → AreRangesBounded bytes (columns_of (stock_at l.catalogue table).lineage) xs
+    pub ranges_bounded : (xs : List (RecastRange R)) → AllByRecursion (IsOfRange bytes faults story.told (meta_at l.catalogue table)) xs → AreRangesBounded bytes (columns_of (meta_at l.catalogue table).lineage) xs
     ranges_bounded [] are = tt
     ranges_bounded (x ∷ xs) are = (range_bounded x are.0, ranges_bounded xs are.1)
 
@@ -267,14 +267,14 @@ module _ (o : Outset) (g : Origin) (l : EngineState) (story : Story) (held : Opt
     range_sourced x (inr is) = told_sourced is.range is.one x is.at_from is.at_to (empty_tells x is)
 
     -- A table's ranges have what was written in them.
-    pub ranges_sourced : (xs : List (RecastRange R)) → AllByRecursion (IsOfRange bytes faults story.told (stock_at l.catalogue table)) xs → AllByRecursion (HasItsRange bytes (stock_at l.catalogue table).lineage (written_by o g.found h table)) xs
+    pub ranges_sourced : (xs : List (RecastRange R)) → AllByRecursion (IsOfRange bytes faults story.told (meta_at l.catalogue table)) xs → AllByRecursion (HasItsRange bytes (meta_at l.catalogue table).lineage (written_by o g.found h table)) xs
     ranges_sourced [] are = tt
     ranges_sourced (x ∷ xs) are = (range_sourced x are.0, ranges_sourced xs are.1)
 
   -- ---- so it is for a recast of a table as it stands
 
-  module _ {R : Type 0} (bytes : R → Option (List ℕ)) (faults : R → ℕ) (t : Recast R) (there : t.table < length l.catalogue.tables) (table_is : recast_table t ≡ (stock_at l.catalogue t.table).lineage)
-      (are : AllByRecursion (IsOfRange bytes faults story.told (stock_at l.catalogue t.table)) t.ranges.items) where
+  module _ {R : Type 0} (bytes : R → Option (List ℕ)) (faults : R → ℕ) (t : Recast R) (there : t.table < length l.catalogue.tables) (table_is : recast_table t ≡ (meta_at l.catalogue t.table).lineage)
+      (are : AllByRecursion (IsOfRange bytes faults story.told (meta_at l.catalogue t.table)) t.ranges.items) where
     pub recast_bounded : IsRecastBounded bytes t
     recast_bounded = subst (λ (x : Lineage). AreRangesBounded bytes (columns_of x) t.ranges.items) (sym table_is) (ranges_bounded bytes faults t.table there t.ranges.items are)
 

@@ -9,25 +9,25 @@ use Rattle.mesa_write_turns.specs.mesa_schema.declared.views.View.{View}
 use Rattle.mesa_write_turns.specs.mesa_schema.Changes.{Lineage, columns_at}
 use Rattle.mesa_write_turns.specs.mesa_schema.Columns.{Columns}
 use Rattle.mesa_write_turns.specs.mesa_schema.Folded.{folded, folded_at, keys_of, rows_of}
-use Rattle.mesa_plans.specs.mesa_value.declared.Agg.{Agg}
+use Rattle.mesa_pick_files.specs.mesa_value.declared.Agg.{Agg}
 use Rattle.mesa_disk.specs.Image.{Image, file_of}
 use Rattle.mesa_engine.specs.mesa_commit.Images.{Has}
 use Rattle.mesa_delta.specs.declared.input.Input.{Input}
 use Rattle.mesa_record.specs.declared.record.Files.{Files}
-use Rattle.mesa_engine.specs.mesa_image_spec.Catalog.{Catalog, Delta, Stock, stock_at}
-use Rattle.mesa_engine.specs.mesa_image_spec.Contents.{Rows}
-use Rattle.mesa_engine.specs.mesa_image_spec.Fitting.{Shelved, delta_shelved, deltas_of, files_shelved, shelved, stock_shelved}
-use Rattle.mesa_engine.specs.mesa_image_spec.Sound.{AreStocked, IsStocked, IsTold, bytes_of, wanted, wants}
-use Rattle.mesa_engine.proofs.mesa_image_spec.Lists.{all_unflat, all_unmap, stock_found}
+use Rattle.mesa_engine.specs.mesa_store_spec.Catalog.{Catalog, Delta, TableMeta, meta_at}
+use Rattle.mesa_engine.specs.mesa_store_spec.Contents.{Rows}
+use Rattle.mesa_engine.specs.mesa_store_spec.Fitting.{LiveFile, delta_live, deltas_of, files_live, live_files, meta_live}
+use Rattle.mesa_engine.specs.mesa_store_spec.Sound.{HaveSoundRows, HasSoundRows, IsTold, bytes_of, wanted, wants}
+use Rattle.mesa_engine.proofs.mesa_store_spec.Lists.{all_unflat, all_unmap, meta_found}
 use Rattle.mesa_engine.proofs.Lists.{all_also}
-use Rattle.mesa_plans.specs.Files.{Want, files_wanted, table_wanted, want_of}
-use Rattle.mesa_plans.specs.Gathered.{unread_view}
-use Rattle.mesa_write_turns.specs.mesa_publishing.Finished.{GroupOnly}
-use Rattle.mesa_plans.specs.mesa_merge.Inputs.{AreTold, known_of, knowns_of, lifted_in, lifted_parts}
-use Rattle.mesa_tasks.specs.Inputs.{present_parts}
-use Rattle.mesa_tasks.specs.Inputs.{AreTold as AreToldInputs}
-use Rattle.mesa_tasks.specs.Opening.{HaveOpened, wanted_columns}
-use Rattle.mesa_tasks.specs.declared.opening.Wanted.{Wanted}
+use Rattle.mesa_pick_files.specs.Files.{Want, files_wanted, table_wanted, want_of}
+use Rattle.mesa_pick_files.specs.Gathered.{unread_view}
+use Rattle.mesa_write_turns.specs.mesa_file_records.Finished.{GroupOnly}
+use Rattle.mesa_pick_files.specs.mesa_merge.Inputs.{AreTold, known_of, knowns_of, lifted_in, lifted_parts}
+use Rattle.mesa_open_files.specs.Inputs.{present_parts}
+use Rattle.mesa_open_files.specs.Inputs.{AreTold as AreToldInputs}
+use Rattle.mesa_open_files.specs.Opening.{HaveOpened, wanted_columns}
+use Rattle.mesa_open_files.specs.declared.opening.Wanted.{Wanted}
 
 -- ---- lists
 
@@ -43,21 +43,21 @@ rest_same x y xs ys same = cc
 -- ---- files of deltas that are sound
 
 -- A file is there with the bytes of its rows, of which its reference is true.
-pub record IsSoundFile (rows : Rows) (i : Image) (x : Shelved) : Type 0 where
+pub record IsSoundFile (rows : Rows) (i : Image) (x : LiveFile) : Type 0 where
   pub told : IsTold rows x
   pub there : file_of i x.file.id ≡ Some (bytes_of rows x)
 
 abbrev pub IsSoundDelta : Rows → Image → Lineage → Delta → Type 0
-IsSoundDelta rows i l d = AllByRecursion (IsSoundFile rows i) (delta_shelved l d)
+IsSoundDelta rows i l d = AllByRecursion (IsSoundFile rows i) (delta_live l d)
 
 -- so each file of a table of a catalogue whose files are there
-pub sound_deltas : (rows : Rows) (i : Image) (c : Catalog) (table : ℕ) → table < length c.tables → AreStocked rows c → Has (wants rows (shelved c)) i → AllByRecursion (IsSoundDelta rows i (stock_at c table).lineage) (deltas_of (stock_at c table))
-sound_deltas rows i c table lt stocked has =
-    let t = stock_at c table in
-    let W = λ (x : Shelved). file_of i x.file.id ≡ Some (bytes_of rows x) in
-    let are = stock_found (IsStocked rows) c.tables table lt stocked in
-    let there = stock_found (λ (u : Stock). AllByRecursion W (stock_shelved u)) c.tables table lt (all_unflat W stock_shelved c.tables (all_unmap (λ (w : ℕ × List ℕ). file_of i w.0 ≡ Some w.1) (wanted rows) (shelved c) has)) in
-    all_unflat (IsSoundFile rows i) (delta_shelved t.lineage) (deltas_of t) (all_also (IsTold rows) W (IsSoundFile rows i) (stock_shelved t) (λ x told w. record { told = told; there = w }) are.files there)
+pub sound_deltas : (rows : Rows) (i : Image) (c : Catalog) (table : ℕ) → table < length c.tables → HaveSoundRows rows c → Has (wants rows (live_files c)) i → AllByRecursion (IsSoundDelta rows i (meta_at c table).lineage) (deltas_of (meta_at c table))
+sound_deltas rows i c table lt sound_rows has =
+    let t = meta_at c table in
+    let W = λ (x : LiveFile). file_of i x.file.id ≡ Some (bytes_of rows x) in
+    let are = meta_found (HasSoundRows rows) c.tables table lt sound_rows in
+    let there = meta_found (λ (u : TableMeta). AllByRecursion W (meta_live u)) c.tables table lt (all_unflat W meta_live c.tables (all_unmap (λ (w : ℕ × List ℕ). file_of i w.0 ≡ Some w.1) (wanted rows) (live_files c) has)) in
+    all_unflat (IsSoundFile rows i) (delta_live t.lineage) (deltas_of t) (all_also (IsTold rows) W (IsSoundFile rows i) (meta_live t) (λ x told w. record { told = told; there = w }) are.files there)
 
 -- ---- files that were opened
 
@@ -69,7 +69,7 @@ module _ {R : Type 0} (bytes : R → Option (List ℕ)) (faults : R → ℕ) (to
   -- ---- no damage was met
 
   module _ (epoch : ℕ) (more : List Want) (rest : (ws : List Wanted) (is : List (Input R)) (d : Option Damage) → map want_of ws ≡ more → HaveOpened bytes faults told ws is d → d ≡ None) where
-    none_behind : (o : Option Files) → AllByRecursion (IsSoundFile rows i) (files_shelved l epoch o) → (ws : List Wanted) (is : List (Input R)) (d : Option Damage) → map want_of ws ≡ files_wanted l epoch o ++ more → HaveOpened bytes faults told ws is d → d ≡ None
+    none_behind : (o : Option Files) → AllByRecursion (IsSoundFile rows i) (files_live l epoch o) → (ws : List Wanted) (is : List (Input R)) (d : Option Damage) → map want_of ws ≡ files_wanted l epoch o ++ more → HaveOpened bytes faults told ws is d → d ≡ None
     none_behind None all ws is d same have = rest ws is d same have
     none_behind (Some f) all [] is d same have = absurd (cons_none _ _ (sym same))
     none_behind (Some f) all (w ∷ ws) [] None same have = refl

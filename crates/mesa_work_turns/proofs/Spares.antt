@@ -2,9 +2,9 @@
 use Rattle.std.proofs.Common.{ℕ, List, [], ◌∷◌}
 use Rattle.std.specs.Prelude.{Option}
 use Rattle.std.specs.List.{AllByRecursion}
-use Rattle.mesa_tasks.specs.Spares.{HasSpares, IsSpareOf}
-use Rattle.mesa_tasks.specs.declared.merging.Spare.{Spare}
-use Rattle.mesa_tasks.specs.declared.merging.Task.{Task}
+use Rattle.mesa_open_files.specs.Spares.{HasSpares, IsSpareOf}
+use Rattle.mesa_open_files.specs.declared.merging.Spare.{Spare}
+use Rattle.mesa_open_files.specs.declared.merging.Task.{Task}
 
 module _ {R : Type 0} (bytes : R → Option (List ℕ)) where
   each_leased : (t : Task R) (lease : ℕ) (ss : List (Spare R)) → AllByRecursion (IsSpareOf bytes t) ss → AllByRecursion (IsSpareOf bytes (record t { lease = lease })) ss

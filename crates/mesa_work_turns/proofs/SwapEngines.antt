@@ -21,12 +21,12 @@ use Rattle.mesa_write_turns.specs.mesa_history_spec.Run.{Renewed}
 use Rattle.mesa_write_turns.specs.mesa_history_spec.Turns.{IsDue}
 use Rattle.mesa_record.specs.Reading.{record_at}
 use Rattle.mesa_record.specs.Rules.{IsTyped}
-use Rattle.mesa_engine.specs.mesa_image_spec.Catalog.{applied}
-use Rattle.mesa_engine.specs.mesa_image_spec.Ids.{dropped_ids}
+use Rattle.mesa_engine.specs.mesa_store_spec.Catalog.{applied}
+use Rattle.mesa_engine.specs.mesa_store_spec.Ids.{dropped_ids}
 use Rattle.mesa_engine.specs.mesa_catalog.Lookups.{generation_of, turns_generation}
 use Rattle.mesa_write_turns.specs.mesa_script.Rows.{body_of}
 use Rattle.mesa_write_turns.specs.mesa_history_spec.Rows.{Rows, no_rows}
-use Rattle.mesa_tasks.specs.declared.merging.Task.{Task}
+use Rattle.mesa_open_files.specs.declared.merging.Task.{Task}
 use Rattle.mesa_write_turns.specs.mesa_invariant_spec.Causes.{Unwritten, reply_of, told_at}
 use Rattle.mesa_write_turns.specs.mesa_invariant_spec.Turns.{entry}
 use Rattle.mesa_write_turns.specs.mesa_invariant_spec.Invariant.{Counts, run_at}
@@ -39,11 +39,11 @@ use Rattle.mesa_engine.specs.Printing.{PrintsBlock}
 use Rattle.mesa_engine.specs.Memory.{Memory}
 use Rattle.mesa_engine.specs.Engine.{IsEngine}
 use Rattle.mesa_engine.proofs.Turning.{told_engine}
-use Rattle.mesa_write_turns.specs.mesa_publishing.Published.{AllTell}
-use Rattle.mesa_write_turns.specs.mesa_publishing.Finished.{HasRange}
-use Rattle.mesa_write_turns.specs.mesa_publishing.Swapped.{IsSwapped}
-use Rattle.mesa_write_turns.specs.mesa_publishing.declared.swapping.Swapped.{Swapped}
-use Rattle.mesa_tasks.specs.Tasks.{claim_in}
+use Rattle.mesa_write_turns.specs.mesa_file_records.Published.{AllTell}
+use Rattle.mesa_write_turns.specs.mesa_file_records.Finished.{HasRange}
+use Rattle.mesa_write_turns.specs.mesa_file_records.Swapped.{IsSwapped}
+use Rattle.mesa_write_turns.specs.mesa_file_records.declared.swapping.Swapped.{Swapped}
+use Rattle.mesa_open_files.specs.Tasks.{claim_in}
 use Rattle.mesa_write_turns.proofs.Written.{IsWhole, IsWorked, absent_yet}
 use Rattle.mesa_work_turns.proofs.Swaps.{swap_ends, swap_fails}
 

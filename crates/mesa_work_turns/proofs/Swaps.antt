@@ -23,23 +23,23 @@ use Rattle.mesa_write_turns.specs.mesa_history_spec.Turns.{IsDue}
 use Rattle.mesa_record.specs.Reading.{record_at}
 use Rattle.mesa_record.specs.Rules.{IsTyped, keeps_rules}
 use Rattle.mesa_record.specs.declared.record.Record.{Record}
-use Rattle.mesa_engine.specs.mesa_image_spec.Catalog.{Catalog, applied, stock_at}
-use Rattle.mesa_engine.specs.mesa_image_spec.Contents.{kept_of}
-use Rattle.mesa_engine.specs.mesa_image_spec.Fitting.{Shelved, brought, fits, shelved, shelved_id}
-use Rattle.mesa_engine.specs.mesa_image_spec.Held.{IsHeld, IsUnnamed}
-use Rattle.mesa_engine.specs.mesa_image_spec.Sound.{AreStocked, StandsFor, wants}
-use Rattle.mesa_engine.proofs.mesa_image_spec.Agreeing.{agree_stocked, agree_wants}
-use Rattle.mesa_engine.proofs.mesa_image_spec.AllSourced.{agree_sourced, merge_written, swap_replaces, swap_sourced}
-use Rattle.mesa_engine.proofs.mesa_image_spec.CountedRecords.{fits_counted}
-use Rattle.mesa_engine.proofs.mesa_image_spec.Ids.{own_ids}
-use Rattle.mesa_engine.proofs.mesa_image_spec.Recordable.{applied_recordable}
-use Rattle.mesa_engine.proofs.mesa_image_spec.Moving.{kind_of, swap_step}
-use Rattle.mesa_engine.proofs.mesa_image_spec.Swapping.{swap_there, swap_within}
-use Rattle.mesa_engine.proofs.mesa_image_spec.Wholes.{fits_shaped}
-use Rattle.mesa_engine.specs.mesa_image_spec.Brought.{AreTold, Replaces, merged_of}
-use Rattle.mesa_engine.specs.mesa_image_spec.Ids.{brought_ids, dropped_ids, named}
-use Rattle.mesa_engine.specs.mesa_image_spec.Moves.{Moves, first_of, is_base, kept_swapped, last_of, work_of}
-use Rattle.mesa_engine.specs.mesa_image_spec.Sourced.{HasSources, IsMadeOf}
+use Rattle.mesa_engine.specs.mesa_store_spec.Catalog.{Catalog, applied, meta_at}
+use Rattle.mesa_engine.specs.mesa_store_spec.Contents.{kept_of}
+use Rattle.mesa_engine.specs.mesa_store_spec.Fitting.{LiveFile, brought, fits, live_files, live_id}
+use Rattle.mesa_engine.specs.mesa_store_spec.Held.{IsHeld, IsUnnamed}
+use Rattle.mesa_engine.specs.mesa_store_spec.Sound.{HaveSoundRows, StandsFor, wants}
+use Rattle.mesa_engine.proofs.mesa_store_spec.Agreeing.{agree_sound_rows, agree_wants}
+use Rattle.mesa_engine.proofs.mesa_store_spec.AllSourced.{agree_sourced, merge_written, swap_replaces, swap_sourced}
+use Rattle.mesa_engine.proofs.mesa_store_spec.CountedRecords.{fits_counted}
+use Rattle.mesa_engine.proofs.mesa_store_spec.Ids.{own_ids}
+use Rattle.mesa_engine.proofs.mesa_store_spec.Recordable.{applied_recordable}
+use Rattle.mesa_engine.proofs.mesa_store_spec.Moving.{kind_of, swap_step}
+use Rattle.mesa_engine.proofs.mesa_store_spec.Swapping.{swap_there, swap_within}
+use Rattle.mesa_engine.proofs.mesa_store_spec.Wholes.{fits_shaped}
+use Rattle.mesa_engine.specs.mesa_store_spec.Brought.{AreTold, Replaces, merged_of}
+use Rattle.mesa_engine.specs.mesa_store_spec.Ids.{brought_ids, dropped_ids, named}
+use Rattle.mesa_engine.specs.mesa_store_spec.Moves.{Moves, first_of, is_base, kept_swapped, last_of, work_of}
+use Rattle.mesa_engine.specs.mesa_store_spec.Sourced.{HasSources, IsMadeOf}
 use Rattle.mesa_engine.specs.mesa_catalog.Lookups.{generation_of, turns_generation}
 use Rattle.mesa_store.specs.Store.{Writes as IsWritten}
 use Rattle.mesa_write_turns.specs.mesa_history_spec.Output.{block}
@@ -47,7 +47,7 @@ use Rattle.mesa_write_turns.specs.mesa_history_spec.Rows.{Rows, no_rows}
 use Rattle.mesa_engine.proofs.mesa_commit.Filing.{freed_unnamed}
 use Rattle.mesa_engine.specs.mesa_commit.Filed.{Renames}
 use Rattle.mesa_engine.specs.mesa_commit.Holding.{Among, freed, ids_of}
-use Rattle.mesa_tasks.specs.declared.merging.Task.{Task}
+use Rattle.mesa_open_files.specs.declared.merging.Task.{Task}
 use Rattle.mesa_write_turns.specs.mesa_invariant_spec.Causes.{Unwritten, reply_of, told_at}
 use Rattle.mesa_write_turns.specs.mesa_invariant_spec.Printing.{IsPut}
 use Rattle.mesa_write_turns.specs.mesa_invariant_spec.Turns.{entry}
@@ -64,11 +64,11 @@ use Rattle.mesa_engine.proofs.Renaming.{record_brings, record_renames}
 use Rattle.mesa_engine.proofs.Sources.{sources_stay}
 use Rattle.mesa_engine.proofs.Swapping.{swap_is, swap_leaves, swapped_as}
 use Rattle.mesa_engine.proofs.Writing.{swapped_vault, unswapped_vault}
-use Rattle.mesa_write_turns.specs.mesa_publishing.Published.{AllTell, rows_with}
-use Rattle.mesa_write_turns.specs.mesa_publishing.Finished.{HasRange}
-use Rattle.mesa_write_turns.specs.mesa_publishing.Swapped.{IsSwapped, delta_of, swap_of}
-use Rattle.mesa_write_turns.specs.mesa_publishing.declared.swapping.Swapped.{Swapped}
-use Rattle.mesa_tasks.specs.Tasks.{claim_in}
+use Rattle.mesa_write_turns.specs.mesa_file_records.Published.{AllTell, rows_with}
+use Rattle.mesa_write_turns.specs.mesa_file_records.Finished.{HasRange}
+use Rattle.mesa_write_turns.specs.mesa_file_records.Swapped.{IsSwapped, delta_of, swap_of}
+use Rattle.mesa_write_turns.specs.mesa_file_records.declared.swapping.Swapped.{Swapped}
+use Rattle.mesa_open_files.specs.Tasks.{claim_in}
 use Rattle.mesa_write_turns.proofs.Written.{IsWhole, IsWorked}
 
 -- a work is that of its range
@@ -82,7 +82,7 @@ pub all_among : (P : ℕ → Type 0) (ids : List ℕ) → ((id : ℕ) → Among 
 all_among P [] each = tt
 all_among P (x ∷ ids) each = (each x (inl refl), all_among P ids (λ id is. each id (inr is)))
 
-pub not_among : (id : ℕ) (files : List Shelved) → (Among id (map shelved_id files) → ⊥) → AllByRecursion (λ (x : Shelved). x.file.id ≡ id → ⊥) files
+pub not_among : (id : ℕ) (files : List LiveFile) → (Among id (map live_id files) → ⊥) → AllByRecursion (λ (x : LiveFile). x.file.id ≡ id → ⊥) files
 not_among id [] none = tt
 not_among id (x ∷ files) none = (λ same. none (inl same), not_among id files (λ is. none (inr is)))
 
@@ -162,27 +162,27 @@ module _ (n : Starts) (w : Rows) (sound : Bool) (l : EngineState) (story : Story
 
   -- nothing that is removed is named then
   unnamed : AllByRecursion (IsUnnamed (applied c r)) removed
-  unnamed = all_among (IsUnnamed (applied c r)) removed (λ id among. not_among id (shelved (applied c r)) (freed_unnamed (length h + 1) (first_id c.run + s.adopted) (named (applied c r)) (waiting l (length h) gone) (map ids_held (holders v.seen l))
+  unnamed = all_among (IsUnnamed (applied c r)) removed (λ id among. not_among id (live_files (applied c r)) (freed_unnamed (length h + 1) (first_id c.run + s.adopted) (named (applied c r)) (waiting l (length h) gone) (map ids_held (holders v.seen l))
       (filed_moved (length h) (next_id l) (named c) l.trash (map ids_held (holders v.seen l)) v.filed made (first_id c.run + s.adopted) is.adopts.given (let more = is.adopts.more in omega (arith, more)) (named (applied c r)) gone renames)
       id (subst (λ hs. Among id (ids_of (freed hs (waiting l (length h) gone)))) (sym (holds_are v.seen l)) among)))
 
   -- ---- on a sound store
 
   module _ (ok : IsTrue sound) where
-    stocked_later : AreStocked later c
-    stocked_later = agree_stocked v.rows later c (named_agree (outset_of n w) (n.origin w) sound l story held h running refused v later agree) (v.stocked ok).0
+    sound_rows_later : HaveSoundRows later c
+    sound_rows_later = agree_sound_rows v.rows later c (named_agree (outset_of n w) (n.origin w) sound l story held h running refused v later agree) (v.sound_rows ok).0
 
     has_sources : HasSources later written c
     has_sources = agree_sourced v.rows later written c (named_agree (outset_of n w) (n.origin w) sound l story held h running refused v later agree) (v.sourced ok)
 
-    made_of : IsMadeOf later (stock_at c t.table).lineage (written t.table) (first_of t.work) (last_of t.work) (delta_of t is.refs)
+    made_of : IsMadeOf later (meta_at c t.table).lineage (written t.table) (first_of t.work) (last_of t.work) (delta_of t is.refs)
     made_of = merge_written later written c v.shaped has_sources t.table there (first_of t.work) (last_of t.work) (delta_of t is.refs) (is.merged v.rows (written t.table) (range ok))
 
-    replaces : Replaces later (stock_at c t.table).lineage (delta_of t is.refs) (merged_of (stock_at c t.table) (is_base t.work) (last_of t.work))
+    replaces : Replaces later (meta_at c t.table).lineage (delta_of t is.refs) (merged_of (meta_at c t.table) (is_base t.work) (last_of t.work))
     replaces = swap_replaces later written c v.shaped has_sources t.table (is_base t.work) (first_of t.work) (last_of t.work) t.epoch is.refs fit made_of
 
     moves : Moves later c r (kept_swapped (kept_of later c) t.table (work_of (is_base t.work) (first_of t.work) (last_of t.work)))
-    moves = swap_step later c stocked_later v.shaped t.table (is_base t.work) (first_of t.work) (last_of t.work) t.epoch is.refs fit files_told (record { replaces = replaces; grouped = is.grouped v.rows (written t.table) (range ok) })
+    moves = swap_step later c sound_rows_later v.shaped t.table (is_base t.work) (first_of t.work) (last_of t.work) t.epoch is.refs fit files_told (record { replaces = replaces; grouped = is.grouped v.rows (written t.table) (range ok) })
 
   module _ (body : List ℕ) (are : AreBytes body) (reads : record_at body ≡ Ok r) where
     to_write : IsTrue sound → AllTell bytes s.made.items → IsWritten story l.area v.bodies l.end c later r body made removed
@@ -192,10 +192,10 @@ module _ (n : Starts) (w : Rows) (sound : Bool) (l : EngineState) (story : Story
           held = record {
             bytes = stands.bytes;
             records = stands.records;
-            stocked = stocked_later ok;
-            stands = subst (λ files. Stands story l.area v.bodies l.end files) (sym (agree_wants v.rows later (shelved c) (named_agree (outset_of n w) (n.origin w) sound l story held h running refused v later agree))) stands.stands;
+            sound_rows = sound_rows_later ok;
+            stands = subst (λ files. Stands story l.area v.bodies l.end files) (sym (agree_wants v.rows later (live_files c) (named_agree (outset_of n w) (n.origin w) sound l story held h running refused v later agree))) stands.stands;
           };
-          step = record { bytes = are; reads = reads; fitting = fit; stocked = (moves ok).stocked; grows = (moves ok).grows };
+          step = record { bytes = are; reads = reads; fitting = fit; sound_rows = (moves ok).sound_rows; grows = (moves ok).grows };
           brings = files tell;
           unnamed = unnamed;
         }
@@ -227,7 +227,7 @@ module _ (n : Starts) (w : Rows) (sound : Bool) (l : EngineState) (story : Story
         swapped_vault n w sound l story held h running refused v session number low few m ran at place opened later (applied c r) made gone s.adopted is.adopts recorded (left_by l (length h) gone) removed clears new moment passes only writes now new_held
         words claim t.work refl due checked (generation_of (applied c r)) end swaps
         (swapped_as (outset_of n w) (n.origin w) sound l story held h running refused v later agree claim t.work (is_base t.work) (first_of t.work) (last_of t.work) t.epoch is.refs (work_same t.work) (generation_of (applied c r)) (left_by l (length h) gone) s.adopted end)
-        counts bodies holds gone_now (λ ok. (moves ok).stocked) long (omega (arith, rises))
+        counts bodies holds gone_now (λ ok. (moves ok).sound_rows) long (omega (arith, rises))
         (λ told ok. sources_stay (outset_of n w) (n.origin w) sound l story held h running refused v later agree (entry session number kind.Close outcome.Stands m) _ (swapped_reply t.work) told (swap_leaves t.work) (applied c r)
         (λ has. swap_sourced later written c v.shaped has t.table (is_base t.work) (first_of t.work) (last_of t.work) t.epoch is.refs fit (made_of ok)) ok) put
 

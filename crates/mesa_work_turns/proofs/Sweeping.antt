@@ -4,7 +4,7 @@ use Rattle.std.specs.Prelude.{filter}
 use Rattle.std.proofs.lemmas.List.{append_cancel_left}
 use Rattle.std.specs.List.{AllByRecursion}
 use Rattle.mesa_disk.specs.Story.{Story}
-use Rattle.mesa_engine.specs.mesa_image_spec.Ids.{named}
+use Rattle.mesa_engine.specs.mesa_store_spec.Ids.{named}
 use Rattle.mesa_engine.specs.EngineState.{EngineState, holders, ids_held, next_id}
 use Rattle.mesa_engine.specs.Recorded.{holds_in}
 use Rattle.mesa_engine.specs.Vault.{Origin, IsVault}

@@ -4,10 +4,10 @@ use Rattle.mesa_write_turns.specs.mesa_list.Checks.{◌>>◌, refuse_unless}
 use Rattle.mesa_write_turns.specs.mesa_schema.Changes.{epoch_of}
 use Rattle.mesa_write_turns.specs.mesa_history_spec.Machine.{Claim, Errand, Merges, Recasts}
 use Rattle.mesa_lease.specs.Book.{is_held, other_holder}
-use Rattle.mesa_engine.specs.mesa_image_spec.Catalog.{stock_at}
+use Rattle.mesa_engine.specs.mesa_store_spec.Catalog.{meta_at}
 use Rattle.mesa_engine.specs.EngineState.{EngineState}
-use Rattle.mesa_tasks.specs.declared.opening.Unopened.{Unopened}
-use Rattle.mesa_tasks.specs.declared.opening.Unopened.TheVariants as un
+use Rattle.mesa_open_files.specs.declared.opening.Unopened.{Unopened}
+use Rattle.mesa_open_files.specs.declared.opening.Unopened.TheVariants as un
 use Rattle.mesa_binding.specs.declared.failure.Failure.{Failure}
 use Rattle.mesa_binding.specs.declared.failure.Failure.TheVariants as asked
 use Rattle.mesa_model.specs.Refusals.{refuse_closed}
@@ -16,7 +16,7 @@ use Rattle.mesa_model.specs.declared.replies.Refusal.TheVariants as no
 use Rattle.mesa_model.specs.declared.replies.Reply.TheVariants as reply
 use Rattle.mesa_write_turns.specs.mesa_invariant_spec.Books.{Books}
 use Rattle.mesa_write_turns.specs.mesa_invariant_spec.Causes.{Cause, NoMemory, Replies, Unread}
-use Rattle.mesa_rules.specs.declared.recasting.Regrouping.{Regrouping}
+use Rattle.mesa_validate.specs.declared.recasting.Regrouping.{Regrouping}
 use Rattle.mesa_work_turns.specs.declared.claiming.Claimed.{Claimed}
 
 -- the claim of a work that is granted next
@@ -25,7 +25,7 @@ claim_as l x = record { table = x.table; lease = l.leases.granted + 1; errand = 
 
 -- the claim of a recast that is granted next
 abbrev pub recast_claim_as : EngineState → Regrouping → Claim
-recast_claim_as l x = record { table = x.table; lease = l.leases.granted + 1; errand = Recasts (epoch_of (stock_at l.catalogue x.table).lineage) (record { keys = x.names.keys; values = x.names.values }) }
+recast_claim_as l x = record { table = x.table; lease = l.leases.granted + 1; errand = Recasts (epoch_of (meta_at l.catalogue x.table).lineage) (record { keys = x.names.keys; values = x.names.values }) }
 
 -- why none is granted whose files weren't opened
 abbrev pub cause_met : Unopened → Cause

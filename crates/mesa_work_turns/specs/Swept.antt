@@ -2,8 +2,8 @@
 use Rattle.std.specs.Prelude.{◌≡◌, ◌⊎◌, ◌++◌, ◌∷◌, [], ℕ, List, map, Option, None, Some, Ok}
 use Rattle.mesa_disk.specs.Image.{Image, file_of}
 use Rattle.mesa_write_turns.specs.mesa_history_spec.Machine.{Claim, claim_checked}
-use Rattle.mesa_engine.specs.mesa_image_spec.Catalog.{Catalog}
-use Rattle.mesa_engine.specs.mesa_image_spec.Ids.{named}
+use Rattle.mesa_engine.specs.mesa_store_spec.Catalog.{Catalog}
+use Rattle.mesa_engine.specs.mesa_store_spec.Ids.{named}
 use Rattle.mesa_engine.specs.EngineState.{EngineState, books_of, holders, ids_held}
 use Rattle.mesa_engine.specs.Vault.{IsFiled}
 use Rattle.mesa_write_turns.specs.mesa_invariant_spec.Turns.{Shown, entry}

@@ -2,7 +2,7 @@
 ghost use Rattle.std.specs.Prelude.{◌≡◌, ◌<◌, ◌≤◌, length, None, Some, Ok, IfErr, IfOk, OnOk, false};
 ghost use Rattle.mesa_engine.specs.Failing.{is_of_device};
 ghost use Rattle.mesa_write_turns.specs.mesa_history_spec.Machine.{claim_of};
-ghost use Rattle.mesa_engine.specs.mesa_image_spec.Catalog.{ranges_of, stock_at};
+ghost use Rattle.mesa_engine.specs.mesa_store_spec.Catalog.{ranges_of, meta_at};
 ghost use Rattle.mesa_lease.specs.Book.{holder};
 ghost use Rattle.mesa_engine.specs.EngineState.{books_of};
 ghost use Rattle.mesa_engine.specs.Failure.{cause_in};
@@ -15,7 +15,7 @@ ghost use Rattle.mesa_work_turns.specs.Claims.{claim_as};
 use mesa_engine::{Failure, Metadata};
 use mesa_lease::TABLES;
 use mesa_model::Refusal;
-use mesa_rules::table_number;
+use mesa_validate::table_number;
 use mesa_span::{Work, next_work};
 
 /// The table of a work, and the range that it makes.
@@ -33,7 +33,7 @@ pub(crate) fn claim(metadata: &Metadata, name: &[u8], position: u64) -> Result<C
     ensures low { IfOk result (λ x. x.table < TABLES) }
     ensures free { IfOk result (λ x. holder metadata.now.state.leases x.table position ≡ None) }
     ensures opened { OnOk result (metadata.now.state.closed ≡ None) }
-    ensures next { IfOk result (λ x. work_due (ranges_of (stock_at metadata.now.state.catalogue x.table)) (stock_at metadata.now.state.catalogue x.table).oldest (base_before metadata.now.state.catalogue.next) ≡ Some x.work) }
+    ensures next { IfOk result (λ x. work_due (ranges_of (meta_at metadata.now.state.catalogue x.table)) (meta_at metadata.now.state.catalogue x.table).oldest (base_before metadata.now.state.catalogue.next) ≡ Some x.work) }
     ensures refused { IfErr result (λ f. HasNoClaim (books_of no_rows metadata.now.state) (claim_of (books_of no_rows metadata.now.state).bare (books_of no_rows metadata.now.state).machine position name.now) (cause_in f)) }
     ensures quiet { IfErr result (λ f. is_of_device (cause_in f) ≡ false) }
 {

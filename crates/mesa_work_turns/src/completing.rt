@@ -4,7 +4,7 @@ ghost use Rattle.mesa_write_turns.specs.mesa_history_spec.Claims.{is_live};
 ghost use Rattle.mesa_write_turns.specs.mesa_history_spec.Machine.{swapped_reply};
 ghost use Rattle.mesa_write_turns.specs.mesa_history_spec.Run.{Finished, Renewed};
 ghost use Rattle.mesa_write_turns.specs.mesa_history_spec.Turns.{IsDue};
-ghost use Rattle.mesa_engine.specs.mesa_image_spec.Catalog.{stock_at};
+ghost use Rattle.mesa_engine.specs.mesa_store_spec.Catalog.{meta_at};
 ghost use Rattle.mesa_engine.specs.EngineState.{books_of};
 ghost use Rattle.mesa_engine.specs.Failure.{cause_in};
 ghost use Rattle.mesa_engine.specs.Memory.{with_state};
@@ -13,11 +13,11 @@ ghost use Rattle.mesa_model.specs.declared.commands.WorkWords.{WorkWords};
 ghost use Rattle.mesa_model.specs.declared.entries.Kind.TheVariants as kind;
 ghost use Rattle.mesa_write_turns.specs.mesa_schema.Changes.{Lineage};
 ghost use Rattle.mesa_write_turns.specs.mesa_history_spec.Rows.{Rows, no_rows};
-ghost use Rattle.mesa_write_turns.specs.mesa_publishing.Finished.{HasRange, IsFinished};
+ghost use Rattle.mesa_write_turns.specs.mesa_file_records.Finished.{HasRange, IsFinished};
 ghost use Rattle.mesa_write_turns.specs.mesa_invariant_spec.Causes.{outcome_of};
 ghost use Rattle.mesa_write_turns.specs.mesa_invariant_spec.Turns.{AnswersDisk, AnswersDraft, SomeRose, Takes, entry};
 ghost use Rattle.mesa_write_turns.specs.mesa_invariant_spec.Invariant.{run_at};
-ghost use Rattle.mesa_tasks.specs.Tasks.{claim_in};
+ghost use Rattle.mesa_open_files.specs.Tasks.{claim_in};
 ghost use Rattle.mesa_engine.specs.Written.{written_at};
 ghost use Rattle.mesa_work_turns.specs.Merged.{HasNotSwapped, cause_met, unswapped_state};
 ghost use Rattle.mesa_work_turns.specs.Swept.{ClaimHolds, HasStood, IsSwept};
@@ -32,7 +32,7 @@ use mesa_model::{Kind, Outcome, Refusal, Reply, WorkWords};
 use mesa_write_turns::Swapped;
 use mesa_span::Work;
 use mesa_store::write_record;
-use mesa_tasks::{NewDelta, Task};
+use mesa_open_files::{NewDelta, Task};
 use crate::give_back;
 use std::alloc::{AllocError, Global};
 
@@ -102,7 +102,7 @@ fn swap_in<N: Naming, M: Made, D: Disk<M>, K: Sink>(
     requires due { (words : WorkWords) × IsDue N.script (run_at N.script (N.start no_rows) engine.old.shown.history) who.session who.command (command.Work words) (Renewed (claim_in task.now)) }
     requires table { task.now.table < TABLES }
     requires holds { ClaimHolds engine.old.state (length engine.old.shown.history) (claim_in task.now) }
-    requires finished { (was : Lineage) × IsFinished M.bytes M.id_of D.Reader.bytes was (stock_at engine.old.state.catalogue task.now.table).lineage task.now delta
+    requires finished { (was : Lineage) × IsFinished M.bytes M.id_of D.Reader.bytes was (meta_at engine.old.state.catalogue task.now.table).lineage task.now delta
         × ((w : Rows) → N.sound w → HasRange D.Reader.bytes was task.now (written_at N.script (N.start w) (N.origin w) engine.old.shown.history task.now.table)) }
     requires told { (w : Rows) → N.sound w → (file : M) → (bytes : List ℕ) × (M.bytes file ≡ Some bytes) }
     requires room { length engine.old.shown.history < N.room }
@@ -162,7 +162,7 @@ fn close<N: Naming, M: Made, D: Disk<M>, K: Sink>(
 )
     requires due { (words : WorkWords) × IsDue N.script (run_at N.script (N.start no_rows) engine.old.shown.history) who.session who.command (command.Work words) (Renewed (claim_in task.now)) }
     requires table { task.now.table < TABLES }
-    requires finished { is_live engine.old.state.leases task.now.table task.now.lease ≡ true → (was : Lineage) × IsFinished M.bytes M.id_of D.Reader.bytes was (stock_at engine.old.state.catalogue task.now.table).lineage task.now delta
+    requires finished { is_live engine.old.state.leases task.now.table task.now.lease ≡ true → (was : Lineage) × IsFinished M.bytes M.id_of D.Reader.bytes was (meta_at engine.old.state.catalogue task.now.table).lineage task.now delta
         × ((w : Rows) → N.sound w → HasRange D.Reader.bytes was task.now (written_at N.script (N.start w) (N.origin w) engine.old.shown.history task.now.table)) }
     requires told { (w : Rows) → N.sound w → (file : M) → (bytes : List ℕ) × (M.bytes file ≡ Some bytes) }
     requires room { length engine.old.shown.history < N.room }
@@ -195,7 +195,7 @@ pub fn complete<N: Naming, M: Made, D: Disk<M>, K: Sink>(
     requires table { task.table < TABLES }
 
     // While the work's lease is its table's last one and hasn't ended, the table isn't recast: what was merged can be told of it.
-    requires finished { is_live engine.old.state.leases task.table task.lease ≡ true → (was : Lineage) × IsFinished M.bytes M.id_of D.Reader.bytes was (stock_at engine.old.state.catalogue task.table).lineage task delta
+    requires finished { is_live engine.old.state.leases task.table task.lease ≡ true → (was : Lineage) × IsFinished M.bytes M.id_of D.Reader.bytes was (meta_at engine.old.state.catalogue task.table).lineage task delta
         × ((w : Rows) → N.sound w → HasRange D.Reader.bytes was task (written_at N.script (N.start w) (N.origin w) engine.old.shown.history task.table)) }
     requires told { (w : Rows) → N.sound w → (file : M) → (bytes : List ℕ) × (M.bytes file ≡ Some bytes) }
     requires room { length engine.old.shown.history < N.room }

@@ -5,7 +5,7 @@ ghost use Rattle.mesa_write_turns.specs.mesa_invariant_spec.Turns.{NoneFell};
 use mesa_disk::{Disk, Made};
 use mesa_engine::{Engine, Naming};
 use mesa_io::Sink;
-use mesa_tasks::{Recast, Task, retire_recast, retire_task};
+use mesa_open_files::{Recast, Task, retire_recast, retire_task};
 
 /// Gives back the readers of a task. Those that have failed are counted by the disk.
 pub fn give_back<N: Naming, M: Made, D: Disk<M>, K: Sink>(

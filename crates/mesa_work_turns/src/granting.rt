@@ -1,12 +1,12 @@
 // A work's grant.
 ghost use Rattle.std.specs.Prelude.{◌≡◌, ◌≢◌, ◌+◌, ◌-◌, ◌<◌, ◌≤◌, ◌^◌, ℕ, List, true, length, None, Some, Ok, IfSome, OnSome};
 ghost use Rattle.mesa_copy.specs.mesa_compact.Bounded.{IsBounded};
-ghost use Rattle.mesa_plans.specs.Gathered.{unread_views};
+ghost use Rattle.mesa_pick_files.specs.Gathered.{unread_views};
 ghost use Rattle.mesa_write_turns.specs.mesa_history_spec.Machine.{claim_of};
 ghost use Rattle.mesa_write_turns.specs.mesa_history_spec.Run.{First, Granted};
 ghost use Rattle.mesa_write_turns.specs.mesa_history_spec.Turns.{IsDue};
-ghost use Rattle.mesa_engine.specs.mesa_image_spec.Catalog.{ranges_of, stock_at};
-ghost use Rattle.mesa_engine.specs.mesa_image_spec.Moves.{last_of};
+ghost use Rattle.mesa_engine.specs.mesa_store_spec.Catalog.{ranges_of, meta_at};
+ghost use Rattle.mesa_engine.specs.mesa_store_spec.Moves.{last_of};
 ghost use Rattle.mesa_lease.specs.Book.{granted, holder};
 ghost use Rattle.mesa_engine.specs.EngineState.{books_of};
 ghost use Rattle.mesa_engine.specs.Failure.{cause_in};
@@ -17,9 +17,9 @@ ghost use Rattle.mesa_model.specs.declared.entries.Kind.TheVariants as kind;
 ghost use Rattle.mesa_write_turns.specs.mesa_history_spec.Rows.{Rows, no_rows};
 ghost use Rattle.mesa_span.specs.Ranges.{base_before};
 ghost use Rattle.mesa_span.specs.Work.{next_work};
-ghost use Rattle.mesa_write_turns.specs.mesa_publishing.Finished.{HasRange};
-ghost use Rattle.mesa_tasks.specs.Spares.{HasSpares};
-ghost use Rattle.mesa_tasks.specs.Tasks.{IsTask, claim_in};
+ghost use Rattle.mesa_write_turns.specs.mesa_file_records.Finished.{HasRange};
+ghost use Rattle.mesa_open_files.specs.Spares.{HasSpares};
+ghost use Rattle.mesa_open_files.specs.Tasks.{IsTask, claim_in};
 ghost use Rattle.mesa_write_turns.specs.mesa_invariant_spec.Turns.{AnswersDisk, SomeRose, Takes};
 ghost use Rattle.mesa_write_turns.specs.mesa_invariant_spec.Invariant.{run_at};
 ghost use Rattle.mesa_write_turns.specs.mesa_invariant_spec.Works.{stage_if};
@@ -32,8 +32,8 @@ use mesa_engine::{Engine, Failure, Metadata, Naming, Who};
 use mesa_io::Sink;
 use mesa_lease::TABLES;
 use mesa_model::{Kind, Outcome, WorkWords};
-use mesa_plans::gather;
-use mesa_tasks::{Task, Unopened};
+use mesa_pick_files::gather;
+use mesa_open_files::{Task, Unopened};
 
 /// The first turn of a work: its table has a lease from it on, and the files that it folds are open; unless the vault has closed, there is no such table, another work has the table, there is nothing to merge, or a file couldn't be opened.
 pub fn grant<N: Naming, M: Made, D: Disk<M>, K: Sink>(
@@ -52,8 +52,8 @@ pub fn grant<N: Naming, M: Made, D: Disk<M>, K: Sink>(
     // Its table is one of those behind the turn, and its range ends before the version that comes next.
     ensures there { IfSome result (λ t. t.table < length (run_at N.script (N.start no_rows) engine.new.shown.history).state.warehouse.store.tables) }
     ensures next { IfSome result (λ t. last_of t.work < (run_at N.script (N.start no_rows) engine.new.shown.history).state.warehouse.next) }
-    ensures task { IfSome result (λ t. IsTask D.Reader.bytes (stock_at engine.old.state.catalogue t.table).lineage t) }
-    ensures views { IfSome result (λ t. t.views.items ≡ unread_views 0 (length (stock_at engine.old.state.catalogue t.table).lineage.views)) }
+    ensures task { IfSome result (λ t. IsTask D.Reader.bytes (meta_at engine.old.state.catalogue t.table).lineage t) }
+    ensures views { IfSome result (λ t. t.views.items ≡ unread_views 0 (length (meta_at engine.old.state.catalogue t.table).lineage.views)) }
     ensures damage { IfSome result (λ t. IfSome t.damage (λ d. d.want ≢ d.found)) }
 
     // Each of its files is open once more for each further part of the merge, unless one of them is damaged.
@@ -61,8 +61,8 @@ pub fn grant<N: Naming, M: Made, D: Disk<M>, K: Sink>(
 
     // On a sound store no file was damaged, no sum over them leaves its type, and it has all that was written in its range.
     ensures whole { (w : Rows) → N.sound w → IfSome result (λ t. t.damage ≡ None) }
-    ensures bounded { (w : Rows) → N.sound w → IfSome result (λ t. IsBounded D.Reader.bytes (stock_at engine.old.state.catalogue t.table).lineage t) }
-    ensures range { (w : Rows) → N.sound w → IfSome result (λ t. HasRange D.Reader.bytes (stock_at engine.old.state.catalogue t.table).lineage t (written_at N.script (N.start w) (N.origin w) engine.new.shown.history t.table)) }
+    ensures bounded { (w : Rows) → N.sound w → IfSome result (λ t. IsBounded D.Reader.bytes (meta_at engine.old.state.catalogue t.table).lineage t) }
+    ensures range { (w : Rows) → N.sound w → IfSome result (λ t. HasRange D.Reader.bytes (meta_at engine.old.state.catalogue t.table).lineage t (written_at N.script (N.start w) (N.origin w) engine.new.shown.history t.table)) }
 {
     if !engine.running() {
         engine.skip(who, Kind::Grant);
@@ -90,7 +90,7 @@ fn take<N: Naming, M: Made, D: Disk<M>, K: Sink>(
     requires low { claimed.table < TABLES }
     requires free { holder engine.old.state.leases claimed.table (length engine.old.shown.history) ≡ None }
     requires opened { engine.old.state.closed ≡ None }
-    requires next { next_work (ranges_of (stock_at engine.old.state.catalogue claimed.table)) (stock_at engine.old.state.catalogue claimed.table).oldest (base_before engine.old.state.catalogue.next) ≡ Some claimed.work }
+    requires next { next_work (ranges_of (meta_at engine.old.state.catalogue claimed.table)) (meta_at engine.old.state.catalogue claimed.table).oldest (base_before engine.old.state.catalogue.next) ≡ Some claimed.work }
     requires runs { engine.old.shown.running ≡ true }
     requires room { length engine.old.shown.history < N.room }
     ensures turn { Takes N.script (N.start no_rows) engine.old.shown engine.new.shown who.session who.command kind.Grant (stage_if claim_in Granted result) }
@@ -99,13 +99,13 @@ fn take<N: Naming, M: Made, D: Disk<M>, K: Sink>(
     ensures table { IfSome result (λ t. t.table ≡ claimed.table) }
     ensures there { IfSome result (λ t. t.table < length (run_at N.script (N.start no_rows) engine.new.shown.history).state.warehouse.store.tables) }
     ensures next { IfSome result (λ t. last_of t.work < (run_at N.script (N.start no_rows) engine.new.shown.history).state.warehouse.next) }
-    ensures task { IfSome result (λ t. IsTask D.Reader.bytes (stock_at engine.old.state.catalogue claimed.table).lineage t) }
-    ensures views { IfSome result (λ t. t.views.items ≡ unread_views 0 (length (stock_at engine.old.state.catalogue t.table).lineage.views)) }
+    ensures task { IfSome result (λ t. IsTask D.Reader.bytes (meta_at engine.old.state.catalogue claimed.table).lineage t) }
+    ensures views { IfSome result (λ t. t.views.items ≡ unread_views 0 (length (meta_at engine.old.state.catalogue t.table).lineage.views)) }
     ensures damage { IfSome result (λ t. IfSome t.damage (λ d. d.want ≢ d.found)) }
     ensures spare { IfSome result (HasSpares D.Reader.bytes (parts - 1)) }
     ensures whole { (w : Rows) → N.sound w → IfSome result (λ t. t.damage ≡ None) }
-    ensures bounded { (w : Rows) → N.sound w → IfSome result (λ t. IsBounded D.Reader.bytes (stock_at engine.old.state.catalogue t.table).lineage t) }
-    ensures range { (w : Rows) → N.sound w → IfSome result (λ t. HasRange D.Reader.bytes (stock_at engine.old.state.catalogue t.table).lineage t (written_at N.script (N.start w) (N.origin w) engine.new.shown.history t.table)) }
+    ensures bounded { (w : Rows) → N.sound w → IfSome result (λ t. IsBounded D.Reader.bytes (meta_at engine.old.state.catalogue t.table).lineage t) }
+    ensures range { (w : Rows) → N.sound w → IfSome result (λ t. HasRange D.Reader.bytes (meta_at engine.old.state.catalogue t.table).lineage t (written_at N.script (N.start w) (N.origin w) engine.new.shown.history t.table)) }
 {
     let alloc = *engine.log.history.allocator();
     let table = engine.metadata.catalog().table(claimed.table);

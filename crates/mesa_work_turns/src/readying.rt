@@ -1,9 +1,9 @@
 // What a swap takes of memory.
 ghost use Rattle.std.specs.Prelude.{◌≡◌, ◌+◌, ◌<◌, ◌≤◌, ◌^◌, ℕ, Some, Ok, IfOk, IsTrue, OnErr, length};
-ghost use Rattle.mesa_engine.specs.mesa_image_spec.Catalog.{ranges_of};
-ghost use Rattle.mesa_engine.specs.mesa_image_spec.Fitting.{fits};
-ghost use Rattle.mesa_engine.specs.mesa_image_spec.Shape.{IsCatalog};
-ghost use Rattle.mesa_engine.specs.mesa_image_spec.Ids.{dropped_ids, named};
+ghost use Rattle.mesa_engine.specs.mesa_store_spec.Catalog.{ranges_of};
+ghost use Rattle.mesa_engine.specs.mesa_store_spec.Fitting.{fits};
+ghost use Rattle.mesa_engine.specs.mesa_store_spec.Shape.{IsCatalog};
+ghost use Rattle.mesa_engine.specs.mesa_store_spec.Ids.{dropped_ids, named};
 ghost use Rattle.mesa_write_turns.specs.mesa_key.Spelling.{AreBytes};
 ghost use Rattle.mesa_engine.specs.EngineState.{most_files, next_id};
 ghost use Rattle.mesa_engine.specs.Recorded.{removed_by};
@@ -12,8 +12,8 @@ ghost use Rattle.mesa_record.specs.Rules.{keeps_rules};
 ghost use Rattle.mesa_write_turns.specs.mesa_schema.Changes.{Lineage};
 ghost use Rattle.mesa_span.specs.Ranges.{base_before};
 ghost use Rattle.mesa_span.specs.Work.{next_work};
-ghost use Rattle.mesa_write_turns.specs.mesa_publishing.Finished.{IsFinished};
-ghost use Rattle.mesa_write_turns.specs.mesa_publishing.Swapped.{IsSwapped, table_in};
+ghost use Rattle.mesa_write_turns.specs.mesa_file_records.Finished.{IsFinished};
+ghost use Rattle.mesa_write_turns.specs.mesa_file_records.Swapped.{IsSwapped, table_in};
 ghost use Rattle.mesa_engine.specs.mesa_commit.Holding.{Among};
 
 use mesa_disk::{FileReader, Made};
@@ -23,7 +23,7 @@ use mesa_journal::Framed;
 use mesa_write_turns::{Swapped, swap};
 use mesa_record::Record;
 use mesa_recover::frame;
-use mesa_tasks::{NewDelta, Task};
+use mesa_open_files::{NewDelta, Task};
 use std::alloc::{AllocError, Global};
 
 // What is to be swapped in: the record with its files, its frame, the files that it lets go, and those that the turn removes.

@@ -2,7 +2,7 @@
 ghost use Rattle.std.specs.Prelude.{◌≡◌, ◌-◌, ◌<◌, ◌≤◌, length, None, Ok, IfErr, IfOk, OnOk, false};
 ghost use Rattle.mesa_engine.specs.Failing.{is_of_device};
 ghost use Rattle.mesa_write_turns.specs.mesa_history_spec.Machine.{recast_claim_of};
-ghost use Rattle.mesa_engine.specs.mesa_image_spec.Catalog.{start_in, stock_at};
+ghost use Rattle.mesa_engine.specs.mesa_store_spec.Catalog.{start_in, meta_at};
 ghost use Rattle.mesa_lease.specs.Book.{holder};
 ghost use Rattle.mesa_engine.specs.EngineState.{books_of};
 ghost use Rattle.mesa_engine.specs.Failure.{cause_in};
@@ -14,7 +14,7 @@ ghost use Rattle.mesa_work_turns.specs.Claims.{cause_refused, recast_claim_as};
 use mesa_engine::{Catalog, Failure, Metadata};
 use mesa_lease::TABLES;
 use mesa_model::{RecastWords, Refusal};
-use mesa_rules::{Regrouping, recast};
+use mesa_validate::{Regrouping, recast};
 use std::alloc::Global;
 
 // How many singletons a table may have that is recast.
@@ -33,7 +33,7 @@ pub(crate) fn claim_recast(
     ensures low { IfOk result (λ x. x.table < TABLES) }
     ensures free { IfOk result (λ x. holder metadata.now.state.leases x.table position ≡ None) }
     ensures names { IfOk result (λ x. x.names ≡ record { keys = words.now.keys; values = words.now.values }) }
-    ensures checked { IfOk result (λ x. recast_checked (stock_at metadata.now.state.catalogue x.table).lineage (record { keys = x.names.keys; values = x.names.values }) ≡ Ok tt) }
+    ensures checked { IfOk result (λ x. recast_checked (meta_at metadata.now.state.catalogue x.table).lineage (record { keys = x.names.keys; values = x.names.values }) ≡ Ok tt) }
     ensures opened { OnOk result (metadata.now.state.closed ≡ None) }
     ensures refused { IfErr result (λ f. HasNoClaim (books_of no_rows metadata.now.state) (recast_claim_of (books_of no_rows metadata.now.state).bare (books_of no_rows metadata.now.state).machine position words.now) (cause_in f)) }
     ensures quiet { IfErr result (λ f. is_of_device (cause_in f) ≡ false) }
@@ -59,7 +59,7 @@ pub(crate) fn claim_recast(
 // How many singletons a table has: one for each version behind its base.
 fn singletons(catalog: &Catalog, table: u16) -> u64
     requires { table < length catalog.now.catalogue.tables }
-    ensures { result ≡ catalog.now.catalogue.next - start_in (stock_at catalog.now.catalogue table) }
+    ensures { result ≡ catalog.now.catalogue.next - start_in (meta_at catalog.now.catalogue table) }
 {
     versions(catalog).saturating_sub(catalog.table(table).start())
 }

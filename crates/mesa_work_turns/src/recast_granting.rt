@@ -1,11 +1,11 @@
 // A recast's grant.
 ghost use Rattle.std.specs.Prelude.{◌≡◌, ◌≢◌, ◌<◌, ◌≤◌, true, length, None, Ok, IfSome, OnSome};
 ghost use Rattle.std.specs.List.{AllByRecursion};
-ghost use Rattle.mesa_plans.specs.Ranges.{HoldsAll};
+ghost use Rattle.mesa_pick_files.specs.Ranges.{HoldsAll};
 ghost use Rattle.mesa_write_turns.specs.mesa_history_spec.Machine.{recast_claim_of};
 ghost use Rattle.mesa_write_turns.specs.mesa_history_spec.Run.{First, Granted};
 ghost use Rattle.mesa_write_turns.specs.mesa_history_spec.Turns.{IsDue};
-ghost use Rattle.mesa_engine.specs.mesa_image_spec.Catalog.{stock_at};
+ghost use Rattle.mesa_engine.specs.mesa_store_spec.Catalog.{meta_at};
 ghost use Rattle.mesa_lease.specs.Book.{holder};
 ghost use Rattle.mesa_engine.specs.EngineState.{books_of};
 ghost use Rattle.mesa_model.specs.Tables.{recast_asked};
@@ -14,8 +14,8 @@ ghost use Rattle.mesa_model.specs.declared.commands.RecastWords.{RecastWords};
 ghost use Rattle.mesa_model.specs.declared.entries.Kind.TheVariants as kind;
 ghost use Rattle.mesa_write_turns.specs.mesa_schema.Recasts.{recast_checked};
 ghost use Rattle.mesa_write_turns.specs.mesa_history_spec.Rows.{Rows, no_rows};
-ghost use Rattle.mesa_write_turns.specs.mesa_publishing.Recasts.{HasItsRanges};
-ghost use Rattle.mesa_tasks.specs.Recasts.{IsRecastTask, claim_of_recast, recast_in, recast_table};
+ghost use Rattle.mesa_write_turns.specs.mesa_file_records.Recasts.{HasItsRanges};
+ghost use Rattle.mesa_open_files.specs.Recasts.{IsRecastTask, claim_of_recast, recast_in, recast_table};
 ghost use Rattle.mesa_write_turns.specs.mesa_invariant_spec.Turns.{AnswersDisk, SomeRose, Takes};
 ghost use Rattle.mesa_write_turns.specs.mesa_invariant_spec.Invariant.{run_at};
 ghost use Rattle.mesa_write_turns.specs.mesa_invariant_spec.Works.{stage_if};
@@ -31,9 +31,9 @@ use mesa_engine::{Engine, Naming, Who};
 use mesa_io::Sink;
 use mesa_lease::TABLES;
 use mesa_model::{Kind, Outcome, RecastWords};
-use mesa_plans::gather_recast;
-use mesa_rules::Regrouping;
-use mesa_tasks::Recast;
+use mesa_pick_files::gather_recast;
+use mesa_validate::Regrouping;
+use mesa_open_files::Recast;
 
 /// The first turn of a recast: its table has a lease from it on, and the files of all its ranges are open; unless the vault has closed, the rules of recasts don't allow it, a lease holds, the table has too many deltas, or a file couldn't be opened.
 pub fn grant_recast<N: Naming, M: Made, D: Disk<M>, K: Sink>(
@@ -53,12 +53,12 @@ pub fn grant_recast<N: Naming, M: Made, D: Disk<M>, K: Sink>(
     ensures there { IfSome result (λ t. t.table < length (run_at N.script (N.start no_rows) engine.new.shown.history).state.warehouse.store.tables) }
     ensures next { IfSome result (λ t. AllByRecursion (λ x. x.to < (run_at N.script (N.start no_rows) engine.new.shown.history).state.warehouse.next) t.ranges.items) }
     ensures task { IfSome result (IsRecastTask D.Reader.bytes) }
-    ensures lineage { IfSome result (λ t. recast_table t ≡ (stock_at engine.old.state.catalogue t.table).lineage) }
+    ensures lineage { IfSome result (λ t. recast_table t ≡ (meta_at engine.old.state.catalogue t.table).lineage) }
     ensures asked { IfSome result (λ t. recast_in t ≡ recast_asked words.now) }
     ensures damage { IfSome result (λ t. IfSome t.damage (λ d. d.want ≢ d.found)) }
 
     // Unless a file is damaged, each range of the table that has rows is among the task's, with its file open.
-    ensures holds { IfSome result (λ t. t.damage ≡ None → HoldsAll t.ranges.items (stock_at engine.old.state.catalogue t.table)) }
+    ensures holds { IfSome result (λ t. t.damage ≡ None → HoldsAll t.ranges.items (meta_at engine.old.state.catalogue t.table)) }
 
     // On a sound store no file was damaged, no sum over a range leaves its type, and each range has all that was written in it.
     ensures whole { (w : Rows) → N.sound w → IfSome result (λ t. t.damage ≡ None) }
@@ -91,7 +91,7 @@ fn take<N: Naming, M: Made, D: Disk<M>, K: Sink>(
     requires low { claimed.table < TABLES }
     requires free { holder engine.old.state.leases claimed.table (length engine.old.shown.history) ≡ None }
     requires opened { engine.old.state.closed ≡ None }
-    requires checked { recast_checked (stock_at engine.old.state.catalogue claimed.table).lineage (record { keys = claimed.names.keys; values = claimed.names.values }) ≡ Ok tt }
+    requires checked { recast_checked (meta_at engine.old.state.catalogue claimed.table).lineage (record { keys = claimed.names.keys; values = claimed.names.values }) ≡ Ok tt }
     requires runs { engine.old.shown.running ≡ true }
     requires room { length engine.old.shown.history < N.room }
     ensures turn { Takes N.script (N.start no_rows) engine.old.shown engine.new.shown who.session who.command kind.Grant (stage_if claim_of_recast Granted result) }
@@ -101,10 +101,10 @@ fn take<N: Naming, M: Made, D: Disk<M>, K: Sink>(
     ensures there { IfSome result (λ t. t.table < length (run_at N.script (N.start no_rows) engine.new.shown.history).state.warehouse.store.tables) }
     ensures next { IfSome result (λ t. AllByRecursion (λ x. x.to < (run_at N.script (N.start no_rows) engine.new.shown.history).state.warehouse.next) t.ranges.items) }
     ensures task { IfSome result (IsRecastTask D.Reader.bytes) }
-    ensures lineage { IfSome result (λ t. recast_table t ≡ (stock_at engine.old.state.catalogue claimed.table).lineage) }
+    ensures lineage { IfSome result (λ t. recast_table t ≡ (meta_at engine.old.state.catalogue claimed.table).lineage) }
     ensures asked { IfSome result (λ t. recast_in t ≡ record { keys = claimed.names.keys; values = claimed.names.values }) }
     ensures damage { IfSome result (λ t. IfSome t.damage (λ d. d.want ≢ d.found)) }
-    ensures holds { IfSome result (λ t. t.damage ≡ None → HoldsAll t.ranges.items (stock_at engine.old.state.catalogue t.table)) }
+    ensures holds { IfSome result (λ t. t.damage ≡ None → HoldsAll t.ranges.items (meta_at engine.old.state.catalogue t.table)) }
     ensures whole { (w : Rows) → N.sound w → IfSome result (λ t. t.damage ≡ None) }
     ensures bounded { (w : Rows) → N.sound w → IfSome result (IsRecastBounded D.Reader.bytes) }
     ensures ranges { (w : Rows) → N.sound w → IfSome result (λ t. HasItsRanges D.Reader.bytes t (written_at N.script (N.start w) (N.origin w) engine.new.shown.history t.table)) }

@@ -14,8 +14,8 @@ ghost use Rattle.mesa_write_turns.specs.mesa_history_spec.Rows.{no_rows};
 ghost use Rattle.mesa_write_turns.specs.mesa_invariant_spec.Turns.{AnswersDisk, SomeRose, Takes};
 ghost use Rattle.mesa_write_turns.specs.mesa_invariant_spec.Invariant.{run_at};
 ghost use Rattle.mesa_write_turns.specs.mesa_invariant_spec.Works.{stage_if};
-ghost use Rattle.mesa_tasks.specs.Recasts.{claim_of_recast};
-ghost use Rattle.mesa_tasks.specs.Tasks.{claim_in};
+ghost use Rattle.mesa_open_files.specs.Recasts.{claim_of_recast};
+ghost use Rattle.mesa_open_files.specs.Tasks.{claim_in};
 ghost use Rattle.mesa_work_turns.specs.Claims.{claim_with, lease_checked};
 
 use crate::{give_back, give_back_recast};
@@ -24,7 +24,7 @@ use mesa_engine::{Engine, Metadata, Naming, Who};
 use mesa_io::Sink;
 use mesa_lease::TABLES;
 use mesa_model::{Kind, Outcome, RecastWords, Refusal, Reply, WorkWords};
-use mesa_tasks::{Recast, Task};
+use mesa_open_files::{Recast, Task};
 
 // Lets a lease of a table hold anew from the turn at the position on, or says why it doesn't.
 fn claims(metadata: &mut Metadata, table: u16, lease: u64, position: u64) -> Result<(), Refusal>

@@ -9,14 +9,14 @@ ghost use Rattle.mesa_model.specs.declared.commands.Command.TheVariants as comma
 ghost use Rattle.mesa_model.specs.declared.entries.Kind.TheVariants as kind;
 ghost use Rattle.mesa_write_turns.specs.mesa_history_spec.Output.{block};
 ghost use Rattle.mesa_write_turns.specs.mesa_history_spec.Rows.{Rows, no_rows};
-ghost use Rattle.mesa_tasks.specs.GivingBack.{SomeFailed, task_inputs};
-ghost use Rattle.mesa_tasks.specs.declared.merging.CompactError.TheVariants as compact;
+ghost use Rattle.mesa_open_files.specs.GivingBack.{SomeFailed, task_inputs};
+ghost use Rattle.mesa_open_files.specs.declared.merging.CompactError.TheVariants as compact;
 ghost use Rattle.mesa_write_turns.specs.mesa_invariant_spec.Causes.{is_read_fault, outcome_of, reply_of, told_at};
 ghost use Rattle.mesa_write_turns.specs.mesa_invariant_spec.Printing.{IsPut};
 ghost use Rattle.mesa_write_turns.specs.mesa_invariant_spec.Turns.{AnswersDisk, AnswersDraft, SomeRose, Takes, entry};
 ghost use Rattle.mesa_write_turns.specs.mesa_invariant_spec.Undamaged.{is_damaged};
 ghost use Rattle.mesa_write_turns.specs.mesa_invariant_spec.Invariant.{run_at};
-ghost use Rattle.mesa_tasks.specs.Tasks.{claim_in};
+ghost use Rattle.mesa_open_files.specs.Tasks.{claim_in};
 ghost use Rattle.mesa_work_turns.specs.Unmerged.{MergeDiffered, TellsDamage, cause_of, closing_cause, closing_state, unmerged_state};
 
 use mesa_delta::FileError;
@@ -26,7 +26,7 @@ use mesa_io::Sink;
 use mesa_lease::TABLES;
 use mesa_model::{Kind, Refusal, WorkWords};
 use mesa_read_turns::can_be_told;
-use mesa_tasks::{CompactError, Task, retire_task};
+use mesa_open_files::{CompactError, Task, retire_task};
 use crate::give_back;
 
 // Why a merge failed.

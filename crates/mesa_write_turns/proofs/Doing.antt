@@ -30,19 +30,19 @@ use Rattle.mesa_record.specs.declared.record.Part.{Part}
 use Rattle.mesa_record.specs.declared.record.Record.{Record}
 use Rattle.mesa_record.specs.declared.record.Record.TheVariants as record_of
 use Rattle.mesa_record.specs.Rules.{IsTyped, IsTypedChange}
-use Rattle.mesa_engine.specs.mesa_image_spec.Catalog.{Catalog, applied, stock_at}
-use Rattle.mesa_engine.specs.mesa_image_spec.Fitting.{expire_fits, fits, is_new_name, is_there}
-use Rattle.mesa_engine.specs.mesa_image_spec.Sound.{AreStocked}
-use Rattle.mesa_engine.proofs.mesa_image_spec.Agreeing.{agree_stocked}
-use Rattle.mesa_engine.proofs.mesa_image_spec.AllSourced.{alter_sourced, expire_sourced, expire_table_sourced, table_sourced, view_sourced}
-use Rattle.mesa_engine.proofs.mesa_image_spec.Lists.{both_true, is_less}
-use Rattle.mesa_engine.proofs.mesa_image_spec.Moving.{alter_step, expire_step, expire_table_step, kind_of, publish_step, table_step, view_step}
-use Rattle.mesa_engine.specs.mesa_image_spec.Brought.{AreTold, BringsAll}
-use Rattle.mesa_engine.specs.mesa_image_spec.Ids.{dropped_ids}
-use Rattle.mesa_engine.specs.mesa_image_spec.Moves.{Moves}
-use Rattle.mesa_engine.specs.mesa_image_spec.Sourced.{HasSources, tables_read}
+use Rattle.mesa_engine.specs.mesa_store_spec.Catalog.{Catalog, applied, meta_at}
+use Rattle.mesa_engine.specs.mesa_store_spec.Fitting.{expire_fits, fits, is_new_name, is_there}
+use Rattle.mesa_engine.specs.mesa_store_spec.Sound.{HaveSoundRows}
+use Rattle.mesa_engine.proofs.mesa_store_spec.Agreeing.{agree_sound_rows}
+use Rattle.mesa_engine.proofs.mesa_store_spec.AllSourced.{alter_sourced, expire_sourced, expire_table_sourced, table_sourced, view_sourced}
+use Rattle.mesa_engine.proofs.mesa_store_spec.Lists.{both_true, is_less}
+use Rattle.mesa_engine.proofs.mesa_store_spec.Moving.{alter_step, expire_step, expire_table_step, kind_of, publish_step, table_step, view_step}
+use Rattle.mesa_engine.specs.mesa_store_spec.Brought.{AreTold, BringsAll}
+use Rattle.mesa_engine.specs.mesa_store_spec.Ids.{dropped_ids}
+use Rattle.mesa_engine.specs.mesa_store_spec.Moves.{Moves}
+use Rattle.mesa_engine.specs.mesa_store_spec.Sourced.{HasSources, tables_read}
 use Rattle.mesa_engine.specs.mesa_catalog.Lookups.{generation_of, turns_generation}
-use Rattle.mesa_rules.specs.Seen.{number_of}
+use Rattle.mesa_validate.specs.Seen.{number_of}
 use Rattle.mesa_engine.specs.mesa_history_spec.Rows.{Rows}
 use Rattle.mesa_engine.specs.mesa_invariant_spec.Causes.{told_at}
 use Rattle.mesa_engine.specs.mesa_invariant_spec.Changes.{Doing, IsChange, IsDecided}
@@ -63,7 +63,7 @@ pub record IsDone (o : Outset) (g : Origin) (sound : Bool) (l : EngineState) (h 
   pub f : Doing
   pub decided : IsDecided session c (deciding_stage c) f
   pub change : IsChange sound (books_of rows l) (books_of later (recorded_state l (applied l.catalogue r) (generation_of (applied l.catalogue r)) l.trash l.leases adopted end)) f rep
-  pub moves : AreStocked later l.catalogue → (after : Kept) × Moves later l.catalogue r after
+  pub moves : HaveSoundRows later l.catalogue → (after : Kept) × Moves later l.catalogue r after
   pub sources : (e : Entry) (p : ℕ) → command_of o.script e ≡ Some c → told_by o.script (run_of o h) e ≡ Some (told_at p rep) → IsTrue sound → HasSources later (written_by o g.found (h ++ e ∷ [])) (applied l.catalogue r)
   pub gone : dropped_ids l.catalogue r ≡ []
   pub run : (applied l.catalogue r).run ≡ l.catalogue.run
@@ -86,8 +86,8 @@ module _ (o : Outset) (g : Origin) (sound : Bool) (l : EngineState) (story : Sto
   generation_after r = generation_of (applied c r)
 
   -- what holds of the rows of named files holds still
-  pub stocked_later : IsTrue sound → AreStocked (later v.rows) l.catalogue
-  stocked_later ok = agree_stocked v.rows new c (named_agree o g sound l story held h running refused v new (agree v.rows)) (v.stocked ok).0
+  pub sound_rows_later : IsTrue sound → HaveSoundRows (later v.rows) l.catalogue
+  sound_rows_later ok = agree_sound_rows v.rows new c (named_agree o g sound l story held h running refused v new (agree v.rows)) (v.sound_rows ok).0
 
   -- a table's number in the books is that in the catalogue
   number_seen : (name : List ℕ) → table_number (books_of v.rows l).bare.store name ≡ number_of c name
@@ -104,7 +104,7 @@ module _ (o : Outset) (g : Origin) (sound : Bool) (l : EngineState) (story : Sto
         f = λ w. expire_all w version;
         decided = expire_decided session None version;
         change = expire_change o g sound l story held h running refused v new (agree v.rows) opened (generation_after r) l.trash adopted end version (version_there c.floor version (kind_of c r fit)) does.after does.is;
-        moves = λ stocked. (_, expire_step new c stocked version fit);
+        moves = λ sound_rows. (_, expire_step new c sound_rows version fit);
         sources = λ e p known told ok.
             sources_stay o g sound l story held h running refused v new (agree v.rows) e p (reply.Expired None version) told (λ s k stage. refl) (applied c r) (λ has. expire_sourced new (written_by o g.found h) c has version) ok;
         gone = refl;
@@ -118,12 +118,12 @@ module _ (o : Outset) (g : Origin) (sound : Bool) (l : EngineState) (story : Sto
       → Done (command.Expire (Some name) version) (record_of.ExpireTable number version) (reply.Expired (Some name) version)
   expire_table_done name version number found fit does =
       let r : Record = record_of.ExpireTable number version in
-      let both = both_true (is_there c number) (expire_fits c (stock_at c number).oldest version) (kind_of c r fit) in
+      let both = both_true (is_there c number) (expire_fits c (meta_at c number).oldest version) (kind_of c r fit) in
       record {
         f = λ w. expire_table w name version;
         decided = expire_decided session (Some name) version;
-        change = expire_table_change o g sound l story held h running refused v new (agree v.rows) opened (generation_after r) l.trash adopted end name number version (number_seen name ∙ found) (is_less number (length c.tables) both.0) (version_there (stock_at c number).oldest version both.1) does.after does.is;
-        moves = λ stocked. (_, expire_table_step new c stocked number version fit);
+        change = expire_table_change o g sound l story held h running refused v new (agree v.rows) opened (generation_after r) l.trash adopted end name number version (number_seen name ∙ found) (is_less number (length c.tables) both.0) (version_there (meta_at c number).oldest version both.1) does.after does.is;
+        moves = λ sound_rows. (_, expire_table_step new c sound_rows number version fit);
         sources = λ e p known told ok.
             sources_stay o g sound l story held h running refused v new (agree v.rows) e p (reply.Expired (Some name) version) told (λ s k stage. refl) (applied c r)
             (λ has. expire_table_sourced new (written_by o g.found h) c has number version fit) ok;
@@ -142,7 +142,7 @@ module _ (o : Outset) (g : Origin) (sound : Bool) (l : EngineState) (story : Sto
         f = λ w. make_table w words;
         decided = table_decided session words;
         change = table_change o g sound l story held h running refused v new (agree v.rows) opened (generation_after r) l.trash adopted end words does.after does.is;
-        moves = λ stocked. (_, table_step new c stocked words.table (columns_asked words).keys (columns_asked words).values);
+        moves = λ sound_rows. (_, table_step new c sound_rows words.table (columns_asked words).keys (columns_asked words).values);
         sources = λ e p known told ok.
             sources_stay o g sound l story held h running refused v new (agree v.rows) e p (reply.Table words.table) told (λ s k stage. refl) (applied c r)
             (λ has. table_sourced new (written_by o g.found h) c v.shaped has words.table (columns_asked words).keys (columns_asked words).values) ok;
@@ -155,8 +155,8 @@ module _ (o : Outset) (g : Origin) (sound : Bool) (l : EngineState) (story : Sto
 
   view_there : (number : ℕ) (name : List ℕ) (keys values : List (List ℕ)) → fits c (record_of.View number name keys values) ≡ true → number < length c.tables
   view_there number name keys values fit =
-      let s = columns_of (stock_at c number).lineage in
-      let last = both_true (is_there c number && is_new_name c name && is_ok (view_checked s keys values)) (nat_lt (length (stock_at c number).lineage.views) max_views) (kind_of c (record_of.View number name keys values) fit) in
+      let s = columns_of (meta_at c number).lineage in
+      let last = both_true (is_there c number && is_new_name c name && is_ok (view_checked s keys values)) (nat_lt (length (meta_at c number).lineage.views) max_views) (kind_of c (record_of.View number name keys values) fit) in
       let third = both_true (is_there c number && is_new_name c name) (is_ok (view_checked s keys values)) last.0 in
       is_less number (length c.tables) (both_true (is_there c number) (is_new_name c name) third.0).0
 
@@ -168,10 +168,10 @@ module _ (o : Outset) (g : Origin) (sound : Bool) (l : EngineState) (story : Sto
         f = λ w. make_view w words;
         decided = view_decided session words;
         change = view_change o g sound l story held h running refused v new (agree v.rows) opened (generation_after r) l.trash adopted end words number (number_seen words.table ∙ found) (view_there number words.view words.keys words.values fit) does.after does.is;
-        moves = λ stocked. (_, view_step new c stocked number words.view words.keys words.values fit);
+        moves = λ sound_rows. (_, view_step new c sound_rows number words.view words.keys words.values fit);
         sources = λ e p known told ok.
             sources_stay o g sound l story held h running refused v new (agree v.rows) e p (reply.View words.view) told (λ s k stage. refl) (applied c r)
-            (λ has. view_sourced new (written_by o g.found h) c v.shaped has (stocked_later ok) number words.view words.keys words.values fit) ok;
+            (λ has. view_sourced new (written_by o g.found h) c v.shaped has (sound_rows_later ok) number words.view words.keys words.values fit) ok;
         gone = refl;
         run = refl;
         rises = refl;
@@ -179,17 +179,17 @@ module _ (o : Outset) (g : Origin) (sound : Bool) (l : EngineState) (story : Sto
         writing = refl;
       }
 
-  alter_done : (words : AlterWords) (number : ℕ) (change : ColumnChange) → number_of c words.table ≡ Some number → change_asked (columns_of (stock_at c number).lineage) words.change ≡ Ok change → fits c (record_of.Alter number change) ≡ true → IsTypedChange change
-      → Does l (λ w. alter_table w words) (reply.Altered words.table (epoch_of (stock_at c number).lineage + 1)) → Done (command.Alter words) (record_of.Alter number change) (reply.Altered words.table (epoch_of (stock_at c number).lineage + 1))
+  alter_done : (words : AlterWords) (number : ℕ) (change : ColumnChange) → number_of c words.table ≡ Some number → change_asked (columns_of (meta_at c number).lineage) words.change ≡ Ok change → fits c (record_of.Alter number change) ≡ true → IsTypedChange change
+      → Does l (λ w. alter_table w words) (reply.Altered words.table (epoch_of (meta_at c number).lineage + 1)) → Done (command.Alter words) (record_of.Alter number change) (reply.Altered words.table (epoch_of (meta_at c number).lineage + 1))
   alter_done words number change found asked fit typed does =
       let r : Record = record_of.Alter number change in
       record {
         f = λ w. alter_table w words;
         decided = alter_decided session words;
         change = alter_change o g sound l story held h running refused v new (agree v.rows) opened (generation_after r) l.trash adopted end words number (number_seen words.table ∙ found) change asked (kind_of c r fit) typed does.after does.is;
-        moves = λ stocked. (_, alter_step new c stocked v.shaped number change fit typed);
+        moves = λ sound_rows. (_, alter_step new c sound_rows v.shaped number change fit typed);
         sources = λ e p known told ok.
-            sources_stay o g sound l story held h running refused v new (agree v.rows) e p (reply.Altered words.table (epoch_of (stock_at c number).lineage + 1)) told (λ s k stage. refl) (applied c r)
+            sources_stay o g sound l story held h running refused v new (agree v.rows) e p (reply.Altered words.table (epoch_of (meta_at c number).lineage + 1)) told (λ s k stage. refl) (applied c r)
             (λ has. alter_sourced new (written_by o g.found h) c v.shaped has number change fit typed) ok;
         gone = refl;
         run = refl;
@@ -206,7 +206,7 @@ module _ (o : Outset) (g : Origin) (sound : Bool) (l : EngineState) (story : Sto
         f = λ w. load_batch w words;
         decided = load_decided session words;
         change = load_change o g sound l story held h running refused v new (agree v.rows) opened (generation_after r) l.trash adopted end words batch read c.next parts brings does.after does.is;
-        moves = λ stocked. (_, publish_step new c stocked v.shaped c.next parts batch told_of brings);
+        moves = λ sound_rows. (_, publish_step new c sound_rows v.shaped c.next parts batch told_of brings);
         sources = λ e p known told ok. batch_sources o g sound l story held h running refused v new (agree v.rows) e p words batch read known told c.next parts brings ok;
         gone = refl;
         run = refl;

@@ -1,7 +1,7 @@
 -- How a turn that writes keeps an engine.
 use Rattle.std.proofs.Common.{refl, ◌≡◌, ℕ, ◌+◌, ◌<◌, ◌≤◌, ◌^◌, List, [], ◌∷◌, ◌++◌, length, true, false, ◌||◌, not, sym, subst, arith, Option, None, Some, Ok}
 use Rattle.std.specs.Prelude.{vec_capacity}
-use Rattle.mesa_publishing.specs.mesa_key.Spelling.{AreBytes}
+use Rattle.mesa_file_records.specs.mesa_key.Spelling.{AreBytes}
 use Rattle.mesa_disk.specs.Files.{AreAbsent, files_of}
 use Rattle.mesa_disk.specs.Image.{Image}
 use Rattle.mesa_disk.specs.Story.{Story}
@@ -14,7 +14,7 @@ use Rattle.mesa_engine.specs.mesa_history_spec.Run.{Run}
 use Rattle.mesa_engine.specs.mesa_history_spec.Turns.{IsDue}
 use Rattle.mesa_record.specs.Reading.{record_at}
 use Rattle.mesa_record.specs.Rules.{IsTyped}
-use Rattle.mesa_engine.specs.mesa_image_spec.Catalog.{applied}
+use Rattle.mesa_engine.specs.mesa_store_spec.Catalog.{applied}
 use Rattle.mesa_engine.specs.mesa_catalog.Lookups.{generation_of, turns_generation}
 use Rattle.mesa_engine.specs.mesa_history_spec.Bare.{bare_state}
 use Rattle.mesa_engine.specs.mesa_history_spec.Rows.{Rows, no_rows}
@@ -32,7 +32,7 @@ use Rattle.mesa_engine.specs.Engine.{IsEngine}
 use Rattle.mesa_engine.specs.Failing.{deciding_stage}
 use Rattle.mesa_engine.proofs.Turning.{told_engine}
 use Rattle.mesa_engine.proofs.Undone.{deciding_unanswered}
-use Rattle.mesa_publishing.specs.Published.{AllTell}
+use Rattle.mesa_file_records.specs.Published.{AllTell}
 use Rattle.mesa_write_turns.specs.declared.writing.Change.{Change}
 use Rattle.mesa_write_turns.specs.Writing.{IsToWrite}
 use Rattle.mesa_write_turns.proofs.Written.{IsWhole, IsWorked, absent_yet, write_fails, write_stands}

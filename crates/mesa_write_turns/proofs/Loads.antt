@@ -3,7 +3,7 @@ use Rattle.std.proofs.Common.{◌≡◌, ◌⊎◌, ⊎_elim, not, ℕ, ◌+◌,
 use Rattle.std.specs.Prelude.{IsOk, Result, is_some, vec_capacity}
 use Rattle.std.proofs.lemmas.List.{length-append}
 use Rattle.std.proofs.lemmas.Simd.{map-map}
-use Rattle.mesa_publishing.specs.mesa_list.Checks.{◌>>=◌, ◌>>◌, refuse_if, refused_as}
+use Rattle.mesa_file_records.specs.mesa_list.Checks.{◌>>=◌, ◌>>◌, refuse_if, refused_as}
 use Rattle.mesa_io.specs.Causes.{Rose, last}
 use Rattle.mesa_batch.specs.Batch.{Named, Placed, batch_from, batch_of, placed_of}
 use Rattle.mesa_batch.specs.Glance.{tables_of}
@@ -25,8 +25,8 @@ use Rattle.mesa_model.specs.Warehouse.{Warehouse, max_versions}
 use Rattle.mesa_engine.specs.mesa_history_spec.Legal.{builds_files}
 use Rattle.mesa_engine.specs.mesa_history_spec.Run.{Run, First, Looked}
 use Rattle.mesa_engine.specs.mesa_history_spec.Turns.{IsDue}
-use Rattle.mesa_engine.specs.mesa_image_spec.Catalog.{Catalog}
-use Rattle.mesa_engine.specs.mesa_image_spec.Sourced.{tables_read}
+use Rattle.mesa_engine.specs.mesa_store_spec.Catalog.{Catalog}
+use Rattle.mesa_engine.specs.mesa_store_spec.Sourced.{tables_read}
 use Rattle.mesa_engine.specs.mesa_catalog.Lookups.{sight_of}
 use Rattle.mesa_engine.specs.mesa_history_spec.Output.{block}
 use Rattle.mesa_engine.specs.mesa_history_spec.Bare.{bare_state}
@@ -45,17 +45,17 @@ use Rattle.mesa_engine.specs.Turned.{shut_state}
 use Rattle.mesa_engine.specs.Vault.{Origin, IsVault, Starts, outset_of}
 use Rattle.mesa_engine.proofs.Changing.{tables_are}
 use Rattle.mesa_engine.proofs.Staying.{closed_vault, still_vault}
-use Rattle.mesa_publishing.specs.declared.publishing.Published.{Published}
+use Rattle.mesa_file_records.specs.declared.publishing.Published.{Published}
 use Rattle.mesa_engine.specs.declared.log.Log.{Log}
 use Rattle.mesa_engine.specs.Printing.{PrintsBlock}
 use Rattle.mesa_engine.specs.Memory.{Memory}
 use Rattle.mesa_engine.specs.Engine.{IsEngine}
 use Rattle.mesa_engine.proofs.Turning.{told_engine}
-use Rattle.mesa_publishing.specs.Published.{AllTell, IsLoaded, IsPublished, bare_of, rows_later}
-use Rattle.mesa_tasks.specs.declared.prepared.LoadError.{LoadError}
-use Rattle.mesa_tasks.specs.declared.prepared.LoadError.TheVariants as load
+use Rattle.mesa_file_records.specs.Published.{AllTell, IsLoaded, IsPublished, bare_of, rows_later}
+use Rattle.mesa_open_files.specs.declared.prepared.LoadError.{LoadError}
+use Rattle.mesa_open_files.specs.declared.prepared.LoadError.TheVariants as load
 use Rattle.mesa_write_turns.specs.Loading.{cause_of, unready_as}
-use Rattle.mesa_tasks.specs.Batches.{IsUnprepared}
+use Rattle.mesa_open_files.specs.Batches.{IsUnprepared}
 use Rattle.mesa_write_turns.specs.Writing.{CanWrite}
 
 -- ---- batches

@@ -4,7 +4,7 @@ use Rattle.std.specs.Prelude.{Result, Vec}
 use Rattle.std.specs.List.{AllByRecursion}
 use Rattle.std.specs.declared.alloc.Global.{Global}
 use Rattle.std.proofs.lemmas.Simd.{map-map}
-use Rattle.mesa_publishing.specs.mesa_list.Checks.{◌>>◌}
+use Rattle.mesa_file_records.specs.mesa_list.Checks.{◌>>◌}
 use Rattle.mesa_engine.specs.mesa_commit.Turn.{told_files}
 use Rattle.mesa_disk.specs.declared.moving.Adoption.{Adoption}
 use Rattle.mesa_binding.specs.declared.failure.Failure.{Failure as Unruled}
@@ -24,12 +24,12 @@ use Rattle.mesa_engine.specs.mesa_history_spec.Replay.{is_skip, no_rows as no_li
 use Rattle.mesa_engine.specs.mesa_history_spec.Run.{State, First, Finished}
 use Rattle.mesa_engine.specs.mesa_history_spec.Turns.{IsDue}
 use Rattle.mesa_record.specs.declared.record.Record.{Record}
-use Rattle.mesa_engine.specs.mesa_image_spec.Fitting.{brought, shelved_id}
-use Rattle.mesa_engine.specs.mesa_image_spec.Sound.{IsTold, wants}
+use Rattle.mesa_engine.specs.mesa_store_spec.Fitting.{brought, live_id}
+use Rattle.mesa_engine.specs.mesa_store_spec.Sound.{IsTold, wants}
 use Rattle.mesa_engine.specs.mesa_script.Rows.{body_of}
-use Rattle.mesa_rules.specs.declared.ruled.Ruled.{Ruled}
-use Rattle.mesa_rules.specs.Ruled.{IsRuled, IsRefused as IsUnruled}
-use Rattle.mesa_rules.specs.Seen.{HasCatalog, known_of}
+use Rattle.mesa_validate.specs.declared.ruled.Ruled.{Ruled}
+use Rattle.mesa_validate.specs.Ruled.{IsRuled, IsRefused as IsUnruled}
+use Rattle.mesa_validate.specs.Seen.{HasCatalog, known_of}
 use Rattle.mesa_engine.specs.mesa_history_spec.Rows.{Rows, no_rows}
 use Rattle.mesa_engine.specs.mesa_invariant_spec.Causes.{NoMemory}
 use Rattle.mesa_engine.specs.mesa_invariant_spec.Changes.{Doing, HasFailed}
@@ -138,7 +138,7 @@ allowed_writes bytes l c r made adopted simple is empty count few =
         told = λ rows. subst (AllByRecursion (IsTold rows)) (sym none) tt;
         agree = λ rows id lt. refl;
         files = λ rows all. ap (λ xs. told_files (wants rows xs)) (sym none);
-        ids = ap (map shelved_id) (sym none);
+        ids = ap (map live_id) (sym none);
         distinct = tt;
         adopts = record { given = tt; more = omega (arith, count); few = omega (arith, count) };
         few = few;

@@ -1,6 +1,6 @@
 -- How a turn that writes keeps a vault.
 use Rattle.std.proofs.Common.{◌≡◌, ℕ, ◌+◌, ◌<◌, ◌≤◌, ◌^◌, List, [], ◌∷◌, ◌++◌, length, Bool, true, false, ◌||◌, sym, ◌∙◌, ap, subst, arith, Option, None, Some, Ok, IsTrue}
-use Rattle.mesa_publishing.specs.mesa_key.Spelling.{AreBytes}
+use Rattle.mesa_file_records.specs.mesa_key.Spelling.{AreBytes}
 use Rattle.mesa_disk.specs.Files.{AreAbsent, AreGone, files_of}
 use Rattle.mesa_disk.specs.Image.{Image, file_of}
 use Rattle.mesa_disk.specs.Story.{Story, Spans, Steps}
@@ -17,17 +17,17 @@ use Rattle.mesa_engine.specs.mesa_history_spec.Turns.{IsDue}
 use Rattle.mesa_record.specs.declared.record.Record.{Record}
 use Rattle.mesa_record.specs.Reading.{record_at}
 use Rattle.mesa_record.specs.Rules.{IsTyped}
-use Rattle.mesa_engine.specs.mesa_image_spec.Catalog.{Catalog, applied}
-use Rattle.mesa_engine.specs.mesa_image_spec.Contents.{kept_of}
-use Rattle.mesa_engine.specs.mesa_image_spec.Fitting.{shelved}
-use Rattle.mesa_engine.specs.mesa_image_spec.Held.{IsHeld, StandsForEither as EitherOf}
-use Rattle.mesa_engine.specs.mesa_image_spec.Sound.{StandsFor}
-use Rattle.mesa_engine.proofs.mesa_image_spec.Agreeing.{agree_wants}
-use Rattle.mesa_engine.proofs.mesa_image_spec.CountedRecords.{fits_counted}
-use Rattle.mesa_engine.proofs.mesa_image_spec.Ids.{own_ids}
-use Rattle.mesa_engine.proofs.mesa_image_spec.Recordable.{applied_recordable}
-use Rattle.mesa_engine.proofs.mesa_image_spec.Wholes.{fits_shaped}
-use Rattle.mesa_engine.specs.mesa_image_spec.Ids.{named}
+use Rattle.mesa_engine.specs.mesa_store_spec.Catalog.{Catalog, applied}
+use Rattle.mesa_engine.specs.mesa_store_spec.Contents.{kept_of}
+use Rattle.mesa_engine.specs.mesa_store_spec.Fitting.{live_files}
+use Rattle.mesa_engine.specs.mesa_store_spec.Held.{IsHeld, StandsForEither as EitherOf}
+use Rattle.mesa_engine.specs.mesa_store_spec.Sound.{StandsFor}
+use Rattle.mesa_engine.proofs.mesa_store_spec.Agreeing.{agree_wants}
+use Rattle.mesa_engine.proofs.mesa_store_spec.CountedRecords.{fits_counted}
+use Rattle.mesa_engine.proofs.mesa_store_spec.Ids.{own_ids}
+use Rattle.mesa_engine.proofs.mesa_store_spec.Recordable.{applied_recordable}
+use Rattle.mesa_engine.proofs.mesa_store_spec.Wholes.{fits_shaped}
+use Rattle.mesa_engine.specs.mesa_store_spec.Ids.{named}
 use Rattle.mesa_engine.specs.mesa_catalog.Lookups.{generation_of, turns_generation}
 use Rattle.mesa_store.specs.Store.{Writes as IsWritten}
 use Rattle.mesa_engine.specs.mesa_history_spec.Output.{block}
@@ -45,10 +45,10 @@ use Rattle.mesa_engine.proofs.RecordedStates.{Clears, clears_none}
 use Rattle.mesa_engine.proofs.Renaming.{record_brings, record_renames}
 use Rattle.mesa_engine.proofs.Writing.{unwritten_vault, written_vault}
 use Rattle.mesa_engine.specs.Failing.{deciding_stage}
-use Rattle.mesa_publishing.specs.Published.{AllTell}
+use Rattle.mesa_file_records.specs.Published.{AllTell}
 use Rattle.mesa_write_turns.specs.declared.writing.Change.{Change}
 use Rattle.mesa_write_turns.specs.Writing.{IsToWrite}
-use Rattle.mesa_write_turns.proofs.Doing.{IsDone, command_done, stocked_later}
+use Rattle.mesa_write_turns.proofs.Doing.{IsDone, command_done, sound_rows_later}
 
 -- What the device work of a turn did that wrote a body, adopted files and removed others.
 pub record IsWorked (story new : Story) (area : Area) (end : ℕ) (body : List ℕ) (made : List (ℕ × Option (List ℕ))) (dropped : List ℕ) : Type 0 where
@@ -112,16 +112,16 @@ module _ (n : Starts) (w : Rows) (sound : Bool) (l : EngineState) (story : Story
     to_write : IsTrue sound → AllTell bytes change.made.items → IsWritten story l.area v.bodies l.end c later change.writes body made []
     to_write ok tell =
         let is = v.stands ok to.can.opened in
-        let stocked = stocked_later (outset_of n w) (n.origin w) sound l story held h running refused v to.can.later to.can.brings.agree to.can.opened session change.adopted 0 ok in
-        let moved = ((done 0).moves stocked).1 in
+        let sound_rows = sound_rows_later (outset_of n w) (n.origin w) sound l story held h running refused v to.can.later to.can.brings.agree to.can.opened session change.adopted 0 ok in
+        let moved = ((done 0).moves sound_rows).1 in
         record {
           held = record {
             bytes = is.bytes;
             records = is.records;
-            stocked = stocked;
-            stands = subst (λ files. Stands story l.area v.bodies l.end files) (sym (agree_wants v.rows later (shelved c) (named_agree (outset_of n w) (n.origin w) sound l story held h running refused v later (to.can.brings.agree v.rows)))) is.stands;
+            sound_rows = sound_rows;
+            stands = subst (λ files. Stands story l.area v.bodies l.end files) (sym (agree_wants v.rows later (live_files c) (named_agree (outset_of n w) (n.origin w) sound l story held h running refused v later (to.can.brings.agree v.rows)))) is.stands;
           };
-          step = record { bytes = are; reads = reads; fitting = to.can.fit; stocked = moved.stocked; grows = moved.grows };
+          step = record { bytes = are; reads = reads; fitting = to.can.fit; sound_rows = moved.sound_rows; grows = moved.grows };
           brings = to.can.brings.files v.rows tell;
           unnamed = tt;
         }
@@ -147,7 +147,7 @@ module _ (n : Starts) (w : Rows) (sound : Bool) (l : EngineState) (story : Story
         let d = done end in
         written_vault n w sound l story held h running refused v session number low few m ran at place to.can.opened later x made [] change.adopted to.can.brings.adopts recorded l.trash [] clears new moment passes only writes now new_held
         to.asked (deciding_stage to.asked) d.f d.decided due (generation_of x) end change.tells d.writes d.change counts bodies holds gone
-        (λ ok. (d.moves (stocked_later (outset_of n w) (n.origin w) sound l story held h running refused v to.can.later to.can.brings.agree to.can.opened session change.adopted end ok)).1.stocked) long
+        (λ ok. (d.moves (sound_rows_later (outset_of n w) (n.origin w) sound l story held h running refused v to.can.later to.can.brings.agree to.can.opened session change.adopted end ok)).1.sound_rows) long
         (rises ∙ ap (λ k. l.generation + k) d.rises) (λ told ok. d.sources (entry session number kind.Decide outcome.Stands m) _ due.known told ok) put
 
     pub fails_so : Counts story new true → IsPut (block (entry session number kind.Decide outcome.WriteFault m) (Some (told_at at (reply_of Unwritten)))) now held new_held

@@ -1,8 +1,8 @@
 -- Why a load isn't published.
 use Rattle.mesa_model.specs.declared.replies.Reply.TheVariants as reply
 use Rattle.mesa_model.specs.Refusals.{batch_refusal}
-use Rattle.mesa_tasks.specs.declared.prepared.LoadError.{LoadError}
-use Rattle.mesa_tasks.specs.declared.prepared.LoadError.TheVariants as load
+use Rattle.mesa_open_files.specs.declared.prepared.LoadError.{LoadError}
+use Rattle.mesa_open_files.specs.declared.prepared.LoadError.TheVariants as load
 use Rattle.mesa_engine.specs.mesa_invariant_spec.Causes.{Cause, NoMemory, Replies, Unwritten}
 use Rattle.mesa_write_turns.specs.declared.publishing.Unready.{Unready}
 use Rattle.mesa_write_turns.specs.declared.publishing.Unready.TheVariants as why

@@ -8,14 +8,14 @@ use Rattle.mesa_engine.specs.mesa_history_spec.Turns.{IsDue}
 use Rattle.mesa_binding.specs.declared.failure.Failure.{Failure as Unruled}
 use Rattle.mesa_binding.specs.declared.failure.Failure.TheVariants as unruled
 use Rattle.mesa_record.specs.Rules.{keeps_rules}
-use Rattle.mesa_engine.specs.mesa_image_spec.Fitting.{fits}
+use Rattle.mesa_engine.specs.mesa_store_spec.Fitting.{fits}
 use Rattle.mesa_engine.specs.mesa_history_spec.Rows.{no_rows}
 use Rattle.mesa_engine.specs.EngineState.{EngineState, books_of}
 use Rattle.mesa_engine.specs.Failure.{cause_in}
 use Rattle.mesa_engine.specs.declared.failure.Failure.{Failure}
 use Rattle.mesa_engine.specs.declared.failure.Failure.TheVariants as failure
 use Rattle.mesa_engine.specs.Memory.{Memory}
-use Rattle.mesa_rules.specs.declared.ruled.Ruled.{Ruled}
+use Rattle.mesa_validate.specs.declared.ruled.Ruled.{Ruled}
 use Rattle.mesa_engine.specs.Failing.{HasNotDone, deciding_kind, deciding_stage, is_of_device}
 use Rattle.mesa_write_turns.specs.Writing.{HasRecord}
 

@@ -22,18 +22,18 @@ use Rattle.mesa_record.specs.declared.record.Part.{Part}
 use Rattle.mesa_record.specs.declared.record.Record.{Record}
 use Rattle.mesa_record.specs.declared.record.Record.TheVariants as record_of
 use Rattle.mesa_record.specs.Rules.{keeps_rules}
-use Rattle.mesa_engine.specs.mesa_image_spec.Catalog.{stock_at}
-use Rattle.mesa_engine.specs.mesa_image_spec.Fitting.{brought, fits}
-use Rattle.mesa_engine.specs.mesa_image_spec.Sound.{wants}
-use Rattle.mesa_engine.specs.mesa_image_spec.Brought.{AreTold, BringsAll}
-use Rattle.mesa_engine.specs.mesa_image_spec.Ids.{brought_ids}
-use Rattle.mesa_engine.specs.mesa_image_spec.Sourced.{tables_read}
+use Rattle.mesa_engine.specs.mesa_store_spec.Catalog.{meta_at}
+use Rattle.mesa_engine.specs.mesa_store_spec.Fitting.{brought, fits}
+use Rattle.mesa_engine.specs.mesa_store_spec.Sound.{wants}
+use Rattle.mesa_engine.specs.mesa_store_spec.Brought.{AreTold, BringsAll}
+use Rattle.mesa_engine.specs.mesa_store_spec.Ids.{brought_ids}
+use Rattle.mesa_engine.specs.mesa_store_spec.Sourced.{tables_read}
 use Rattle.mesa_engine.specs.mesa_history_spec.Rows.{Rows, no_rows}
 use Rattle.mesa_engine.specs.mesa_invariant_spec.Changes.{Doing}
 use Rattle.mesa_engine.specs.EngineState.{EngineState, books_of, next_id}
 use Rattle.mesa_engine.specs.Recorded.{Adopts}
-use Rattle.mesa_publishing.specs.Published.{AllTell}
-use Rattle.mesa_rules.specs.Seen.{number_of}
+use Rattle.mesa_file_records.specs.Published.{AllTell}
+use Rattle.mesa_validate.specs.Seen.{number_of}
 use Rattle.mesa_engine.specs.Failing.{deciding_stage}
 use Rattle.mesa_write_turns.specs.declared.writing.Change.{Change}
 
@@ -48,8 +48,8 @@ HasRecord l later (command.Table words) r rep = (r ≡ record_of.Table words.tab
 HasRecord l later (command.View words) r rep =
     (number : ℕ) × (number_of l.catalogue words.table ≡ Some number) × (r ≡ record_of.View number words.view words.keys words.values) × (rep ≡ reply.View words.view) × Does l (λ w. make_view w words) rep
 HasRecord l later (command.Alter words) r rep =
-    (number : ℕ) × (change : ColumnChange) × (number_of l.catalogue words.table ≡ Some number) × (change_asked (columns_of (stock_at l.catalogue number).lineage) words.change ≡ Ok change)
-    × (r ≡ record_of.Alter number change) × (rep ≡ reply.Altered words.table (epoch_of (stock_at l.catalogue number).lineage + 1)) × Does l (λ w. alter_table w words) rep
+    (number : ℕ) × (change : ColumnChange) × (number_of l.catalogue words.table ≡ Some number) × (change_asked (columns_of (meta_at l.catalogue number).lineage) words.change ≡ Ok change)
+    × (r ≡ record_of.Alter number change) × (rep ≡ reply.Altered words.table (epoch_of (meta_at l.catalogue number).lineage + 1)) × Does l (λ w. alter_table w words) rep
 HasRecord l later (command.Load words) r rep =
     (batch : List Placed) × (parts : List Part) × (batch_of (tables_read l.catalogue) words ≡ Ok batch) × ((rows : Rows) → BringsAll (later rows) parts batch 0 l.catalogue.tables)
     × (r ≡ record_of.Publish l.catalogue.next parts) × (rep ≡ reply.Loaded l.catalogue.next (length batch)) × Does l (λ w. load_batch w words) rep

@@ -15,7 +15,7 @@ use mesa_disk::{Disk, Made};
 use mesa_engine::{Engine, Failure, Metadata, Naming, Who};
 use mesa_io::Sink;
 use mesa_model::Kind;
-use mesa_rules::Ruled;
+use mesa_validate::Ruled;
 use std::alloc::Global;
 
 // The one turn of a command, which a rule decides.

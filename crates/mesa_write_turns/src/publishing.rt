@@ -4,8 +4,8 @@ ghost use Rattle.mesa_engine.specs.mesa_catalog.Lookups.{sight_of};
 ghost use Rattle.mesa_disk.specs.Story.{Steps};
 ghost use Rattle.mesa_engine.specs.mesa_history_spec.Run.{Finished, Looked};
 ghost use Rattle.mesa_engine.specs.mesa_history_spec.Turns.{IsDue};
-ghost use Rattle.mesa_engine.specs.mesa_image_spec.Shape.{IsCatalog};
-ghost use Rattle.mesa_engine.specs.mesa_image_spec.Ids.{named};
+ghost use Rattle.mesa_engine.specs.mesa_store_spec.Shape.{IsCatalog};
+ghost use Rattle.mesa_engine.specs.mesa_store_spec.Ids.{named};
 ghost use Rattle.mesa_engine.specs.EngineState.{books_of, most_files, next_id};
 ghost use Rattle.mesa_model.specs.declared.commands.Command.TheVariants as command;
 ghost use Rattle.mesa_model.specs.declared.entries.Kind.TheVariants as kind;
@@ -19,8 +19,8 @@ ghost use Rattle.mesa_engine.specs.mesa_invariant_spec.Changes.{HasFailed};
 ghost use Rattle.mesa_engine.specs.mesa_invariant_spec.Turns.{AnswersDisk, AnswersDraft, SomeRose, Takes};
 ghost use Rattle.mesa_engine.specs.mesa_invariant_spec.Invariant.{run_at};
 ghost use Rattle.mesa_write_turns.specs.Loading.{cause_of, unready_as};
-ghost use Rattle.mesa_tasks.specs.Batches.{HasPrepared};
-ghost use Rattle.mesa_tasks.specs.declared.prepared.LoadError.TheVariants as load;
+ghost use Rattle.mesa_open_files.specs.Batches.{HasPrepared};
+ghost use Rattle.mesa_open_files.specs.declared.prepared.LoadError.TheVariants as load;
 ghost use Rattle.mesa_write_turns.specs.declared.publishing.Unready.TheVariants as why;
 ghost use Rattle.mesa_write_turns.specs.Writing.{CanWrite, KeepsFiles};
 
@@ -30,8 +30,8 @@ use mesa_disk::{Disk, Made};
 use mesa_engine::{Catalog, Engine, Failure, Metadata, Naming, Who};
 use mesa_io::Sink;
 use mesa_model::{Kind, Refusal, Reply};
-use mesa_publishing::{Published, Unpublished};
-use mesa_tasks::{LoadError, Prepared};
+use mesa_file_records::{Published, Unpublished};
+use mesa_open_files::{LoadError, Prepared};
 use std::alloc::Global;
 
 // Why a load isn't published.
@@ -96,7 +96,7 @@ fn ready<M: Made>(
     }
     let version = next_version(metadata.catalog());
     match made {
-        Ok(prepared) => match mesa_publishing::publish(alloc, metadata, prepared) {
+        Ok(prepared) => match mesa_file_records::publish(alloc, metadata, prepared) {
             Ok(
                 Published {
                     entry,

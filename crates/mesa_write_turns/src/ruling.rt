@@ -7,7 +7,7 @@ ghost use Rattle.mesa_write_turns.specs.Ruling.{IsAllowed, IsRefused, told_as};
 
 use mesa_engine::{Failure, Metadata};
 use mesa_model::{AlterWords, Refusal, TableWords, ViewWords};
-use mesa_rules::Ruled;
+use mesa_validate::Ruled;
 use mesa_schema::Words;
 use std::alloc::Global;
 
@@ -42,7 +42,7 @@ pub(crate) fn rule_table(
     ensures refused { IfErr result (IsRefused metadata.now.state (command.Table words.now)) }
 {
     check_open(metadata)?;
-    match mesa_rules::table(alloc, metadata.catalog(), words) {
+    match mesa_validate::table(alloc, metadata.catalog(), words) {
         Ok(ruled) => Ok(ruled),
         Err(why) => Err(told(why)),
     }
@@ -58,7 +58,7 @@ pub(crate) fn rule_view(
     ensures refused { IfErr result (IsRefused metadata.now.state (command.View words.now)) }
 {
     check_open(metadata)?;
-    match mesa_rules::view(alloc, metadata.catalog(), words) {
+    match mesa_validate::view(alloc, metadata.catalog(), words) {
         Ok(ruled) => Ok(ruled),
         Err(why) => Err(told(why)),
     }
@@ -74,7 +74,7 @@ pub(crate) fn rule_alter(
     ensures refused { IfErr result (IsRefused metadata.now.state (command.Alter words.now)) }
 {
     check_open(metadata)?;
-    match mesa_rules::alter(alloc, metadata.catalog(), words) {
+    match mesa_validate::alter(alloc, metadata.catalog(), words) {
         Ok(ruled) => Ok(ruled),
         Err(why) => Err(told(why)),
     }
@@ -91,11 +91,11 @@ pub(crate) fn rule_expire(
 {
     check_open(metadata)?;
     match table {
-        None => match mesa_rules::expire(metadata.catalog(), version) {
+        None => match mesa_validate::expire(metadata.catalog(), version) {
             Ok(ruled) => Ok(ruled),
             Err(refusal) => Err(Failure::Refused(refusal)),
         },
-        Some(name) => match mesa_rules::expire_table(metadata.catalog(), name.as_slice(), version) {
+        Some(name) => match mesa_validate::expire_table(metadata.catalog(), name.as_slice(), version) {
             Ok(ruled) => Ok(ruled),
             Err(why) => Err(told(why)),
         },

@@ -2,10 +2,10 @@
 ghost use Rattle.std.specs.Prelude.{◌≡◌, ◌<◌, [], true, length, Some, Ok, IsTrue, IfOk, OnErr, OnOk};
 ghost use Rattle.mesa_disk.specs.Story.{Steps};
 ghost use Rattle.mesa_engine.specs.mesa_history_spec.Run.{Finished};
-ghost use Rattle.mesa_engine.specs.mesa_image_spec.Fitting.{fits};
-ghost use Rattle.mesa_publishing.specs.mesa_key.Spelling.{AreBytes};
+ghost use Rattle.mesa_engine.specs.mesa_store_spec.Fitting.{fits};
+ghost use Rattle.mesa_file_records.specs.mesa_key.Spelling.{AreBytes};
 ghost use Rattle.mesa_model.specs.declared.entries.Kind.TheVariants as kind;
-ghost use Rattle.mesa_publishing.specs.Published.{AllTell};
+ghost use Rattle.mesa_file_records.specs.Published.{AllTell};
 ghost use Rattle.mesa_record.specs.Reading.{record_at};
 ghost use Rattle.mesa_record.specs.Rules.{keeps_rules};
 ghost use Rattle.mesa_engine.specs.mesa_history_spec.Rows.{Rows, no_rows};

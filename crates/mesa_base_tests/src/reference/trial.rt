@@ -1,13 +1,13 @@
 // Scripts whose commands are done by a plain warehouse.
 ghost use Rattle.std.specs.Prelude.{◌≡◌, ◌<◌, ◌+◌, ◌^◌};
-ghost use Rattle.mesa_reference.specs.Plain.{GaveAtMost, is_plain};
+ghost use Rattle.mesa_test_oracle.specs.Plain.{GaveAtMost, is_plain};
 
 use crate::expected::expect_same;
 use crate::reference::replies::push_reply;
 use mesa_key::KeyType;
 use mesa_model::Command;
 use mesa_parse::parse;
-use mesa_reference::PlainWarehouse;
+use mesa_test_oracle::PlainWarehouse;
 use mesa_script::Script;
 use std::alloc::Global;
 use std::process::Abort;

@@ -1,19 +1,19 @@
 // Taking in what a batch brings.
 ghost use Rattle.std.specs.Prelude.{◌≡◌, ◌≢◌, ◌+◌, ◌<◌, ℕ, find, length, map, position, slice_get, IfSome};
 ghost use Rattle.std.specs.List.{AllByRecursion};
-ghost use Rattle.mesa_table.specs.mesa_image_spec.Catalog.{stocks_loaded};
-ghost use Rattle.mesa_table.specs.declared.ready.ReadyPart.{ReadyPart as Piece};
-ghost use Rattle.mesa_table.specs.Meaning.{IsTable, stock_of};
-ghost use Rattle.mesa_table.specs.Readied.{HasSpare, IsPartOf, is_part_of, part_in};
+ghost use Rattle.mesa_catalog_table.specs.mesa_store_spec.Catalog.{metas_loaded};
+ghost use Rattle.mesa_catalog_table.specs.declared.ready.ReadyPart.{ReadyPart as Piece};
+ghost use Rattle.mesa_catalog_table.specs.Meaning.{IsTable, meta_of};
+ghost use Rattle.mesa_catalog_table.specs.Readied.{HasSpare, IsPartOf, is_part_of, part_in};
 
-use mesa_table::{ReadyPart, Table, load_part};
+use mesa_catalog_table::{ReadyPart, Table, load_part};
 
 // Puts what a version brings into the tables: each looks for its part, which is the first that is left.
 pub(super) fn load(tables: &mut [Table], version: u32, mut parts: Vec<ReadyPart>)
     requires tables { AllByRecursion (IsTable version) tables.old }
     requires spare { AllByRecursion HasSpare tables.old }
     requires parts { AllByRecursion (λ (p : Piece). IfSome (slice_get tables.old p.table) (λ t. IsPartOf t p)) parts.items }
-    ensures loaded { map (stock_of (version + 1)) tables.new ≡ stocks_loaded (map part_in parts.items) 0 (map (stock_of version) tables.old) }
+    ensures loaded { map (meta_of (version + 1)) tables.new ≡ metas_loaded (map part_in parts.items) 0 (map (meta_of version) tables.old) }
     ensures tables { AllByRecursion (IsTable (version + 1)) tables.new }
 {
     for (number, table) in tables.iter_mut().enumerate() {

@@ -1,6 +1,6 @@
 // Drafts that fail one after another.
 use crate::load::loads::{Session, VIEW_OF_A, expect_fault};
-use mesa_tasks::LoadError;
+use mesa_open_files::LoadError;
 use std::alloc::Global;
 use std::process::Abort;
 use std::thread::Threads;

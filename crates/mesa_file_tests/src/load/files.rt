@@ -3,7 +3,7 @@ use crate::expected::expect_same;
 use crate::load::loads::{Session, VIEW_OF_A, expect_fault, prepared};
 use mesa_batch::BatchError;
 use mesa_disk::{Made, MemMade};
-use mesa_tasks::{LoadError, MadeFile, MadeFiles, Prepared, PreparedPart};
+use mesa_open_files::{LoadError, MadeFile, MadeFiles, Prepared, PreparedPart};
 use std::alloc::{AllocError, Global};
 use std::process::Abort;
 use std::thread::Threads;

@@ -6,7 +6,7 @@ use mesa_key::KeyType;
 use mesa_list::Fields;
 use mesa_load::prepare;
 use mesa_schema::{Evolving, KeyColumn, MAX_VIEWS, Name, Schema, ValueColumn};
-use mesa_tasks::{LoadError, Prepared, Serials};
+use mesa_open_files::{LoadError, Prepared, Serials};
 use mesa_value::Agg;
 use std::alloc::Global;
 use std::process::Abort;

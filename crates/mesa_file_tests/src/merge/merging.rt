@@ -1,9 +1,9 @@
 // Files merged into one.
 ghost use Rattle.std.specs.Prelude.{◌≡◌, [], IfOk, None};
 ghost use Rattle.std.specs.List.{AllByRecursion};
-ghost use Rattle.mesa_tasks.specs.mesa_file.declared.file_ref.FileRef.{FileRef as AnyFile};
-ghost use Rattle.mesa_tasks.specs.Spares.{IsSpareOf};
-ghost use Rattle.mesa_tasks.specs.Tasks.{IsTask};
+ghost use Rattle.mesa_open_files.specs.mesa_file.declared.file_ref.FileRef.{FileRef as AnyFile};
+ghost use Rattle.mesa_open_files.specs.Spares.{IsSpareOf};
+ghost use Rattle.mesa_open_files.specs.Tasks.{IsTask};
 ghost use Rattle.mesa_file_tests.specs.Opened.{AreOpened, HaveNoFiles, IsOpenedPart};
 
 use crate::merge::files::{Form, file_of, input_of, reader_of, table};
@@ -13,7 +13,7 @@ use mesa_disk::{FileId, FileReader, FileRef, MemBench, MemMade, MemReader};
 use mesa_key::Format;
 use mesa_schema::Evolving;
 use mesa_span::Work;
-use mesa_tasks::{CompactError, NewDelta, Serials, Spare, Task, TaskView};
+use mesa_open_files::{CompactError, NewDelta, Serials, Spare, Task, TaskView};
 use mesa_value::{Agg, Amount};
 use std::alloc::{AllocError, Global};
 use std::process::Abort;

@@ -6,7 +6,7 @@ use crate::merge::watched::Gate;
 use mesa_delta::FileError;
 use mesa_disk::FileRef;
 use mesa_key::Format;
-use mesa_tasks::CompactError;
+use mesa_open_files::CompactError;
 use mesa_value::{Agg, Amount};
 use std::alloc::Global;
 use std::process::Abort;

@@ -2,9 +2,9 @@
 ghost use Rattle.std.specs.Prelude.{◌≡◌, []};
 ghost use Rattle.mesa_schema.specs.Changes.{columns_of};
 ghost use Rattle.mesa_schema.specs.Columns.{Columns};
-ghost use Rattle.mesa_tasks.specs.Inputs.{AreInputsTo};
-ghost use Rattle.mesa_tasks.specs.Recasts.{AreRangesOf, IsRecastTask, IsRecasted, IsRecastedSoFar, own, recast_table};
-ghost use Rattle.mesa_tasks.specs.declared.recasting.Recasted.{Recasted as AnyRecasted};
+ghost use Rattle.mesa_open_files.specs.Inputs.{AreInputsTo};
+ghost use Rattle.mesa_open_files.specs.Recasts.{AreRangesOf, IsRecastTask, IsRecasted, IsRecastedSoFar, own, recast_table};
+ghost use Rattle.mesa_open_files.specs.declared.recasting.Recasted.{Recasted as AnyRecasted};
 
 use crate::expected::expect_same;
 use crate::merge::files::{Form, file_of, input_of, names};
@@ -16,7 +16,7 @@ use mesa_disk::{Damage, FileId, FileReader, FileRef, Made, MemBench, MemMade, Me
 use mesa_key::Format;
 use mesa_list::Items;
 use mesa_schema::Evolving;
-use mesa_tasks::{CompactError, Recast, RecastRange, Recasted, RecastedRange, Serials};
+use mesa_open_files::{CompactError, Recast, RecastRange, Recasted, RecastedRange, Serials};
 use mesa_value::{Agg, Amount};
 use std::alloc::Global;
 use std::process::Abort;

@@ -9,7 +9,7 @@ use crate::merge::watched::{Gate, PartReader};
 use mesa_disk::{FileReader, MemBench, MemReader};
 use mesa_schema::Evolving;
 use mesa_split::{merge_split, sample};
-use mesa_tasks::{Serials, Spare};
+use mesa_open_files::{Serials, Spare};
 use mesa_value::Agg;
 use std::alloc::Global;
 use std::process::Abort;

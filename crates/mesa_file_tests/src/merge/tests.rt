@@ -5,7 +5,7 @@ use crate::merge::merging::{Two, merged};
 use mesa_delta::FileError;
 use mesa_disk::{Damage, FileId, Seen};
 use mesa_key::Format;
-use mesa_tasks::CompactError;
+use mesa_open_files::CompactError;
 use mesa_value::{Agg, Amount};
 use std::alloc::Global;
 use std::process::Abort;

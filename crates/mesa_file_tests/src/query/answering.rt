@@ -3,7 +3,7 @@ ghost use Rattle.std.specs.List.{AllByRecursion};
 ghost use Rattle.mesa_schema.specs.Changes.{columns_of};
 ghost use Rattle.mesa_schema.specs.Columns.{Columns};
 ghost use Rattle.mesa_filter.specs.Query.{IsQueryOf};
-ghost use Rattle.mesa_tasks.specs.Pins.{IsPinnedInput};
+ghost use Rattle.mesa_open_files.specs.Pins.{IsPinnedInput};
 
 use crate::query::inputs::{Source, own, source_of, two};
 use crate::query::tables::{name, table};
@@ -16,7 +16,7 @@ use mesa_list::Items;
 use mesa_model::Page;
 use mesa_query::answer;
 use mesa_schema::{Evolving, Row, Words};
-use mesa_tasks::{Pinned, PinnedInput};
+use mesa_open_files::{Pinned, PinnedInput};
 use std::alloc::{AllocError, Global};
 use std::process::Abort;
 use std::sync::Arc;

@@ -3,7 +3,7 @@ ghost use Rattle.std.specs.Prelude.{◌≡◌, [], None};
 ghost use Rattle.std.specs.List.{AllByRecursion};
 ghost use Rattle.mesa_schema.specs.Changes.{columns_of};
 ghost use Rattle.mesa_schema.specs.Columns.{Columns};
-ghost use Rattle.mesa_tasks.specs.Pins.{IsPinned, IsPinnedInput};
+ghost use Rattle.mesa_open_files.specs.Pins.{IsPinned, IsPinnedInput};
 
 use crate::query::answering::{Asked, by_a, query_of};
 use crate::query::inputs::{Source, more, own, source_failing, source_of};
@@ -15,7 +15,7 @@ use mesa_key::KeyType;
 use mesa_model::Page;
 use mesa_query::{answer, whole};
 use mesa_schema::{Evolving, Row, RowList};
-use mesa_tasks::{Pinned, PinnedInput};
+use mesa_open_files::{Pinned, PinnedInput};
 use std::alloc::Global;
 use std::process::Abort;
 use std::sync::Arc;

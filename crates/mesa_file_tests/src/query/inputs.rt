@@ -3,7 +3,7 @@ ghost use Rattle.std.specs.Prelude.{◌≡◌, ◌≤◌, [], ◌∷◌, ◌++�
 ghost use Rattle.mesa_schema.specs.Changes.{columns_of};
 ghost use Rattle.mesa_schema.specs.Columns.{Columns};
 ghost use Rattle.mesa_scan.specs.Cursors.{IsInput};
-ghost use Rattle.mesa_tasks.specs.Pins.{HasViewOf, IsPinnedInput, view_at};
+ghost use Rattle.mesa_open_files.specs.Pins.{HasViewOf, IsPinnedInput, view_at};
 
 use crate::query::vectors::{Vector, bytes_of, spelled};
 use mesa_cache::Cached;
@@ -11,7 +11,7 @@ use mesa_delta::{DeltaReader, Input};
 use mesa_disk::{ByteList, Disk, FileId, FileReader, FileRef, MemDisk, MemReader};
 use mesa_list::Items;
 use mesa_schema::Evolving;
-use mesa_tasks::PinnedInput;
+use mesa_open_files::PinnedInput;
 use std::alloc::Global;
 use std::process::Abort;
 use std::sync::Arc;

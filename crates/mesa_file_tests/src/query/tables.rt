@@ -1,7 +1,7 @@
 // Tables that were never changed, and a view.
 ghost use Rattle.std.specs.Prelude.{◌≡◌, ◌<◌, [], Some, length};
 ghost use Rattle.mesa_schema.specs.Changes.{columns_of};
-ghost use Rattle.mesa_tasks.specs.Pins.{HasViewOf, view_at};
+ghost use Rattle.mesa_open_files.specs.Pins.{HasViewOf, view_at};
 
 use mesa_key::KeyType;
 use mesa_schema::{Evolving, KeyColumn, Name, Schema, ValueColumn};

@@ -1,6 +1,6 @@
 // Queries answered through caches of two pages, and then without them.
 ghost use Rattle.mesa_schema.specs.Columns.{Columns};
-ghost use Rattle.mesa_tasks.specs.Pins.{IsPinned};
+ghost use Rattle.mesa_open_files.specs.Pins.{IsPinned};
 
 use crate::query::answering::{Asked, query_of};
 use crate::query::inputs::{Source, one, own, source_of};
@@ -11,7 +11,7 @@ use mesa_key::KeyType;
 use mesa_model::Page;
 use mesa_query::{Warm, answer};
 use mesa_schema::Row;
-use mesa_tasks::Pinned;
+use mesa_open_files::Pinned;
 use std::alloc::Global;
 use std::process::Abort;
 use std::thread::Threads;

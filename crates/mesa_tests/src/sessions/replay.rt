@@ -1,12 +1,12 @@
 // What a run printed, done again by the plain warehouse in the order of the printed positions.
 ghost use Rattle.std.specs.Prelude.{◌≡◌, ◌<◌, ◌+◌, ◌^◌, IsTrue};
-ghost use Rattle.mesa_reference.specs.Plain.{GaveAtMost, is_plain};
+ghost use Rattle.mesa_test_oracle.specs.Plain.{GaveAtMost, is_plain};
 
 use crate::expected::{expect_same, expect_that};
 use mesa_model::{Command, Reply};
 use mesa_parse::parse;
 use mesa_print::{HEAD_ROOM, head, render};
-use mesa_reference::PlainWarehouse;
+use mesa_test_oracle::PlainWarehouse;
 use mesa_script::Script;
 use std::alloc::Global;
 use std::process::Abort;

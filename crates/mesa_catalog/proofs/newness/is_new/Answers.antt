@@ -2,16 +2,16 @@ use Rattle.std.proofs.Common.{◌≡◌, ℕ, ◌∙◌, ap, sym, arith, Bool, t
 use Rattle.std.specs.Prelude.{◌==◌}
 use Rattle.std.specs.List.{list_any}
 use Rattle.std.proofs.lemmas.Bool.Decides.{nat_tests}
-use Rattle.mesa_table.specs.mesa_image_spec.Fitting.{has_number, run_of_id}
-use Rattle.mesa_table.specs.declared.table.Table.{Table}
-use Rattle.mesa_table.specs.Named.{table_ids}
+use Rattle.mesa_catalog_table.specs.mesa_store_spec.Fitting.{has_number, run_of_id}
+use Rattle.mesa_catalog_table.specs.declared.table.Table.{Table}
+use Rattle.mesa_catalog_table.specs.Named.{table_ids}
 use Rattle.mesa_catalog.specs.Named.{held_ids, ids_brought}
 use Rattle.mesa_catalog.proofs.Ids.{any-flat_map, free_is_new, taken_not_new}
 use Rattle.mesa_catalog.proofs.newness.is_new.Goals as goal
 
 pub returns-then-tables_name : goal.returns-then-tables_name
 returns-then-tables_name c =
-    let s = c.args.shelves.now in
+    let s = c.args.catalog_tables.now in
     let id = c.args.id in
     let same : ℕ → Bool = λ n. id == n in
     let test : Table → Bool = λ t. has_number id (table_ids t) in
@@ -20,7 +20,7 @@ returns-then-tables_name c =
 
 pub returns : goal.returns
 returns c =
-    let s = c.args.shelves.now in
+    let s = c.args.catalog_tables.now in
     let id = c.args.id in
     let same : ℕ → Bool = λ n. id == n in
     let test : Table → Bool = λ t. has_number id (table_ids t) in

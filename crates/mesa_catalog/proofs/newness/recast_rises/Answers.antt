@@ -1,5 +1,5 @@
 use Rattle.std.proofs.Common.{List, map, subst}
-use Rattle.mesa_record.specs.declared.checkpoint.StatedSingle.{StatedSingle}
+use Rattle.mesa_record.specs.declared.checkpoint.CheckpointSingle.{CheckpointSingle}
 use Rattle.mesa_catalog.specs.Named.{RiseTo, recast_base_ids, told_id}
 use Rattle.mesa_catalog.proofs.Ids.{rise_append, some_so}
 use Rattle.mesa_catalog.proofs.newness.recast_rises.Goals as goal
@@ -11,4 +11,4 @@ returns c =
     let middle = c.in_ok-last.last in
     some_so c.singles_rise.result _ _ (λ last rise.
     rise_append run c.args.above middle last (recast_base_ids k.base) (map told_id k.singles) c.in_ok-last.ensures
-    (subst (λ (singles : List StatedSingle). RiseTo run middle (map told_id singles) last) c.as_slice.ensures rise)) c.singles_rise.ensures
+    (subst (λ (singles : List CheckpointSingle). RiseTo run middle (map told_id singles) last) c.as_slice.ensures rise)) c.singles_rise.ensures

@@ -1,22 +1,22 @@
 use Rattle.std.proofs.Common.{◌∙◌, ap, sym, subst, arith, length, map}
 use Rattle.std.specs.List.{AllByRecursion}
 use Rattle.std.proofs.lemmas.List.{with_items_is}
-use Rattle.mesa_table.specs.Meaning.{IsTable, stock_of}
-use Rattle.mesa_table.specs.Readied.{HasSpare}
-use Rattle.mesa_catalog.proofs.Roomier.{roomier_length, roomier_spares, roomier_stocks, roomier_tables}
+use Rattle.mesa_catalog_table.specs.Meaning.{IsTable, meta_of}
+use Rattle.mesa_catalog_table.specs.Readied.{HasSpare}
+use Rattle.mesa_catalog.proofs.Roomier.{roomier_length, roomier_spares, roomier_metas, roomier_tables}
 use Rattle.mesa_catalog.proofs.readying.make_room.Goals as goal
 
 pub returns-clause-same : goal.returns-clause-same
 returns-clause-same c =
-    let s = c.args.shelves.now in
+    let s = c.args.catalog_tables.now in
     let items = with_items_is c.reserve.new.self c.make_spares.new.tables (omega arith) in
     let old = c.deref_mut.ensures.value ∙ c.in_ok-reserve.ensures.items in
-    let tables = ap (map (stock_of s.next)) items ∙ roomier_stocks s.next c.deref_mut.result.now c.make_spares.new.tables c.make_spares.ensures.roomier ∙ ap (map (stock_of s.next)) old in
+    let tables = ap (map (meta_of s.next)) items ∙ roomier_metas s.next c.deref_mut.result.now c.make_spares.new.tables c.make_spares.ensures.roomier ∙ ap (map (meta_of s.next)) old in
     λ i. record { tables = tables i; floor = s.floor; next = s.next; run = s.run }
 
-pub returns-clause-shelved : goal.returns-clause-shelved
-returns-clause-shelved c =
-    let s = c.args.shelves.now in
+pub returns-clause-live_files : goal.returns-clause-live_files
+returns-clause-live_files c =
+    let s = c.args.catalog_tables.now in
     let items = with_items_is c.reserve.new.self c.make_spares.new.tables (omega arith) in
     let old = c.deref_mut.ensures.value ∙ c.in_ok-reserve.ensures.items in
     let count = ap length items ∙ roomier_length c.deref_mut.result.now c.make_spares.new.tables c.make_spares.ensures.roomier ∙ ap length old in

@@ -2,10 +2,10 @@ use Rattle.std.proofs.Common.{ℕ, ◌++◌, ◌∙◌, ◌≤◌, ap, sym, subs
 use Rattle.std.specs.Prelude.{◌==◌, ◌&&◌, flat_map, nat_le, is_some, IfSome}
 use Rattle.std.specs.List.{AllByRecursion, list_all}
 use Rattle.std.proofs.lemmas.List.Sorted.{IsNonDecreasingBy-from_sort_by_key}
-use Rattle.mesa_table.specs.mesa_image_spec.Fitting.{run_of_id}
-use Rattle.mesa_table.specs.mesa_image_spec.Ids.{named, times}
-use Rattle.mesa_table.specs.Meaning.{IsTable}
-use Rattle.mesa_table.specs.Named.{table_ids}
+use Rattle.mesa_catalog_table.specs.mesa_store_spec.Fitting.{run_of_id}
+use Rattle.mesa_catalog_table.specs.mesa_store_spec.Ids.{named, times}
+use Rattle.mesa_catalog_table.specs.Meaning.{IsTable}
+use Rattle.mesa_catalog_table.specs.Named.{table_ids}
 use Rattle.mesa_catalog.specs.Meaning.{catalogue_of}
 use Rattle.mesa_catalog.specs.Restored.{ids_rise}
 use Rattle.mesa_catalog.proofs.Ids.{named_held}
@@ -14,20 +14,20 @@ use Rattle.mesa_catalog.proofs.restored_ids.greatest_id.Goals as goal
 
 pub push_ids-requires : goal.push_ids-requires
 push_ids-requires c =
-    let s = c.args.shelves.now in
+    let s = c.args.catalog_tables.now in
     let few = c.requires.most in
     (s.next, omega (arith, few), subst (AllByRecursion (IsTable s.next)) (sym c.deref.ensures.value) c.requires.tables)
 
 pub returns-then-not-are_of_runs-clause-fits : goal.returns-then-not-are_of_runs-clause-fits
 returns-then-not-are_of_runs-clause-fits c =
-    let s = c.args.shelves.now in
+    let s = c.args.catalog_tables.now in
     let all = c.in_ok-push_ids.ensures ∙ (λ i. c.new-ids.ensures.items i ++ flat_map table_ids (c.deref.ensures.value i)) ∙ sym (named_held s) in
     let runs = ap (list_all (λ id. nat_le (run_of_id id) s.run)) (sym (c.deref-2.ensures.value ∙ all)) ∙ sym c.are_of_runs.ensures ∙ c.if-not-are_of_runs.true in
     ids_refused s.run (named (catalogue_of s)) runs
 
 pub returns-clause-fits : goal.returns-clause-fits
 returns-clause-fits c =
-    let s = c.args.shelves.now in
+    let s = c.args.catalog_tables.now in
     let ids = c.push_ids.new.ids.items in
     let sorted = c.sort_unstable_by_key.new.self.items in
     let all = c.in_ok-push_ids.ensures ∙ (λ i. c.new-ids.ensures.items i ++ flat_map table_ids (c.deref.ensures.value i)) ∙ sym (named_held s) in
@@ -38,7 +38,7 @@ returns-clause-fits c =
 
 pub returns-clause-most : goal.returns-clause-most
 returns-clause-most c =
-    let s = c.args.shelves.now in
+    let s = c.args.catalog_tables.now in
     let greatest = c.greatest_of-greatest.result in
     let all = c.in_ok-push_ids.ensures ∙ (λ i. c.new-ids.ensures.items i ++ flat_map table_ids (c.deref.ensures.value i)) ∙ sym (named_held s) in
     let most = subst (AllByRecursion (λ id. id ≤ greatest)) (c.deref-3.ensures.value ∙ all) c.greatest_of-greatest.ensures in

@@ -2,11 +2,11 @@ use Rattle.std.proofs.Common.{◌≡◌, [], ◌∙◌, ap, sym, subst, arith}
 use Rattle.std.specs.List.{AllByRecursion, list_all}
 use Rattle.std.proofs.lemmas.Result.{err_from_is_err_and}
 use Rattle.std.proofs.lemmas.List.{nil_from_length}
-use Rattle.mesa_table.specs.mesa_image_spec.Checkpoint.{stock_stated}
-use Rattle.mesa_table.specs.mesa_image_spec.CheckpointFits.{table_fits}
-use Rattle.mesa_table.specs.Meaning.{IsTable, stock_of}
-use Rattle.mesa_table.proofs.Taken.{first_fails, first_passes, moved_all, moved_on}
-use Rattle.mesa_catalog.proofs.Stocks.{all_pushed}
+use Rattle.mesa_catalog_table.specs.mesa_store_spec.Checkpoint.{meta_stated}
+use Rattle.mesa_catalog_table.specs.mesa_store_spec.CheckpointFits.{table_fits}
+use Rattle.mesa_catalog_table.specs.Meaning.{IsTable, meta_of}
+use Rattle.mesa_catalog_table.proofs.Taken.{first_fails, first_passes, moved_all, moved_on}
+use Rattle.mesa_catalog.proofs.TableMetas.{all_pushed}
 use Rattle.mesa_catalog.proofs.restoring.restore_tables.Goals as goal
 
 pub tables-preserved : goal.tables-preserved
@@ -19,7 +19,7 @@ tables-preserved c =
     let t = c.in_ok-restore.field-0 in
     let more = c.in_ok-push.ensures.items in
     record {
-      stocks = moved_on (stock_of next) (stock_stated next) c.tables.tables.items c.push.new.self.items t left rest x _ is more c.in_ok-restore.ensures.stock c.tables.invariant.stocks;
+      metas = moved_on (meta_of next) (meta_stated next) c.tables.tables.items c.push.new.self.items t left rest x _ is more c.in_ok-restore.ensures.meta c.tables.invariant.metas;
       fits = first_passes (table_fits c.args.floor next) x left rest _ is c.in_ok-restore.ensures.fits c.tables.invariant.fits;
       tables = subst (AllByRecursion (IsTable next)) (sym more) (all_pushed (IsTable next) c.tables.tables.items t c.tables.invariant.tables c.in_ok-restore.ensures.table);
     }
@@ -34,7 +34,7 @@ returns-clause-fits c =
     let none : c.tables.left.items ≡ [] = nil_from_length c.tables.left.items (omega (arith, c.tables.left.ok.0, c.in_default.ensures.cases.0)) in
     sym c.tables.invariant.fits ∙ ap (list_all (table_fits c.args.floor c.args.next)) none
 
-pub returns-clause-stocks : goal.returns-clause-stocks
-returns-clause-stocks c =
+pub returns-clause-metas : goal.returns-clause-metas
+returns-clause-metas c =
     let none : c.tables.left.items ≡ [] = nil_from_length c.tables.left.items (omega (arith, c.tables.left.ok.0, c.in_default.ensures.cases.0)) in
-    moved_all (stock_of c.args.next) (stock_stated c.args.next) c.tables.tables.items c.tables.left.items _ none c.tables.invariant.stocks
+    moved_all (meta_of c.args.next) (meta_stated c.args.next) c.tables.tables.items c.tables.left.items _ none c.tables.invariant.metas

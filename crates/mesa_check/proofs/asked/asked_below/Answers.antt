@@ -3,7 +3,7 @@ use Rattle.std.specs.Prelude.{flat_map, is_some, IfSome, Option, Vec}
 use Rattle.std.specs.declared.alloc.Global.{Global}
 use Rattle.std.proofs.lemmas.List.{take_all}
 use Rattle.mesa_batch.specs.Totals.{abs_totals}
-use Rattle.mesa_image_spec.specs.Contents.{present}
+use Rattle.mesa_store_spec.specs.Contents.{present}
 use Rattle.mesa_schema.specs.Changes.{columns_of}
 use Rattle.mesa_schema.specs.Columns.{Columns}
 use Rattle.mesa_check_file.specs.Sums.{counted}

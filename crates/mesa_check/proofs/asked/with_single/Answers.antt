@@ -2,7 +2,7 @@ use Rattle.std.proofs.Common.{◌≡◌, ◌∙◌, ◌++◌, ap, sym, [], ℕ, 
 use Rattle.std.specs.Prelude.{◌||◌, min, zip}
 use Rattle.std.proofs.lemmas.List.{append-nil}
 use Rattle.mesa_batch.specs.Totals.{abs_totals, sum_places}
-use Rattle.mesa_image_spec.specs.Contents.{present}
+use Rattle.mesa_store_spec.specs.Contents.{present}
 use Rattle.mesa_schema.specs.Changes.{columns_of}
 use Rattle.mesa_schema.specs.Columns.{aggs_of}
 use Rattle.mesa_check_file.specs.Sums.{counted, most}

@@ -2,11 +2,11 @@ use Rattle.std.proofs.Common.{◌≡◌, ◌∙◌, ap, sym, subst, true, not, �
 use Rattle.std.specs.Prelude.{flat_map}
 use Rattle.std.specs.List.{AllByRecursion}
 use Rattle.mesa_batch.specs.Totals.{abs_totals}
-use Rattle.mesa_image_spec.specs.Sound.{all_parts}
+use Rattle.mesa_store_spec.specs.Sound.{all_parts}
 use Rattle.mesa_schema.specs.Changes.{columns_of}
 use Rattle.mesa_schema.specs.Columns.{Columns}
 use Rattle.mesa_schema.specs.Folded.{rows_of}
-use Rattle.mesa_table.specs.Meaning.{stock_of}
+use Rattle.mesa_catalog_table.specs.Meaning.{meta_of}
 use Rattle.mesa_check_file.specs.Sums.{counted}
 use Rattle.mesa_check.specs.Found.{rows_found}
 use Rattle.mesa_check.specs.Faults.{are_at_most}
@@ -21,7 +21,7 @@ returns-then-not-are_true c = λ next i found held read.
     let t = c.args.table.now in
     let tests = c.args.tests.now in
     let e = sym c.if-not-are_true.true ∙ c.are_true.ensures ∙ sure_tested i found next t tests c.requires.tests read in
-    λ k. e k && not (are_at_most (abs_totals (columns_of t.evolving.value) (rows_of (all_parts (rows_found found) (stock_of next t)))) t.totals)
+    λ k. e k && not (are_at_most (abs_totals (columns_of t.evolving.value) (rows_of (all_parts (rows_found found) (meta_of next t)))) t.totals)
 
 pub returns : goal.returns
 returns c = λ next i found held read.

@@ -2,9 +2,9 @@ use Rattle.std.proofs.Common.{◌≡◌, ◌≤◌, ◌∙◌, ap, sym, subst, m
 use Rattle.std.specs.Prelude.{slice_get}
 use Rattle.std.specs.List.{AllByRecursion}
 use Rattle.std.proofs.lemmas.Result.{IfOk-weaker}
-use Rattle.mesa_image_spec.specs.Shape.{IsWithinBound}
+use Rattle.mesa_store_spec.specs.Shape.{IsWithinBound}
 use Rattle.mesa_schema.specs.Changes.{epoch_of}
-use Rattle.mesa_table.specs.Meaning.{stock_of}
+use Rattle.mesa_catalog_table.specs.Meaning.{meta_of}
 use Rattle.mesa_check.specs.Ranges.{Range}
 use Rattle.mesa_check.specs.Held.{delta_of, range_in}
 use Rattle.mesa_check.specs.Shown.{is_found_in}
@@ -37,7 +37,7 @@ pub returns-clause-first : goal.returns-clause-first
 returns-clause-first g c =
     IfOk-weaker c.first_fault.result _ _ (λ o first next i found held told are_found.
     let t = c.args.table.now in
-    let u = stock_of next t in
+    let u = meta_of next t in
     let tests = c.in_ok-tests.tests.items in
     let are = ap (map range_in) (c.in_ok-tests.ensures.ranges ∙ c.deref.ensures.value) ∙ c.in_ok-ranges.ensures in
     let read = all_read (g.D.Disk.story c.args.disk.now).told next t tests i found are c.in_ok-tests.ensures.tests told are_found in

@@ -1,12 +1,12 @@
 use Rattle.std.proofs.Common.{◌≡◌, ◌<◌, ◌∙◌, ◌&&◌, ap, sym, subst, length, arith}
 use Rattle.std.specs.Prelude.{IfSome, is_some, slice_get}
-use Rattle.mesa_image_spec.specs.Fitting.{Shelved}
-use Rattle.mesa_plans.specs.Files.{own_lineage}
+use Rattle.mesa_store_spec.specs.Fitting.{LiveFile}
+use Rattle.mesa_pick_files.specs.Files.{own_lineage}
 use Rattle.mesa_schema.specs.Changes.{Lineage}
 use Rattle.mesa_schema.specs.declared.views.View.{View}
 use Rattle.mesa_check.specs.Found.{IsFoundAs}
 use Rattle.mesa_check.specs.Tested.{HasRows}
-use Rattle.mesa_check.proofs.Recorded.{view_shelf, view_there}
+use Rattle.mesa_check.proofs.Recorded.{view_live_file, view_there}
 use Rattle.mesa_check.proofs.files.is_view_found.Goals as goal
 
 pub returns-clause-found : goal.returns-clause-found
@@ -19,8 +19,8 @@ returns-clause-found g c = λ i found told is.
     let test = c.if-view-views.false in
     let there : v.view < length l.views = omega (arith, same, count, test) in
     let its : IfSome (slice_get l.views v.view) (λ (w : View). own ≡ own_lineage l w) = subst (λ (m : Lineage). IfSome (slice_get m.views v.view) (λ (w : View). own ≡ own_lineage m w)) c.deref-2.ensures c.in_ok-own.ensures in
-    let shelf = view_shelf l v own there its in
-    c.is_some.ensures ∙ c.in_ok-sums.ensures.some i (found v.file.id) told (subst (λ (x : Shelved). IsFoundAs i x (found v.file.id)) (sym shelf) is) ∙ (λ k. sym (view_there l v.view there) k && is_some (found v.file.id))
+    let live_file = view_live_file l v own there its in
+    c.is_some.ensures ∙ c.in_ok-sums.ensures.some i (found v.file.id) told (subst (λ (x : LiveFile). IsFoundAs i x (found v.file.id)) (sym live_file) is) ∙ (λ k. sym (view_there l v.view there) k && is_some (found v.file.id))
 
 pub returns-clause-there : goal.returns-clause-there
 returns-clause-there g c = λ i told so.
@@ -32,4 +32,4 @@ returns-clause-there g c = λ i told so.
     let test = c.if-view-views.false in
     let there : v.view < length l.views = omega (arith, same, count, test) in
     let its : IfSome (slice_get l.views v.view) (λ (w : View). own ≡ own_lineage l w) = subst (λ (m : Lineage). IfSome (slice_get m.views v.view) (λ (w : View). own ≡ own_lineage m w)) c.deref-2.ensures c.in_ok-own.ensures in
-    subst (HasRows i) (view_shelf l v own there its) (c.in_ok-sums.ensures.there i told (sym c.is_some.ensures ∙ so))
+    subst (HasRows i) (view_live_file l v own there its) (c.in_ok-sums.ensures.there i told (sym c.is_some.ensures ∙ so))

@@ -1,6 +1,6 @@
 use Rattle.std.proofs.Common.{◌≡◌, ◌<◌, ◌≤◌, ◌∙◌, ◌∷◌, [], ap, sym, subst, length, get_or, List}
 use Rattle.std.specs.Prelude.{slice_get}
-use Rattle.mesa_image_spec.specs.Fitting.{view_shelved}
+use Rattle.mesa_store_spec.specs.Fitting.{view_live}
 use Rattle.mesa_record.specs.declared.record.ViewRef.{ViewRef}
 use Rattle.mesa_schema.specs.Changes.{columns_at}
 use Rattle.mesa_check.specs.Faults.{view_key, view_keys_in}
@@ -24,7 +24,7 @@ returns-in-Some-clause-key g c = λ i found told there keeps.
     let parts = there_files i found l d f c.requires.files there in
     let at = c.epoch.ensures in
     let here = subst (λ e. IsThere i found (record { columns = columns_at l e; file = f.file })) (sym at) parts.0 in
-    let key = c.in_ok-key.ensures.key i found d (inv.unmoved.told ∙ told) here (all_item (λ (v : ViewRef). IsThere i found (view_shelved l v)) f.views n x h is parts.1) (present_is found l d f c.epoch.result c.requires.files at) keeps in
+    let key = c.in_ok-key.ensures.key i found d (inv.unmoved.told ∙ told) here (all_item (λ (v : ViewRef). IsThere i found (view_live l v)) f.views n x h is parts.1) (present_is found l d f c.epoch.result c.requires.files at) keeps in
     let shown : view_key found l d x (slice_get l.views x.view) ≡ c.in-Some.key ∷ [] = sym key ∙ ap key_list c.in-Some.is in
     sym (ap (λ o. slice_get (view_keys_in found l d o) 0) c.requires.files
     ∙ flat_first (λ (v : ViewRef). view_key found l d v (slice_get l.views v.view)) f.views n x c.in-Some.key h is (inv.none i found told there keeps) (ap (λ ks. slice_get ks 0) shown))
@@ -46,7 +46,7 @@ views-preserved g c =
           let parts = there_files i found l d f c.requires.files there in
           let at = c.epoch.ensures in
           let here = subst (λ e. IsThere i found (record { columns = columns_at l e; file = f.file })) (sym at) parts.0 in
-          let key = c.in_ok-key.ensures.key i found d (inv.unmoved.told ∙ told) here (all_item (λ (v : ViewRef). IsThere i found (view_shelved l v)) f.views n x h is parts.1) (present_is found l d f c.epoch.result c.requires.files at) keeps in
+          let key = c.in_ok-key.ensures.key i found d (inv.unmoved.told ∙ told) here (all_item (λ (v : ViewRef). IsThere i found (view_live l v)) f.views n x h is parts.1) (present_is found l d f c.epoch.result c.requires.files at) keeps in
           let shown : view_key found l d x (slice_get l.views x.view) ≡ [] = sym key ∙ ap key_list c.in_default.is in
           flat_none (λ (v : ViewRef). view_key found l d v (slice_get l.views v.view)) f.views n x h is (inv.none i found told there keeps) shown;
     }

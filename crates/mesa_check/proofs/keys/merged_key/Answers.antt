@@ -2,13 +2,13 @@ use Rattle.std.proofs.Common.{◌≡◌, ◌∙◌, ap, sym, subst, refl, map, [
 use Rattle.std.specs.Prelude.{Option, None, Some}
 use Rattle.std.specs.List.{AllByRecursion}
 use Rattle.std.proofs.lemmas.Result.{IfOk-weaker}
-use Rattle.mesa_image_spec.specs.Contents.{rows_if_any}
-use Rattle.mesa_plans.specs.Files.{want_of}
-use Rattle.mesa_plans.specs.Lent.{lent_in, now_if_any}
+use Rattle.mesa_store_spec.specs.Contents.{rows_if_any}
+use Rattle.mesa_pick_files.specs.Files.{want_of}
+use Rattle.mesa_pick_files.specs.Lent.{lent_in, now_if_any}
 use Rattle.mesa_record.specs.declared.record.Files.{Files}
 use Rattle.mesa_schema.specs.Changes.{columns_at, columns_of, epoch_of, lifted}
-use Rattle.mesa_table.specs.Meaning.{stock_of}
-use Rattle.mesa_tasks.specs.Opening.{HasEpoch}
+use Rattle.mesa_catalog_table.specs.Meaning.{meta_of}
+use Rattle.mesa_open_files.specs.Opening.{HasEpoch}
 use Rattle.mesa_check_file.specs.Compared.{IsLiftedTo}
 use Rattle.mesa_check.specs.Found.{rows_found}
 use Rattle.mesa_check.specs.Held.{delta_of}
@@ -23,7 +23,7 @@ use Rattle.mesa_check.proofs.keys.merged_key.Goals as goal
 pub returns-then-not-is_below-clause-key : goal.returns-then-not-is_below-clause-key
 returns-then-not-is_below-clause-key g c = λ next i found held told files below agrees read so.
     let to = c.args.one.now.range.to in
-    not_asked found (stock_of next c.args.table.now) to (delta_of c.args.one.now.range) (sym (below to ∙ sym c.is_below.ensures ∙ c.if-not-is_below.true))
+    not_asked found (meta_of next c.args.table.now) to (delta_of c.args.one.now.range) (sym (below to ∙ sym c.is_below.ensures ∙ c.if-not-is_below.true))
 
 pub cumulative_difference-requires-clause-epochs : goal.cumulative_difference-requires-clause-epochs
 cumulative_difference-requires-clause-epochs g c κs within =
@@ -49,7 +49,7 @@ returns-in-Some-clause-key g c =
     let at = c.epoch.ensures in
     let here = subst (λ e. IsThere i found (record { columns = columns_at l e; file = f.file })) (sym at) parts.0 in
     let mine = rows_found found f.file.id in
-    let u = stock_of next t in
+    let u = meta_of next t in
     let may = parts_replace i found u held.shaped.lineage (now_if_any c.args.before) to c.requires.order agrees (sym asked) (singles_found i found u to files) in
     asked_key i found u to d asked (parts_of u (now_if_any c.args.before) to) may c.deref.result.now (lent_in c.parts.result) (ap (map want_of) c.deref.ensures.value ∙ c.in_ok-inputs.ensures.files) (c.parts.ensures.range next held.table)
     o (map (lifted l c.epoch.result (epoch_of l)) mine) (sym (present_is found l d f c.epoch.result is at)) (λ cs lifts have bound. differs i (columns_of l) cs mine told lifts refl have here bound)) c.cumulative_difference.ensures.difference
@@ -73,7 +73,7 @@ returns-clause-key g c =
     let d = delta_of c.args.one.now.range in
     let asked = sym (below to ∙ sym c.is_below.ensures ∙ c.if-not-is_below.false) in
     let is : d.files ≡ None = sym c.files.ensures ∙ ap now_if_any c.in-None.is in
-    let u = stock_of next t in
+    let u = meta_of next t in
     let may = parts_replace i found u held.shaped.lineage (now_if_any c.args.before) to c.requires.order agrees (sym asked) (singles_found i found u to files) in
     asked_key i found u to d asked (parts_of u (now_if_any c.args.before) to) may c.deref-in-None.result.now (lent_in c.parts.result) (ap (map want_of) c.deref-in-None.ensures.value ∙ c.in_ok-inputs.ensures.files) (c.parts.ensures.range next held.table)
     o [] (sym (ap (λ (x : Option Files). map (lifted l d.epoch (epoch_of l)) (rows_if_any (rows_found found) x)) is)) (λ cs lifts have bound. differs i (columns_of l) cs [] told lifts tt have refl bound)) c.cumulative_difference-in-None.ensures.difference

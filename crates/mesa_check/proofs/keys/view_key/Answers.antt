@@ -2,8 +2,8 @@ use Rattle.std.proofs.Common.{◌≡◌, ◌∙◌, ap, sym, false}
 use Rattle.std.specs.Prelude.{slice_get}
 use Rattle.std.proofs.lemmas.Result.{IfOk-weaker}
 use Rattle.mesa_batch.specs.Totals.{abs_totals}
-use Rattle.mesa_image_spec.specs.Contents.{present}
-use Rattle.mesa_plans.specs.Lent.{now_if_any}
+use Rattle.mesa_store_spec.specs.Contents.{present}
+use Rattle.mesa_pick_files.specs.Lent.{now_if_any}
 use Rattle.mesa_schema.specs.Changes.{columns_of}
 use Rattle.mesa_check.specs.Found.{rows_found}
 use Rattle.mesa_check.specs.Faults.{keep_bound, view_keys_in}

@@ -1,8 +1,8 @@
 use Rattle.std.proofs.Common.{leb, rules, ◌++◌, ◌∙◌, ap, drop, sym, take}
 use Rattle.std.proofs.lemmas.List.{take-append-drop, take_rest}
 use Rattle.std.proofs.lemmas.List.Sorted.{IsPartitionPoint-from_clause, IsPartitionedBy-leb}
-use Rattle.mesa_table.specs.Named.{through}
-use Rattle.mesa_plans.proofs.Parted.{front_passes, version_of, versions_rise}
+use Rattle.mesa_catalog_table.specs.Named.{through}
+use Rattle.mesa_pick_files.proofs.Parted.{front_passes, version_of, versions_rise}
 use Rattle.mesa_check.proofs.Behind.{loaded_taken, through_twice}
 use Rattle.mesa_check.proofs.parts.loaded_between.Goals as goal
 

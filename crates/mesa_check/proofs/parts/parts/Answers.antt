@@ -1,11 +1,11 @@
 use Rattle.std.proofs.Common.{◌≡◌, ◌≤◌, ◌+◌, ◌-◌, ◌++◌, ◌∙◌, ap, drop, sym, subst, map, Some}
 use Rattle.std.specs.Prelude.{IfSome, Option}
 use Rattle.std.specs.List.{AllByRecursion}
-use Rattle.mesa_image_spec.specs.Catalog.{Delta, start_in}
-use Rattle.mesa_plans.specs.Lent.{now_if_any, single_delta, with_rows}
-use Rattle.mesa_plans.proofs.Among.{epochs_chosen}
-use Rattle.mesa_table.specs.Meaning.{AreLoaded, stock_of}
-use Rattle.mesa_table.specs.Named.{through}
+use Rattle.mesa_store_spec.specs.Catalog.{Delta, start_in}
+use Rattle.mesa_pick_files.specs.Lent.{now_if_any, single_delta, with_rows}
+use Rattle.mesa_pick_files.proofs.Among.{epochs_chosen}
+use Rattle.mesa_catalog_table.specs.Meaning.{AreLoaded, meta_of}
+use Rattle.mesa_catalog_table.specs.Named.{through}
 use Rattle.mesa_check.specs.Faults.{merged_singles}
 use Rattle.mesa_check.specs.Parts.{parts_of}
 use Rattle.mesa_check.specs.declared.testing.Test.{Test}
@@ -24,17 +24,17 @@ returns-in-Some-clause-range c = λ next is.
     let order = subst (λ o. IfSome o (λ x. x.range.to ≤ to)) given c.requires.order in
     let since = c.loaded_between.result.now in
     let cut = ap (λ ls. through b.range.to ls ++ since) (sym c.deref.ensures.value) ∙ c.loaded_between.ensures ∙ ap (through to) c.deref.ensures.value in
-    lent_first b.range.delta (map single_delta since) (drop (b.range.to + 1 - start_in (stock_of next t)) (merged_singles (stock_of next t) to)) (since_lent next b.range.to to t since is order cut) ∙ ap (λ (o : Option Test). with_rows (parts_of (stock_of next t) o to)) (sym given)
+    lent_first b.range.delta (map single_delta since) (drop (b.range.to + 1 - start_in (meta_of next t)) (merged_singles (meta_of next t) to)) (since_lent next b.range.to to t since is order cut) ∙ ap (λ (o : Option Test). with_rows (parts_of (meta_of next t) o to)) (sym given)
 
 pub returns-in-Some-clause-epochs : goal.returns-in-Some-clause-epochs
 returns-in-Some-clause-epochs c = λ next epoch is all before.
-    let u = stock_of next c.args.table.now in
+    let u = meta_of next c.args.table.now in
     let o = now_if_any c.args.before in
     subst (AllByRecursion (λ (d : Delta). d.epoch ≤ epoch)) (sym (returns-in-Some-clause-range c next is)) (epochs_chosen epoch (parts_of u o c.args.to) (parts_epochs u o c.args.to epoch all before))
 
 pub returns-in-None-clause-range : goal.returns-in-None-clause-range
 returns-in-None-clause-range c = λ next is.
-    c.singles_to.ensures.range next is ∙ ap (λ (o : Option Test). with_rows (parts_of (stock_of next c.args.table.now) o c.args.to)) (sym (ap now_if_any c.in-None.is))
+    c.singles_to.ensures.range next is ∙ ap (λ (o : Option Test). with_rows (parts_of (meta_of next c.args.table.now) o c.args.to)) (sym (ap now_if_any c.in-None.is))
 
 pub returns-in-None-clause-epochs : goal.returns-in-None-clause-epochs
 returns-in-None-clause-epochs c = λ next epoch is all before. c.singles_to.ensures.epochs next epoch is all

@@ -2,8 +2,8 @@ use Rattle.std.proofs.Common.{◌≡◌, ◌+◌, ◌++◌, ◌∷◌, [], ◌�
 use Rattle.std.proofs.lemmas.List.{append-nil, drop_all, map_push}
 use Rattle.std.specs.declared.alloc.Global.{Global}
 use Rattle.std.specs.declared.sync.Arc.{Arc}
-use Rattle.mesa_image_spec.specs.Catalog.{Delta}
-use Rattle.mesa_table.specs.Meaning.{tens_from}
+use Rattle.mesa_store_spec.specs.Catalog.{Delta}
+use Rattle.mesa_catalog_table.specs.Meaning.{tens_from}
 use Rattle.mesa_check.specs.Ranges.{Cumulative, cumulative_range}
 use Rattle.mesa_check.specs.Held.{range_in}
 use Rattle.mesa_check.proofs.ranges.push_cumulatives.Goals as goal

@@ -1,5 +1,5 @@
 use Rattle.std.proofs.Common.{◌≡◌, ◌+◌, ◌*◌, ◌++◌, map, drop}
-use Rattle.mesa_table.specs.Meaning.{tens_from}
+use Rattle.mesa_catalog_table.specs.Meaning.{tens_from}
 use Rattle.mesa_check.specs.Ranges.{cumulative_range}
 use Rattle.mesa_check.specs.Held.{range_in}
 use Rattle.mesa_check.proofs.ranges.push_cumulatives.Given as goal

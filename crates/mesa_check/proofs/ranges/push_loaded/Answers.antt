@@ -1,7 +1,7 @@
 use Rattle.std.proofs.Common.{◌++◌, ◌∷◌, [], ◌∙◌, ap, map}
 use Rattle.std.proofs.lemmas.List.{map_push}
-use Rattle.mesa_table.proofs.Pushes.{pushed_each, pushed_one}
-use Rattle.mesa_image_spec.specs.Catalog.{Delta}
+use Rattle.mesa_catalog_table.proofs.Pushes.{pushed_each, pushed_one}
+use Rattle.mesa_store_spec.specs.Catalog.{Delta}
 use Rattle.mesa_check.specs.Ranges.{Single}
 use Rattle.mesa_check.specs.Held.{loaded_range, range_in}
 use Rattle.mesa_check.proofs.ranges.push_loaded.Goals as goal

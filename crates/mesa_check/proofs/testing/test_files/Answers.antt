@@ -2,7 +2,7 @@ use Rattle.std.proofs.Common.{◌∙◌, ◌<◌, ap, sym, subst, refl, map, Lis
 use Rattle.std.specs.Prelude.{IfSome, is_some, Option}
 use Rattle.std.specs.List.{AllByRecursion, list_all}
 use Rattle.mesa_batch.specs.Totals.{sum_bound}
-use Rattle.mesa_image_spec.specs.Fitting.{view_shelved}
+use Rattle.mesa_store_spec.specs.Fitting.{view_live}
 use Rattle.mesa_record.specs.declared.record.ViewRef.{ViewRef}
 use Rattle.mesa_check_file.specs.declared.totals.Sums.{Sums}
 use Rattle.mesa_check.specs.Found.{AreFound}
@@ -32,7 +32,7 @@ returns-then-not-branch-clause-test g c =
     let t = c.not_found-then-not-branch.result in
     subst (λ (r : Held). IsTestIn told l (delta_of r) t) (sym c.not_found-then-not-branch.ensures.range)
     (of_files told l d f t c.requires.files (views_lost told l d.epoch f d.totals c.epoch.result t c.epoch.ensures
-    (λ i found is are. sym c.if-not-branch.true ∙ c.in_ok-are_views_found.ensures.found i found (c.in_ok-sums.ensures.unmoved.told ∙ is) (subst (λ (vs : List ViewRef). AreFound i found (map (view_shelved l) vs)) (sym c.as_slice.ensures) are) ∙ ap (list_all (is_view_found found l)) c.as_slice.ensures)
+    (λ i found is are. sym c.if-not-branch.true ∙ c.in_ok-are_views_found.ensures.found i found (c.in_ok-sums.ensures.unmoved.told ∙ is) (subst (λ (vs : List ViewRef). AreFound i found (map (view_live l) vs)) (sym c.as_slice.ensures) are) ∙ ap (list_all (is_view_found found l)) c.as_slice.ensures)
     c.not_found-then-not-branch.ensures.found))
 
 pub returns-clause-test : goal.returns-clause-test
@@ -45,8 +45,8 @@ returns-clause-test g c =
     of_files told l d f _ c.requires.files (files_found told l d.epoch f d.totals c.epoch.result _ c.epoch.ensures c.in-Some.sums
     (λ i rows is found. subst (λ (o : Option Sums). AreSumsAt l c.epoch.result rows o) c.in-Some.is (c.in_ok-sums.ensures.sums i rows is found))
     (λ i is. c.in_ok-sums.ensures.there i is (ap is_some c.in-Some.is))
-    (λ i found is are. sym c.if-not-branch.false ∙ c.in_ok-are_views_found.ensures.found i found (later ∙ is) (subst (λ (vs : List ViewRef). AreFound i found (map (view_shelved l) vs)) (sym c.as_slice.ensures) are) ∙ ap (list_all (is_view_found found l)) c.as_slice.ensures)
-    (λ i is. subst (λ (vs : List ViewRef). AllByRecursion (HasRows i) (map (view_shelved l) vs)) c.as_slice.ensures (c.in_ok-are_views_found.ensures.there i (later ∙ is) c.if-not-branch.false))
+    (λ i found is are. sym c.if-not-branch.false ∙ c.in_ok-are_views_found.ensures.found i found (later ∙ is) (subst (λ (vs : List ViewRef). AreFound i found (map (view_live l) vs)) (sym c.as_slice.ensures) are) ∙ ap (list_all (is_view_found found l)) c.as_slice.ensures)
+    (λ i is. subst (λ (vs : List ViewRef). AllByRecursion (HasRows i) (map (view_live l) vs)) c.as_slice.ensures (c.in_ok-are_views_found.ensures.there i (later ∙ is) c.if-not-branch.false))
     refl
     (λ xs is. c.agree-totalled.ensures xs (c.as_slice-2.ensures ∙ is) ∙ ap (λ (o : Option (List ℕ)). agrees_if_any o xs) c.totals.ensures)
     refl)

@@ -4,7 +4,7 @@ use Rattle.std.specs.Prelude.{None}
 use Rattle.mesa_schema.specs.declared.rows.Row.{Row}
 use Rattle.mesa_schema.specs.Columns.{aggs_of}
 use Rattle.mesa_schema.specs.Folded.{folded, rows_of}
-use Rattle.mesa_tasks.specs.mesa_batch.Bound.{KeepsBound}
+use Rattle.mesa_open_files.specs.mesa_batch.Bound.{KeepsBound}
 use Rattle.mesa_merge.specs.Inputs.{knowns_of, lifted_parts}
 use Rattle.mesa_check_file.specs.Difference.{first_difference}
 use Rattle.mesa_view.proofs.mesa_answer.Results.{if_ok}

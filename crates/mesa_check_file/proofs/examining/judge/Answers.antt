@@ -3,7 +3,7 @@ use Rattle.std.proofs.lemmas.Bool.{false≢true}
 use Rattle.mesa_schema.specs.Changes.{columns_of}
 use Rattle.mesa_schema.specs.Columns.{Columns}
 use Rattle.mesa_schema.specs.Lifting.{lifted_with}
-use Rattle.mesa_tasks.specs.mesa_batch.Totals.{abs_totals}
+use Rattle.mesa_open_files.specs.mesa_batch.Totals.{abs_totals}
 use Rattle.mesa_check_file.specs.Sums.{AreTotals, counted}
 use Rattle.mesa_check_file.specs.Tallies.{IsToldOf}
 use Rattle.mesa_check_file.proofs.examining.judge.Goals as goal

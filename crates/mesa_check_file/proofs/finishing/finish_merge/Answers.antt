@@ -3,7 +3,7 @@ use Rattle.std.proofs.lemmas.Bool.{false≢true}
 use Rattle.mesa_schema.specs.declared.rows.Row.{Row}
 use Rattle.mesa_schema.specs.Columns.{Columns}
 use Rattle.mesa_schema.specs.Folded.{rows_of}
-use Rattle.mesa_tasks.specs.mesa_batch.Bound.{KeepsBound}
+use Rattle.mesa_open_files.specs.mesa_batch.Bound.{KeepsBound}
 use Rattle.mesa_schema.specs.Columns.{aggs_of}
 use Rattle.mesa_merge.specs.Inputs.{AreAll, AreTold, lifted_parts}
 use Rattle.mesa_merge.specs.Merged.{HasMerged, failed_of, row_in}

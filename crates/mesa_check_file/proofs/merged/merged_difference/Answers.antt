@@ -8,7 +8,7 @@ use Rattle.mesa_schema.specs.Columns.{Columns, aggs_of}
 use Rattle.mesa_schema.specs.Folded.{folded, rows_of}
 use Rattle.mesa_schema.specs.Lent.{lent}
 use Rattle.mesa_schema.specs.Rows.{keys_rise}
-use Rattle.mesa_tasks.specs.mesa_batch.Bound.{KeepsBound}
+use Rattle.mesa_open_files.specs.mesa_batch.Bound.{KeepsBound}
 use Rattle.mesa_delta.specs.declared.error.FileError.TheVariants.{Memory, Read}
 use Rattle.mesa_delta.specs.Reading.{IsIndexed}
 use Rattle.mesa_scan.specs.Cursors.{IsSameInput, at_hand, lift_by}

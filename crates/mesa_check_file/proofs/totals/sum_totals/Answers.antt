@@ -1,5 +1,5 @@
 use Rattle.std.proofs.Common.{◌∷◌, [], length, ap, sym, arith}
-use Rattle.mesa_tasks.specs.mesa_batch.Totals.{abs_total, abs_totals}
+use Rattle.mesa_open_files.specs.mesa_batch.Totals.{abs_total, abs_totals}
 use Rattle.mesa_check_file.specs.Sums.{counted}
 use Rattle.mesa_check_file.proofs.SumColumns.{sums_next}
 use Rattle.mesa_check_file.proofs.totals.sum_totals.Goals as goal

@@ -6,8 +6,8 @@ use Rattle.mesa_file.specs.declared.damage.Damage.{Damage}
 use Rattle.mesa_delta.specs.declared.input.Input.{Input}
 use Rattle.mesa_merge.specs.Faults.{faults_of}
 use Rattle.mesa_batch.specs.Bound.{KeepsBound}
-use Rattle.mesa_tasks.specs.Inputs.{IsMergeOf}
-use Rattle.mesa_tasks.specs.Made.{IsMadeFile}
+use Rattle.mesa_open_files.specs.Inputs.{IsMergeOf}
+use Rattle.mesa_open_files.specs.Made.{IsMadeFile}
 use Rattle.mesa_merge.specs.Inputs.{AreAll, AreTold, knowns_of, lifted_parts}
 use Rattle.mesa_merge.specs.Merged.{HasMerged, inputs_of, nothing_given}
 use Rattle.mesa_answer.specs.Answering.{KeepsSums}

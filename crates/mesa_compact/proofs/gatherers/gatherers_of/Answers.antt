@@ -2,7 +2,7 @@ use Rattle.std.proofs.Common.{◌≡◌, ◌+◌, [], ◌∷◌, inl, inr, lengt
 use Rattle.std.specs.Prelude.{slice_get, Some, Option}
 use Rattle.std.specs.List.{AllByRecursion}
 use Rattle.mesa_answer.specs.declared.groups.Groups.{Groups}
-use Rattle.mesa_tasks.specs.declared.merging.TaskView.{TaskView}
+use Rattle.mesa_open_files.specs.declared.merging.TaskView.{TaskView}
 use Rattle.mesa_compact.specs.Grouping.{HasPutIn, TakesRows, wanted_in}
 use Rattle.mesa_compact.specs.Sources.{ArePlaces, IsSourceOf}
 use Rattle.mesa_compact.proofs.Putting.{all_at}

@@ -3,7 +3,7 @@ use Rattle.std.specs.Prelude.{Option, slice_get, Some}
 use Rattle.std.specs.List.{AllByRecursion}
 use Rattle.mesa_schema.specs.declared.views.View.{View}
 use Rattle.mesa_answer.specs.declared.groups.Groups.{Groups}
-use Rattle.mesa_tasks.specs.declared.merging.TaskView.{TaskView}
+use Rattle.mesa_open_files.specs.declared.merging.TaskView.{TaskView}
 use Rattle.mesa_compact.specs.Grouping.{HavePut, TakesRows, wanted_in}
 use Rattle.mesa_compact.specs.Sources.{AreSeen, IsSourceOf}
 use Rattle.mesa_compact.proofs.gatherers.gatherers_of.Given as goal

@@ -4,7 +4,7 @@ use Rattle.mesa_schema.specs.Columns.{Columns}
 use Rattle.mesa_schema.specs.Rows.{AreRowsOf, keys_rise}
 use Rattle.mesa_schema.specs.Views.{view_columns, view_key_places, view_rows, view_value_places}
 use Rattle.mesa_answer.specs.Gathering.{Wanted}
-use Rattle.mesa_tasks.specs.Made.{IsMadeFile}
+use Rattle.mesa_open_files.specs.Made.{IsMadeFile}
 use Rattle.mesa_compact.specs.Damaged.{LeavesAmong, TotalLeaves}
 use Rattle.mesa_compact.proofs.Causing.{caused_memory, caused_on, same_end}
 use Rattle.mesa_compact.proofs.Whole.{if_ok_map}

@@ -1,6 +1,6 @@
 use Rattle.std.proofs.Common.{◌≡◌, ◌++◌, ◌∷◌, [], map, take, sym, ◌∙◌, subst, refl}
-use Rattle.mesa_tasks.specs.mesa_block.Rows.{Rise}
-use Rattle.mesa_tasks.specs.mesa_block.Spelling.{key_of}
+use Rattle.mesa_open_files.specs.mesa_block.Rows.{Rise}
+use Rattle.mesa_open_files.specs.mesa_block.Spelling.{key_of}
 use Rattle.mesa_schema.specs.declared.rows.Row.{Row}
 use Rattle.mesa_schema.specs.Columns.{Columns}
 use Rattle.mesa_schema.specs.Lent.{lent}

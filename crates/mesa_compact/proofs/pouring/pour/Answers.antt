@@ -3,8 +3,8 @@ use Rattle.std.specs.List.{AllByRecursion}
 use Rattle.std.specs.Prelude.{slice_get, None, Some}
 use Rattle.mesa_view.specs.mesa_value.declared.Agg.TheVariants.{Sum}
 use Rattle.mesa_batch.specs.Totals.{abs_total, sum_bound}
-use Rattle.mesa_tasks.specs.mesa_block.Rows.{Rise}
-use Rattle.mesa_tasks.specs.mesa_block.Spelling.{key_of}
+use Rattle.mesa_open_files.specs.mesa_block.Rows.{Rise}
+use Rattle.mesa_open_files.specs.mesa_block.Spelling.{key_of}
 use Rattle.mesa_schema.specs.declared.rows.Row.{Row}
 use Rattle.mesa_schema.specs.Columns.{Columns, aggs_of}
 use Rattle.mesa_schema.specs.Folded.{folded, rows_of}

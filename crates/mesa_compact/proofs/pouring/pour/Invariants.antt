@@ -4,7 +4,7 @@ use Rattle.mesa_schema.specs.declared.rows.Row.{Row}
 use Rattle.mesa_schema.specs.Columns.{aggs_of}
 use Rattle.mesa_schema.specs.Folded.{folded}
 use Rattle.mesa_delta.specs.Writing.{HasTaken, columns_of, draft_of, id_of}
-use Rattle.mesa_tasks.specs.mesa_scan.Cursors.{IsInput}
+use Rattle.mesa_open_files.specs.mesa_scan.Cursors.{IsInput}
 use Rattle.mesa_merge.specs.Faults.{faults_of}
 use Rattle.mesa_merge.specs.Inputs.{knowns_of}
 use Rattle.mesa_merge.specs.Merged.{HasMerged, inputs_of}

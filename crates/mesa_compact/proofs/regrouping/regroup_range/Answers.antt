@@ -10,8 +10,8 @@ use Rattle.mesa_answer.proofs.Bounds.{sums_grouped}
 use Rattle.mesa_merge.specs.Faults.{faults_of}
 use Rattle.mesa_merge.specs.Inputs.{AreTold, Known, knowns_of, lifted_parts}
 use Rattle.mesa_merge.proofs.Ending.{all_told}
-use Rattle.mesa_tasks.specs.Inputs.{IsMergeOf}
-use Rattle.mesa_tasks.specs.Made.{IsMadeFile}
+use Rattle.mesa_open_files.specs.Inputs.{IsMergeOf}
+use Rattle.mesa_open_files.specs.Made.{IsMadeFile}
 use Rattle.mesa_compact.specs.Damaged.{IsNewestOf, LeavesAmong, TotalLeaves}
 use Rattle.mesa_compact.specs.Regrouped.{IsRegroupedTotal, PassesBound}
 use Rattle.mesa_compact.proofs.Causing.{caused_on, same_end}

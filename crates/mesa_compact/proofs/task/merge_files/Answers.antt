@@ -7,12 +7,12 @@ use Rattle.mesa_answer.specs.declared.groups.Groups.{Groups}
 use Rattle.mesa_merge.specs.Inputs.{knowns_of}
 use Rattle.mesa_merge.specs.Inputs.{AreInputs as AreMergeable}
 use Rattle.mesa_merge.proofs.Handing.{refill}
-use Rattle.mesa_tasks.specs.GivingBack.{own_inputs}
-use Rattle.mesa_tasks.specs.Serials.{Drafts, after_drafts, drawn}
+use Rattle.mesa_open_files.specs.GivingBack.{own_inputs}
+use Rattle.mesa_open_files.specs.Serials.{Drafts, after_drafts, drawn}
 use Rattle.mesa_delta.specs.declared.input.Input.{Input}
 use Rattle.mesa_answer.specs.Answering.{KeepsSums}
-use Rattle.mesa_tasks.specs.Inputs.{IsMergeOf}
-use Rattle.mesa_tasks.specs.Made.{IsMadeFile}
+use Rattle.mesa_open_files.specs.Inputs.{IsMergeOf}
+use Rattle.mesa_open_files.specs.Made.{IsMadeFile}
 use Rattle.mesa_compact.specs.Bounded.{AreBounded}
 use Rattle.mesa_compact.proofs.Tasking.{caused_table, caused_views, files_damage}
 use Rattle.mesa_compact.specs.Damaged.{IsNewestOf}

@@ -5,10 +5,10 @@ use Rattle.mesa_schema.specs.declared.rows.Row.{Row}
 use Rattle.mesa_schema.specs.Changes.{Lineage, columns_of}
 use Rattle.mesa_merge.specs.Inputs.{knowns_of}
 use Rattle.mesa_merge.proofs.Handing.{refill}
-use Rattle.mesa_tasks.specs.Inputs.{AreInputsOf, IsMergeOf}
-use Rattle.mesa_tasks.specs.Made.{IsMadeFile}
-use Rattle.mesa_tasks.specs.Tasks.{AreMergedViews, AreTaskViews}
-use Rattle.mesa_tasks.specs.declared.merging.TaskView.{TaskView}
+use Rattle.mesa_open_files.specs.Inputs.{AreInputsOf, IsMergeOf}
+use Rattle.mesa_open_files.specs.Made.{IsMadeFile}
+use Rattle.mesa_open_files.specs.Tasks.{AreMergedViews, AreTaskViews}
+use Rattle.mesa_open_files.specs.declared.merging.TaskView.{TaskView}
 use Rattle.mesa_compact.specs.Bounded.{AreBounded, AreViewsBounded}
 use Rattle.mesa_compact.proofs.Causing.{caused_memory, caused_ok}
 use Rattle.mesa_compact.proofs.Tasking.{caused_lent, files_merged, first_table, some_of}

@@ -1,8 +1,8 @@
 use Rattle.std.proofs.Common.{◌++◌, ap, flat_map, inl, inr, refl}
 use Rattle.std.specs.Prelude.{Vec}
 use Rattle.std.specs.declared.alloc.Global.{Global}
-use Rattle.mesa_tasks.specs.GivingBack.{own_inputs}
-use Rattle.mesa_tasks.specs.declared.merging.Spare.{Spare}
+use Rattle.mesa_open_files.specs.GivingBack.{own_inputs}
+use Rattle.mesa_open_files.specs.declared.merging.Spare.{Spare}
 use Rattle.mesa_compact.proofs.Causing.{caused_damage, same_end}
 use Rattle.mesa_compact.proofs.Tasking.{caused_spare}
 use Rattle.mesa_compact.proofs.task.merge_task.Goals as goal

@@ -2,8 +2,8 @@ use Rattle.std.proofs.Common.{Global, Vec, List, sym, subst}
 use Rattle.std.specs.Prelude.{Option, IfSome}
 use Rattle.mesa_schema.specs.declared.rows.Row.{Row}
 use Rattle.mesa_delta.specs.declared.input.Input.{Input}
-use Rattle.mesa_tasks.specs.Inputs.{IsMergeOf}
-use Rattle.mesa_tasks.specs.Made.{IsMadeFile}
+use Rattle.mesa_open_files.specs.Inputs.{IsMergeOf}
+use Rattle.mesa_open_files.specs.Made.{IsMadeFile}
 use Rattle.mesa_compact.proofs.Viewing.{files_some, inputs_kept, mergeable, own_inputs_of}
 use Rattle.mesa_compact.proofs.Whole.{if_ok_map}
 use Rattle.mesa_compact.proofs.Viewing.{own_bounded}

@@ -2,7 +2,7 @@ use Rattle.std.proofs.Common.{inl, inr, refl, sym, subst}
 use Rattle.std.specs.Prelude.{Option}
 use Rattle.mesa_merge.specs.Faults.{faults_of}
 use Rattle.mesa_answer.specs.declared.groups.Groups.{Groups}
-use Rattle.mesa_tasks.specs.GivingBack.{own_inputs}
+use Rattle.mesa_open_files.specs.GivingBack.{own_inputs}
 use Rattle.mesa_compact.specs.Grouping.{HasPutIn, wanted_in}
 use Rattle.mesa_compact.specs.Sources.{IsSourceOf}
 use Rattle.mesa_compact.proofs.Causing.{caused_on, same_end}

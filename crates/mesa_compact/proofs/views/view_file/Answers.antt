@@ -3,7 +3,7 @@ use Rattle.std.specs.Prelude.{Option, IfSome}
 use Rattle.mesa_schema.specs.declared.views.View.{View}
 use Rattle.mesa_schema.specs.Changes.{columns_of}
 use Rattle.mesa_schema.specs.Views.{view_columns}
-use Rattle.mesa_tasks.specs.Tasks.{IsMergedView}
+use Rattle.mesa_open_files.specs.Tasks.{IsMergedView}
 use Rattle.mesa_compact.specs.Tasks.{KnownView}
 use Rattle.mesa_compact.proofs.Causing.{caused_memory, caused_on}
 use Rattle.mesa_compact.proofs.Viewing.{some_within}

@@ -3,10 +3,10 @@ use Rattle.std.proofs.lemmas.List.{get_or-set_other}
 use Rattle.std.specs.Prelude.{slice_get, Some}
 use Rattle.mesa_schema.specs.declared.views.View.{View}
 use Rattle.mesa_schema.specs.Changes.{columns_of}
-use Rattle.mesa_tasks.specs.Serials.{after_drafts, drawn, next_serials}
-use Rattle.mesa_tasks.specs.Tasks.{IsMergedView}
-use Rattle.mesa_tasks.specs.declared.made.MadeView.{MadeView}
-use Rattle.mesa_tasks.specs.declared.merging.TaskView.{TaskView}
+use Rattle.mesa_open_files.specs.Serials.{after_drafts, drawn, next_serials}
+use Rattle.mesa_open_files.specs.Tasks.{IsMergedView}
+use Rattle.mesa_open_files.specs.declared.made.MadeView.{MadeView}
+use Rattle.mesa_open_files.specs.declared.merging.TaskView.{TaskView}
 use Rattle.mesa_compact.specs.Grouping.{HasPutIn}
 use Rattle.mesa_compact.specs.Tasks.{KnownView, known_view}
 use Rattle.mesa_compact.proofs.Causing.{caused_memory, caused_ok, caused_on}

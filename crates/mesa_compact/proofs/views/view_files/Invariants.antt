@@ -4,11 +4,11 @@ use Rattle.mesa_schema.specs.declared.rows.Row.{Row}
 use Rattle.mesa_schema.specs.declared.views.View.{View}
 use Rattle.mesa_schema.specs.Changes.{columns_of}
 use Rattle.mesa_merge.specs.Faults.{faults_of}
-use Rattle.mesa_tasks.specs.GivingBack.{own_inputs}
-use Rattle.mesa_tasks.specs.Serials.{after_drafts, drawn}
-use Rattle.mesa_tasks.specs.Tasks.{AreTaskViews, IsMergedView}
-use Rattle.mesa_tasks.specs.declared.made.MadeView.{MadeView}
-use Rattle.mesa_tasks.specs.declared.merging.TaskView.{TaskView}
+use Rattle.mesa_open_files.specs.GivingBack.{own_inputs}
+use Rattle.mesa_open_files.specs.Serials.{after_drafts, drawn}
+use Rattle.mesa_open_files.specs.Tasks.{AreTaskViews, IsMergedView}
+use Rattle.mesa_open_files.specs.declared.made.MadeView.{MadeView}
+use Rattle.mesa_open_files.specs.declared.merging.TaskView.{TaskView}
 use Rattle.mesa_compact.specs.Grouping.{HavePut}
 use Rattle.mesa_compact.specs.Tasks.{known_views}
 use Rattle.mesa_compact.proofs.views.view_files.Given as goal

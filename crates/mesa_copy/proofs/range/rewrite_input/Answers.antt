@@ -10,9 +10,9 @@ use Rattle.mesa_batch.specs.Totals.{abs_totals}
 use Rattle.mesa_filter.specs.Query.{are_places}
 use Rattle.mesa_delta.specs.declared.input.Input.{Input}
 use Rattle.mesa_compact.specs.mesa_merge.Inputs.{AreInputs, knowns_of}
-use Rattle.mesa_tasks.specs.Inputs.{IsMergeOf}
-use Rattle.mesa_tasks.specs.Made.{Content, IsMadeFile}
-use Rattle.mesa_tasks.specs.Recasts.{recast_content}
+use Rattle.mesa_open_files.specs.Inputs.{IsMergeOf}
+use Rattle.mesa_open_files.specs.Made.{Content, IsMadeFile}
+use Rattle.mesa_open_files.specs.Recasts.{recast_content}
 use Rattle.mesa_compact.specs.mesa_scan.Cursors.{IsInput}
 use Rattle.mesa_compact.specs.Bounded.{AreBounded}
 use Rattle.mesa_compact.proofs.Causing.{caused_memory}

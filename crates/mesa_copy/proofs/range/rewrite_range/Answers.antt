@@ -8,12 +8,12 @@ use Rattle.mesa_batch.specs.Totals.{abs_totals, sum_bound}
 use Rattle.mesa_delta.specs.declared.input.Input.{Input}
 use Rattle.mesa_compact.specs.mesa_merge.Faults.{faults_of}
 use Rattle.mesa_compact.specs.mesa_merge.Inputs.{Known, known_of, knowns_of}
-use Rattle.mesa_tasks.specs.Batches.{made_ids}
-use Rattle.mesa_tasks.specs.Inputs.{AreInputsTo, IsMergeOf}
-use Rattle.mesa_tasks.specs.Recasts.{HasRangeFile, IsRangeRewritten, own, recast_content, recast_ids}
-use Rattle.mesa_tasks.specs.Serials.{AreNext, drawn, next_serials}
-use Rattle.mesa_tasks.specs.declared.made.MadeFile.{MadeFile}
-use Rattle.mesa_tasks.specs.declared.recasting.RecastedRange.{RecastedRange}
+use Rattle.mesa_open_files.specs.Batches.{made_ids}
+use Rattle.mesa_open_files.specs.Inputs.{AreInputsTo, IsMergeOf}
+use Rattle.mesa_open_files.specs.Recasts.{HasRangeFile, IsRangeRewritten, own, recast_content, recast_ids}
+use Rattle.mesa_open_files.specs.Serials.{AreNext, drawn, next_serials}
+use Rattle.mesa_open_files.specs.declared.made.MadeFile.{MadeFile}
+use Rattle.mesa_open_files.specs.declared.recasting.RecastedRange.{RecastedRange}
 use Rattle.mesa_compact.specs.Bounded.{AreBounded}
 use Rattle.mesa_compact.specs.Regrouped.{IsRegroupDamage}
 use Rattle.mesa_compact.specs.Writing.{HasCauses}

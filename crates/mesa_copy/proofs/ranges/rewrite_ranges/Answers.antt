@@ -2,11 +2,11 @@ use Rattle.std.proofs.Common.{◌≡◌, ◌≢◌, ◌+◌, ◌<◌, ◌≤◌,
 use Rattle.std.proofs.lemmas.List.{get_or-set_other, take_all}
 use Rattle.mesa_schema.proofs.Lists.{all_set}
 use Rattle.mesa_compact.specs.mesa_merge.Inputs.{knowns_of}
-use Rattle.mesa_tasks.specs.Inputs.{AreInputsTo}
-use Rattle.mesa_tasks.specs.Recasts.{AreRewritten, IsRangeRewritten, own, recast_ids}
-use Rattle.mesa_tasks.specs.Serials.{AreNext}
-use Rattle.mesa_tasks.specs.declared.recasting.RecastRange.{RecastRange}
-use Rattle.mesa_tasks.specs.declared.recasting.RecastedRange.{RecastedRange}
+use Rattle.mesa_open_files.specs.Inputs.{AreInputsTo}
+use Rattle.mesa_open_files.specs.Recasts.{AreRewritten, IsRangeRewritten, own, recast_ids}
+use Rattle.mesa_open_files.specs.Serials.{AreNext}
+use Rattle.mesa_open_files.specs.declared.recasting.RecastRange.{RecastRange}
+use Rattle.mesa_open_files.specs.declared.recasting.RecastedRange.{RecastedRange}
 use Rattle.mesa_compact.specs.Bounded.{AreBounded}
 use Rattle.mesa_compact.proofs.Causing.{caused_memory, caused_ok, caused_on}
 use Rattle.mesa_compact.proofs.Putting.{all_at, map_set}

@@ -1,10 +1,10 @@
 use Rattle.std.proofs.Common.{◌≡◌, ◌≤◌, ◌++◌, ℕ, List, flat_map, get_or, length, take}
 use Rattle.mesa_schema.specs.Recasts.{Recast}
 use Rattle.mesa_compact.specs.mesa_merge.Faults.{faults_of}
-use Rattle.mesa_tasks.specs.Recasts.{AreRangesOf, AreRewritten, own, recast_ids}
-use Rattle.mesa_tasks.specs.Serials.{AreNext}
-use Rattle.mesa_tasks.specs.declared.recasting.RecastRange.{RecastRange}
-use Rattle.mesa_tasks.specs.declared.recasting.RecastedRange.{RecastedRange}
+use Rattle.mesa_open_files.specs.Recasts.{AreRangesOf, AreRewritten, own, recast_ids}
+use Rattle.mesa_open_files.specs.Serials.{AreNext}
+use Rattle.mesa_open_files.specs.declared.recasting.RecastRange.{RecastRange}
+use Rattle.mesa_open_files.specs.declared.recasting.RecastedRange.{RecastedRange}
 use Rattle.mesa_copy.specs.Copying.{known_ranges}
 use Rattle.mesa_copy.specs.Renewals.{IsRenewal, columns_in}
 use Rattle.mesa_copy.proofs.ranges.rewrite_ranges.Given as goal

@@ -7,9 +7,9 @@ use Rattle.mesa_schema.specs.Columns.{Columns}
 use Rattle.mesa_schema.specs.Recasts.{recast_keys, recast_values}
 use Rattle.mesa_compact.specs.mesa_merge.Faults.{faults_of}
 use Rattle.mesa_compact.proofs.mesa_merge.Handing.{refill}
-use Rattle.mesa_tasks.specs.Recasts.{AreRangesOf, AreRewritten, own, recast_in, recast_table}
-use Rattle.mesa_tasks.specs.declared.recasting.RecastRange.{RecastRange}
-use Rattle.mesa_tasks.specs.declared.recasting.RecastedRange.{RecastedRange}
+use Rattle.mesa_open_files.specs.Recasts.{AreRangesOf, AreRewritten, own, recast_in, recast_table}
+use Rattle.mesa_open_files.specs.declared.recasting.RecastRange.{RecastRange}
+use Rattle.mesa_open_files.specs.declared.recasting.RecastedRange.{RecastedRange}
 use Rattle.mesa_compact.specs.Writing.{HasCauses}
 use Rattle.mesa_compact.proofs.Causing.{caused_memory, caused_ok, caused_on}
 use Rattle.mesa_copy.specs.Copying.{AreRangesBounded, IsRangesDamage, known_ranges}

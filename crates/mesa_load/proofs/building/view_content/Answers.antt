@@ -7,7 +7,7 @@ use Rattle.mesa_schema.specs.Rows.{keys_rise}
 use Rattle.mesa_schema.specs.Views.{view_columns, view_key_places, view_value_places}
 use Rattle.mesa_batch.specs.Gathered.{rows_at}
 use Rattle.mesa_load.specs.Filing.{AreFileRows}
-use Rattle.mesa_load.specs.Jobs.{view_in}
+use Rattle.mesa_load.specs.FilesToWrite.{view_in}
 use Rattle.mesa_load.proofs.Places.{if_some, index_at, splits_at}
 use Rattle.mesa_load.proofs.Rows.{rise_of, viewed_some}
 use Rattle.mesa_load.proofs.building.view_content.Goals as goal

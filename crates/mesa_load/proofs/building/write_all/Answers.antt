@@ -1,7 +1,7 @@
 use Rattle.std.proofs.Common.{◌≡◌, length, sym, ap, subst, ◌∙◌, arith}
 use Rattle.std.specs.List.{AllByRecursion}
 use Rattle.mesa_load.specs.Collected.{HasCause, IsBegun}
-use Rattle.mesa_load.specs.Jobs.{AreDone, HaveIds}
+use Rattle.mesa_load.specs.FilesToWrite.{AreDone, HaveIds}
 use Rattle.mesa_load.proofs.Written.{all_done, all_ids, done_causes, written_back}
 use Rattle.mesa_load.proofs.building.write_all.Goals as goal
 

@@ -1,6 +1,6 @@
 use Rattle.std.proofs.Common.{◌<◌, length, sym, subst, slice_index_or, arith}
 use denote.Param.Send.{sendable}
-use Rattle.mesa_load.specs.Jobs.{IsReady}
+use Rattle.mesa_load.specs.FilesToWrite.{IsReady}
 use Rattle.mesa_load.proofs.building.write_jobs.Goals as goal
 
 pub for_each_mut-requires-clause-accepts : goal.for_each_mut-requires-clause-accepts

@@ -1,8 +1,8 @@
 use Rattle.std.proofs.Common.{◌≡◌, ◌++◌, ◌∙◌, List, ap, append-nil, refl, subst, sym, arith}
 use Rattle.std.proofs.lemmas.List.{nil_from_length}
-use Rattle.mesa_tasks.specs.Batches.{batch_ids, made_ids}
-use Rattle.mesa_tasks.specs.declared.made.MadeFile.{MadeFile}
-use Rattle.mesa_tasks.specs.declared.prepared.PreparedPart.{PreparedPart}
+use Rattle.mesa_open_files.specs.Batches.{batch_ids, made_ids}
+use Rattle.mesa_open_files.specs.declared.made.MadeFile.{MadeFile}
+use Rattle.mesa_open_files.specs.declared.prepared.PreparedPart.{PreparedPart}
 use Rattle.mesa_load.proofs.Filed.{AreFiled, filed_all, filed_next, ids_next, none_left}
 use Rattle.mesa_load.specs.declared.planning.Planned.{Planned}
 use Rattle.mesa_load.proofs.parts.filed_parts.Goals as goal

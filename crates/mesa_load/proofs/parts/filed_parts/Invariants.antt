@@ -1,6 +1,6 @@
 use Rattle.std.proofs.Common.{◌≡◌, ◌++◌, Bool, List, flat_map}
 use Rattle.std.specs.VecDeque.{deque_len}
-use Rattle.mesa_tasks.specs.Batches.{Share, batch_ids, made_ids}
+use Rattle.mesa_open_files.specs.Batches.{Share, batch_ids, made_ids}
 use Rattle.mesa_load.specs.Plans.{ArePlanned, HaveFiles, contents_of}
 use Rattle.mesa_load.proofs.Filed.{AreFiled}
 use Rattle.mesa_load.proofs.parts.filed_parts.Given as goal

@@ -1,10 +1,10 @@
 use Rattle.std.proofs.Common.{◌≡◌, ℕ, ◌+◌, ◌<◌, List, [], ◌∷◌, ◌++◌, Option, length, take, drop, refl, sym, ap, subst, ◌∙◌, arith}
 use Rattle.std.proofs.lemmas.List.{length-take-le, nil_from_length}
 use Rattle.std.proofs.Math.Seq.{take-length, drop-length}
-use Rattle.mesa_tasks.specs.Batches.{made_ids}
-use Rattle.mesa_tasks.specs.Made.{AreMadeViews, Content}
-use Rattle.mesa_tasks.specs.declared.made.MadeFile.{MadeFile}
-use Rattle.mesa_tasks.specs.declared.made.MadeView.{MadeView}
+use Rattle.mesa_open_files.specs.Batches.{made_ids}
+use Rattle.mesa_open_files.specs.Made.{AreMadeViews, Content}
+use Rattle.mesa_open_files.specs.declared.made.MadeFile.{MadeFile}
+use Rattle.mesa_open_files.specs.declared.made.MadeView.{MadeView}
 use Rattle.mesa_load.specs.Plans.{AreMade}
 use Rattle.mesa_load.proofs.Filed.{views_more, views_next}
 use Rattle.mesa_load.proofs.Places.{splits_at}

@@ -1,6 +1,6 @@
 use Rattle.std.proofs.Common.{◌≡◌, ◌++◌, List, drop, length, take}
-use Rattle.mesa_tasks.specs.Batches.{made_ids, view_ids}
-use Rattle.mesa_tasks.specs.Made.{AreMadeViews, Content}
+use Rattle.mesa_open_files.specs.Batches.{made_ids, view_ids}
+use Rattle.mesa_open_files.specs.Made.{AreMadeViews, Content}
 use Rattle.mesa_load.specs.Plans.{AreMade}
 use Rattle.mesa_load.proofs.parts.take_views.Given as goal
 

@@ -2,9 +2,9 @@ use Rattle.std.proofs.Common.{◌≡◌, ◌∷◌, ◌++◌, map, take}
 use Rattle.std.specs.List.{AllByRecursion}
 use Rattle.mesa_schema.specs.Changes.{columns_of}
 use Rattle.mesa_batch.specs.Gathered.{rows_at}
-use Rattle.mesa_tasks.specs.Made.{content_of}
+use Rattle.mesa_open_files.specs.Made.{content_of}
 use Rattle.mesa_load.specs.Filing.{AreFileRows}
-use Rattle.mesa_load.specs.Jobs.{IsFit, content_in}
+use Rattle.mesa_load.specs.FilesToWrite.{IsFit, content_in}
 use Rattle.mesa_load.proofs.planning.add_jobs.Given as goal
 
 abbrev pub invariant-views : goal.invariant-views

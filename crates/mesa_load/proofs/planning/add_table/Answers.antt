@@ -11,7 +11,7 @@ use Rattle.mesa_batch.specs.Glance.{Known}
 use Rattle.mesa_load.proofs.Places.{if_some, splits_at}
 use Rattle.mesa_load.proofs.Shares.{next_table, plan_next, plan_same}
 use Rattle.mesa_load.specs.Filing.{AreFileRows}
-use Rattle.mesa_load.specs.Jobs.{IsFit, content_in}
+use Rattle.mesa_load.specs.FilesToWrite.{IsFit, content_in}
 use Rattle.mesa_load.specs.Plans.{table_contents}
 use Rattle.mesa_load.specs.declared.planning.Plan.{Plan}
 use Rattle.mesa_load.specs.declared.planning.Planned.{Planned}

@@ -1,10 +1,10 @@
 use Rattle.std.proofs.Common.{List, map, Ok, Err, sym, subst}
 use Rattle.std.specs.Prelude.{Bool, IfOk, Result}
-use Rattle.mesa_tasks.specs.Serials.{next_ids}
+use Rattle.mesa_open_files.specs.Serials.{next_ids}
 use Rattle.mesa_load.specs.Collected.{finished}
-use Rattle.mesa_load.specs.Jobs.{AreDone, content_in}
+use Rattle.mesa_load.specs.FilesToWrite.{AreDone, content_in}
 use Rattle.mesa_load.specs.Plans.{HaveFiles}
-use Rattle.mesa_load.specs.declared.building.Job.{Job}
+use Rattle.mesa_load.specs.declared.building.FileToWrite.{FileToWrite}
 use Rattle.mesa_load.proofs.Written.{done_made, next_made}
 use Rattle.mesa_load.proofs.preparing.build.Goals as goal
 
@@ -21,7 +21,7 @@ returns-clause-made g c =
     if_ok _ _ c.collect.result c.collect.ensures.all (λ files all.
     subst (λ (over : Bool). HaveFiles bytes id_of over (map content_in jobs) files.items) (sym c.if-plan.false)
     (done_made bytes id_of faults jobs files.items
-    (subst (λ (js : List Job). AreDone bytes id_of faults js (map finished files.items)) c.deref.ensures.value (subst (AreDone bytes id_of faults c.deref.result.now) all c.write_all-written.ensures.done))))
+    (subst (λ (js : List FileToWrite). AreDone bytes id_of faults js (map finished files.items)) c.deref.ensures.value (subst (AreDone bytes id_of faults c.deref.result.now) all c.write_all-written.ensures.done))))
 
 pub returns-clause-numbered : goal.returns-clause-numbered
 returns-clause-numbered g c =

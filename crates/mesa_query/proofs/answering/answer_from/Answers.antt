@@ -9,7 +9,7 @@ use Rattle.mesa_merge.proofs.Causing.{cause_other, cause_quiet}
 use Rattle.mesa_answer.specs.Answering.{grouped_columns}
 use Rattle.mesa_answer.specs.Gathered.{wanted_of}
 use Rattle.mesa_answer.specs.Gathering.{Wanted, wanted_by}
-use Rattle.mesa_tasks.specs.Pins.{IsPinnedInput}
+use Rattle.mesa_open_files.specs.Pins.{IsPinnedInput}
 use Rattle.std.specs.List.{AllByRecursion}
 use Rattle.std.specs.Prelude.{None}
 use Rattle.mesa_query.specs.Relation.{parts_ungrouped}

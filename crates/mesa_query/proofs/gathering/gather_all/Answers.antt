@@ -17,7 +17,7 @@ use Rattle.mesa_answer.specs.Gathered.{key_at_hand, wanted_of}
 use Rattle.mesa_answer.specs.Gathering.{Wanted}
 use Rattle.mesa_answer.specs.Sums.{SumLeavesAmong}
 use Rattle.mesa_view.specs.declared.error.GatherError.TheVariants as gather
-use Rattle.mesa_tasks.specs.Pins.{IsPinnedInput}
+use Rattle.mesa_open_files.specs.Pins.{IsPinnedInput}
 use Rattle.mesa_query.specs.Files.{IsDamageIn, inputs_in, tolds_of}
 use Rattle.mesa_query.specs.Relation.{rows_ungrouped}
 use Rattle.mesa_query.specs.Sums.{IsNewestFrom, rows_matching}

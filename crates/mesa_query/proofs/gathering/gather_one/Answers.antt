@@ -5,8 +5,8 @@ use Rattle.mesa_filter.specs.Filter.{filtered}
 use Rattle.mesa_answer.specs.Answering.{KeepsSums}
 use Rattle.mesa_answer.specs.Gathered.{wanted_of}
 use Rattle.mesa_answer.proofs.Results.{if_err, on_ok}
-use Rattle.mesa_tasks.specs.Inputs.{lifted_in, lineage_of}
-use Rattle.mesa_tasks.specs.Pins.{view_at}
+use Rattle.mesa_open_files.specs.Inputs.{lifted_in, lineage_of}
+use Rattle.mesa_open_files.specs.Pins.{view_at}
 use Rattle.mesa_query.proofs.Owned.{no_view, own_columns, own_keeps, own_rows, pinned_after, table_rows, table_view}
 use Rattle.mesa_query.proofs.gathering.gather_one.Goals as goal
 

@@ -4,7 +4,7 @@ use Rattle.std.specs.List.{AllByRecursion}
 use Rattle.std.proofs.lemmas.Bool.Decides.{nat_tests}
 use Rattle.std.proofs.lemmas.List.{nil_from_length}
 use Rattle.mesa_answer.specs.Gathered.{wanted_of}
-use Rattle.mesa_tasks.proofs.Retired.{all_append, all_back, all_front}
+use Rattle.mesa_open_files.proofs.Retired.{all_append, all_back, all_front}
 use Rattle.mesa_query.specs.declared.jobs.Job.{Job}
 use Rattle.mesa_query.specs.declared.pieces.Piece.{Piece}
 use Rattle.mesa_query.specs.Jobs.{IsJob, pieces_in}

@@ -5,7 +5,7 @@ use Rattle.mesa_schema.specs.Lent.{lent}
 use Rattle.mesa_schema.specs.Rows.{IsRowOf}
 use Rattle.mesa_answer.specs.Gathered.{HasPut, wanted_of}
 use Rattle.mesa_answer.specs.Gathering.{Wanted}
-use Rattle.mesa_scan.specs.Matching.{matching_rows}
+use Rattle.mesa_scan.specs.MatchingRows.{matching_rows}
 use Rattle.mesa_query.proofs.Files.{all_at}
 use Rattle.mesa_query.proofs.JobSteps.{row_tried, rows_next}
 use Rattle.mesa_query.proofs.jobs.put_block.Goals as goal

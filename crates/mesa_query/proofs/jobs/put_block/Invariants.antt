@@ -1,7 +1,7 @@
 use Rattle.std.proofs.Common.{◌≡◌, ◌++◌, List, take}
 use Rattle.mesa_schema.specs.declared.rows.Row.{Row}
 use Rattle.mesa_answer.specs.Gathered.{HasPut, wanted_of}
-use Rattle.mesa_scan.specs.Matching.{matching_rows}
+use Rattle.mesa_scan.specs.MatchingRows.{matching_rows}
 use Rattle.mesa_query.proofs.jobs.put_block.Given as goal
 
 -- the rows so far are looked at

@@ -6,7 +6,7 @@ use Rattle.mesa_answer.specs.Gathered.{key_at_hand, wanted_of}
 use Rattle.mesa_answer.specs.Gathering.{Wanted, group_from}
 use Rattle.mesa_answer.specs.Sums.{HasGroup}
 use Rattle.mesa_answer.proofs.Leaving.{none_leaves}
-use Rattle.mesa_tasks.specs.Pins.{IsPinnedInput}
+use Rattle.mesa_open_files.specs.Pins.{IsPinnedInput}
 use Rattle.mesa_query.specs.Sums.{rows_matching}
 use Rattle.mesa_query.proofs.Files.{file_fault}
 use Rattle.mesa_query.proofs.newest.holds_group.Goals as goal

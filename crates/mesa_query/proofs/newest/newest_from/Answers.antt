@@ -7,8 +7,8 @@ use Rattle.mesa_delta.specs.Indexed.{Indexed}
 use Rattle.mesa_delta.specs.Reading.{index_of}
 use Rattle.mesa_answer.specs.Gathered.{key_at_hand, wanted_of}
 use Rattle.mesa_merge.proofs.Causing.{cause_quiet}
-use Rattle.mesa_tasks.specs.Pins.{IsPinnedInput}
-use Rattle.mesa_tasks.specs.declared.querying.PinnedInput.{PinnedInput}
+use Rattle.mesa_open_files.specs.Pins.{IsPinnedInput}
+use Rattle.mesa_open_files.specs.declared.querying.PinnedInput.{PinnedInput}
 use Rattle.mesa_query.proofs.Files.{all_set, file_cause, file_known, looked_more, moved_drop, moved_here, moved_none, own_ahead, own_set}
 use Rattle.mesa_query.proofs.Holding.{IsNewestTo, damage_dropped, file_moved, holds_moved, lacks_moved, newest_all, newest_before, newest_first, newest_here}
 use Rattle.mesa_query.proofs.newest.newest_from.Goals as goal

@@ -8,10 +8,10 @@ use Rattle.mesa_schema.specs.Columns.{kinds_of}
 use Rattle.mesa_filter.specs.Filter.{filtered}
 use Rattle.mesa_merge.specs.Inputs.{Known, known_of, knowns_of}
 use Rattle.mesa_merge.proofs.Inputs.{known_get}
-use Rattle.mesa_tasks.proofs.Retired.{all_append}
-use Rattle.mesa_tasks.specs.Inputs.{lifted_in, lineage_of}
-use Rattle.mesa_tasks.specs.Pins.{IsPinnedInput}
-use Rattle.mesa_tasks.specs.declared.querying.PinnedInput.{PinnedInput}
+use Rattle.mesa_open_files.proofs.Retired.{all_append}
+use Rattle.mesa_open_files.specs.Inputs.{lifted_in, lineage_of}
+use Rattle.mesa_open_files.specs.Pins.{IsPinnedInput}
+use Rattle.mesa_open_files.specs.declared.querying.PinnedInput.{PinnedInput}
 use Rattle.mesa_query.specs.Files.{inputs_in}
 use Rattle.mesa_query.specs.Pieces.{IsPieceOf, rows_of_pieces}
 use Rattle.mesa_query.specs.Relation.{rows_ungrouped}

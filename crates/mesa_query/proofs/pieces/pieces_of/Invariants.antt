@@ -3,7 +3,7 @@ use Rattle.std.specs.List.{AllByRecursion}
 use Rattle.mesa_schema.specs.declared.rows.Row.{Row}
 use Rattle.mesa_schema.specs.Columns.{Columns}
 use Rattle.mesa_merge.specs.Inputs.{AreTold, knowns_of}
-use Rattle.mesa_tasks.specs.Pins.{IsPinnedInput}
+use Rattle.mesa_open_files.specs.Pins.{IsPinnedInput}
 use Rattle.mesa_query.specs.Files.{inputs_in}
 use Rattle.mesa_query.specs.Pieces.{IsPieceOf, rows_of_pieces}
 use Rattle.mesa_query.proofs.Contents.{matching_first}

@@ -10,7 +10,7 @@ use Rattle.mesa_schema.specs.Views.{view_columns}
 use Rattle.mesa_delta.specs.declared.input.Input.{Input}
 use Rattle.mesa_scan.specs.Cursors.{IsSameInput, reader_in}
 use Rattle.mesa_scan.specs.declared.scanning.Scan.{Scan}
-use Rattle.mesa_scan.specs.Matching.{matching_rows}
+use Rattle.mesa_scan.specs.MatchingRows.{matching_rows}
 use Rattle.mesa_scan.specs.Scanning.{HasScanned}
 use Rattle.mesa_scan.proofs.Onwards.{damaged_before, same_input}
 use Rattle.mesa_answer.specs.Answering.{KeepsSums}

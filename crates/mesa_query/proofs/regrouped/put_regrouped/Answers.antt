@@ -12,7 +12,7 @@ use Rattle.mesa_answer.specs.Gathered.{HasPut, key_at_hand, wanted_of}
 use Rattle.mesa_answer.specs.Gathering.{Wanted}
 use Rattle.mesa_answer.specs.Regrouping.{row_under}
 use Rattle.mesa_answer.specs.Sums.{SumLeavesAmong}
-use Rattle.mesa_scan.specs.Matching.{matching_rows}
+use Rattle.mesa_scan.specs.MatchingRows.{matching_rows}
 use Rattle.mesa_query.proofs.Blocks.{form_at, keeps_front, leaves_front, put_next}
 use Rattle.mesa_query.proofs.regrouped.put_regrouped.Goals as goal
 

@@ -2,7 +2,7 @@ use Rattle.std.proofs.Common.{◌≡◌, ◌++◌, List, map, take}
 use Rattle.mesa_schema.specs.declared.rows.Row.{Row}
 use Rattle.mesa_answer.specs.Gathered.{HasPut, wanted_of}
 use Rattle.mesa_answer.specs.Regrouping.{row_under}
-use Rattle.mesa_scan.specs.Matching.{matching_rows}
+use Rattle.mesa_scan.specs.MatchingRows.{matching_rows}
 use Rattle.mesa_query.proofs.regrouped.put_regrouped.Given as goal
 
 -- the rows so far are looked at

@@ -7,8 +7,8 @@ use Rattle.std.specs.Prelude.{◌⊎◌}
 use Rattle.mesa_answer.specs.Answering.{KeepsSums}
 use Rattle.mesa_query.specs.Whole.{all_wanted}
 use Rattle.mesa_answer.proofs.Results.{if_err}
-use Rattle.mesa_tasks.specs.Pins.{IsPinnedInput}
-use Rattle.mesa_tasks.specs.declared.querying.PinnedInput.{PinnedInput}
+use Rattle.mesa_open_files.specs.Pins.{IsPinnedInput}
+use Rattle.mesa_open_files.specs.declared.querying.PinnedInput.{PinnedInput}
 use Rattle.mesa_query.specs.Files.{IsDamageIn, inputs_in}
 use Rattle.mesa_query.specs.Relation.{parts_ungrouped}
 use Rattle.mesa_query.specs.Sums.{IsSumIn}

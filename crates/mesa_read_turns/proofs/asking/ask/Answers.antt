@@ -1,7 +1,7 @@
 use Rattle.std.proofs.Common.{◌≡◌, ℕ, refl, subst, Option, Ok}
 use Rattle.std.proofs.lemmas.Result.{err_from_is_err_and}
 use Rattle.mesa_engine.specs.EngineState.{books_of}
-use Rattle.mesa_rules.specs.Found.{IsAnswered, Sees, version_in}
+use Rattle.mesa_validate.specs.Found.{IsAnswered, Sees, version_in}
 use Rattle.mesa_engine.specs.mesa_history_spec.Rows.{no_rows}
 use Rattle.mesa_read_turns.proofs.asking.ask.Goals as goal
 

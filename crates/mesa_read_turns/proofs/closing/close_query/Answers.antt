@@ -7,7 +7,7 @@ use Rattle.mesa_model.specs.declared.entries.Kind.TheVariants as kind
 use Rattle.mesa_engine.specs.mesa_history_spec.Rows.{Rows, no_rows}
 use Rattle.mesa_engine.specs.Vault.{Starts}
 use Rattle.mesa_engine.proofs.BeforeTurns.{vault_at_seen}
-use Rattle.mesa_tasks.specs.GivingBack.{pinned_inputs}
+use Rattle.mesa_open_files.specs.GivingBack.{pinned_inputs}
 use Rattle.mesa_engine.specs.mesa_invariant_spec.Printing.{IsPut}
 use Rattle.mesa_engine.specs.mesa_invariant_spec.Queries.{closing_fault}
 use Rattle.mesa_engine.specs.mesa_invariant_spec.Turns.{AnswersDisk, Shown, SomeRose, Takes, faults_of}

@@ -1,6 +1,6 @@
 use Rattle.std.proofs.Common.{map, sym, ◌∙◌, ap, subst}
 use Rattle.mesa_engine.specs.Failing.{is_of_device}
-use Rattle.mesa_engine.specs.mesa_image_spec.Catalog.{Catalog, ranges_of}
+use Rattle.mesa_engine.specs.mesa_store_spec.Catalog.{Catalog, ranges_of}
 use Rattle.mesa_engine.specs.EngineState.{books_of}
 use Rattle.mesa_engine.specs.mesa_history_spec.Rows.{no_rows}
 use Rattle.mesa_engine.specs.mesa_invariant_spec.Changes.{HasNoPlan}

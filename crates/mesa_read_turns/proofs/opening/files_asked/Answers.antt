@@ -1,10 +1,10 @@
 use Rattle.std.proofs.Common.{◌≡◌, true, sym, subst}
 use Rattle.mesa_read_turns.proofs.Opens.{has_no_asked, has_no_files, met_damage, rules_undamaged}
-use Rattle.mesa_plans.proofs.There.{name_there, view_within}
+use Rattle.mesa_pick_files.proofs.There.{name_there, view_within}
 use Rattle.mesa_read_turns.proofs.opening.files_asked.Goals as goal
-use Rattle.mesa_engine.specs.mesa_image_spec.Catalog.{stock_at}
+use Rattle.mesa_engine.specs.mesa_store_spec.Catalog.{meta_at}
 use Rattle.mesa_engine.specs.EngineState.{books_of}
-use Rattle.mesa_rules.specs.Found.{answer_found}
+use Rattle.mesa_validate.specs.Found.{answer_found}
 use Rattle.mesa_engine.specs.mesa_history_spec.Rows.{no_rows}
 use Rattle.mesa_engine.specs.mesa_invariant_spec.Causes.{Cause, outcome_of}
 use Rattle.mesa_engine.specs.mesa_invariant_spec.Queries.{HasNoAnswer}
@@ -26,7 +26,7 @@ pub open_found-requires-clause-view : goal.open_found-requires-clause-view
 open_found-requires-clause-view g c κs within =
     let k = c.in-Ok.asked.catalog.now.catalogue in
     let f = c.in-Ok.asked.found in
-    view_within (stock_at k f.relation.table).lineage f.relation.view (name_there k c.args.words.now.relation f.relation c.in-Ok.ensures.relation).1
+    view_within (meta_at k f.relation.table).lineage f.relation.view (name_there k c.args.words.now.relation f.relation c.in-Ok.ensures.relation).1
 
 pub returns-in-Ok-open_found-clause-files : goal.returns-in-Ok-open_found-clause-files
 returns-in-Ok-open_found-clause-files g c = record {

@@ -1,13 +1,13 @@
 use Rattle.std.proofs.Common.{sym, ◌∙◌, ap, subst}
 use Rattle.mesa_work_turns.specs.mesa_history_spec.Machine.{still_checked}
-use Rattle.mesa_engine.specs.mesa_image_spec.Catalog.{Catalog, stock_at}
+use Rattle.mesa_engine.specs.mesa_store_spec.Catalog.{Catalog, meta_at}
 use Rattle.mesa_engine.specs.EngineState.{books_of}
 use Rattle.mesa_model.specs.Warehouse.{Table}
 use Rattle.mesa_model.specs.declared.replies.Refusal.TheVariants as no
 use Rattle.mesa_work_turns.specs.mesa_schema.Changes.{Lineage, epoch_of}
 use Rattle.mesa_work_turns.specs.mesa_schema.Recasts.{recast_checked}
 use Rattle.mesa_work_turns.specs.mesa_history_spec.Rows.{no_rows}
-use Rattle.mesa_tasks.specs.Recasts.{claim_of_recast, recast_in}
+use Rattle.mesa_open_files.specs.Recasts.{claim_of_recast, recast_in}
 use Rattle.mesa_recast_turns.specs.Unfit.{HasNotRecast, unfit_of}
 use Rattle.mesa_recast_turns.specs.declared.checking.Unfit.TheVariants as why
 use Rattle.mesa_recast_turns.proofs.Checks.{still_fits, still_other, unfit_by}
@@ -19,8 +19,8 @@ pub returns-then-epoch-task-clause-refused : goal.returns-then-epoch-task-clause
 returns-then-epoch-task-clause-refused g c =
     let l = c.args.metadata.now.state in
     let t = c.args.task.now in
-    let now = (stock_at l.catalogue t.table).lineage in
-    let lineage = c.deref.ensures ∙ c.evolving-evolving.ensures ∙ ap (λ (k : Catalog). (stock_at k t.table).lineage) c.catalog.ensures in
+    let now = (meta_at l.catalogue t.table).lineage in
+    let lineage = c.deref.ensures ∙ c.evolving-evolving.ensures ∙ ap (λ (k : Catalog). (meta_at k t.table).lineage) c.catalog.ensures in
     let epoch_is = c.epoch-epoch.ensures.count ∙ ap epoch_of lineage in
     let table = ap (λ (u : Table). u.lineage) (table_is l t.table) in
     subst (λ e. HasNotRecast (books_of no_rows l) c.args.position (claim_of_recast t) t.epoch (recast_in t) (why.Changed (no.Changed e))) (sym epoch_is)
@@ -30,8 +30,8 @@ returns-then-epoch-task-clause-refused g c =
 pub returns-in-Ok-clause-still : goal.returns-in-Ok-clause-still
 returns-in-Ok-clause-still g c =
     let t = c.args.task.now in
-    let now = (stock_at c.args.metadata.now.state.catalogue t.table).lineage in
-    let catalogue = ap (λ (k : Catalog). (stock_at k t.table).lineage) c.catalog.ensures in
+    let now = (meta_at c.args.metadata.now.state.catalogue t.table).lineage in
+    let catalogue = ap (λ (k : Catalog). (meta_at k t.table).lineage) c.catalog.ensures in
     let lineage = c.deref.ensures ∙ c.evolving-evolving.ensures ∙ catalogue in
     let again = c.deref-2.ensures ∙ c.evolving-evolving.ensures ∙ catalogue in
     let same = sym (c.epoch-epoch.ensures.count ∙ ap epoch_of lineage) ∙ c.if-epoch-task.false in
@@ -44,8 +44,8 @@ returns-in-Err-check_recast-clause-refused g c =
     let l = c.args.metadata.now.state in
     let t = c.args.task.now in
     let e = c.in-Err-check_recast.error in
-    let now = (stock_at l.catalogue t.table).lineage in
-    let catalogue = ap (λ (k : Catalog). (stock_at k t.table).lineage) c.catalog.ensures in
+    let now = (meta_at l.catalogue t.table).lineage in
+    let catalogue = ap (λ (k : Catalog). (meta_at k t.table).lineage) c.catalog.ensures in
     let lineage = c.deref.ensures ∙ c.evolving-evolving.ensures ∙ catalogue in
     let again = c.deref-2.ensures ∙ c.evolving-evolving.ensures ∙ catalogue in
     let same = sym (c.epoch-epoch.ensures.count ∙ ap epoch_of lineage) ∙ c.if-epoch-task.false in

@@ -10,7 +10,7 @@ use Rattle.mesa_work_turns.specs.mesa_invariant_spec.Causes.{outcome_of}
 use Rattle.mesa_work_turns.specs.mesa_invariant_spec.Invariant.{run_at}
 use Rattle.mesa_engine.specs.Engine.{Standing, starts_of}
 use Rattle.mesa_work_turns.specs.mesa_history_spec.Rows.{no_rows}
-use Rattle.mesa_tasks.specs.Recasts.{claim_of_recast, recast_in}
+use Rattle.mesa_open_files.specs.Recasts.{claim_of_recast, recast_in}
 use Rattle.mesa_work_turns.proofs.Sweeping.{stood_as}
 use Rattle.mesa_recast_turns.specs.Unfit.{HasNotRecast, cause_met}
 use Rattle.mesa_recast_turns.proofs.Dues.{recast_is_there}

@@ -6,8 +6,8 @@ use Rattle.mesa_work_turns.specs.mesa_history_spec.Run.{Finished}
 use Rattle.mesa_model.specs.declared.commands.Command.TheVariants as command
 use Rattle.mesa_model.specs.declared.entries.Kind.TheVariants as kind
 use Rattle.mesa_work_turns.specs.mesa_history_spec.Rows.{no_rows}
-use Rattle.mesa_tasks.specs.Recasts.{claim_of_recast}
-use Rattle.mesa_tasks.specs.declared.merging.CompactError.TheVariants as compact
+use Rattle.mesa_open_files.specs.Recasts.{claim_of_recast}
+use Rattle.mesa_open_files.specs.declared.merging.CompactError.TheVariants as compact
 use Rattle.mesa_work_turns.specs.mesa_invariant_spec.Turns.{AnswersDisk, AnswersDraft, IsTurn, Shown, SomeRose, Takes}
 use Rattle.mesa_work_turns.specs.mesa_invariant_spec.Works.{closing_stage}
 use Rattle.mesa_work_turns.proofs.mesa_invariant_spec.Alike.{due_alike}

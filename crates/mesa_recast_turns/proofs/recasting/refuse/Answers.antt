@@ -18,7 +18,7 @@ use Rattle.mesa_work_turns.proofs.mesa_invariant_spec.Alike.{due_alike}
 use Rattle.mesa_work_turns.proofs.mesa_invariant_spec.Faulting.{disk_never}
 use Rattle.mesa_engine.specs.Engine.{Standing, IsEngine, starts_of}
 use Rattle.mesa_engine.proofs.Drafting.{answers_none}
-use Rattle.mesa_tasks.specs.Recasts.{claim_of_recast, recast_in}
+use Rattle.mesa_open_files.specs.Recasts.{claim_of_recast, recast_in}
 use Rattle.mesa_recast_turns.specs.Unfit.{HasNotRecast, cause_met, unfit_state}
 use Rattle.mesa_recast_turns.proofs.Unfits.{closed_takes, no_draft, no_fault, unfit_engine}
 use Rattle.mesa_recast_turns.proofs.recasting.refuse.Goals as goal

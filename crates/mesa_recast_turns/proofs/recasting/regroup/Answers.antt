@@ -5,8 +5,8 @@ use Rattle.mesa_work_turns.specs.mesa_history_spec.Machine.{claim_checked, still
 use Rattle.mesa_work_turns.specs.mesa_history_spec.Refused.{is_refusal}
 use Rattle.mesa_work_turns.specs.mesa_history_spec.Run.{Finished, Renewed}
 use Rattle.mesa_work_turns.specs.mesa_history_spec.Turns.{IsDue}
-use Rattle.mesa_engine.specs.mesa_image_spec.Catalog.{applied}
-use Rattle.mesa_engine.specs.mesa_image_spec.Ids.{dropped_ids}
+use Rattle.mesa_engine.specs.mesa_store_spec.Catalog.{applied}
+use Rattle.mesa_engine.specs.mesa_store_spec.Ids.{dropped_ids}
 use Rattle.mesa_engine.specs.mesa_catalog.Lookups.{generation_of, turns_generation}
 use Rattle.mesa_lease.specs.Book.{ended}
 use Rattle.mesa_model.specs.Entry.{IsShort}
@@ -18,8 +18,8 @@ use Rattle.mesa_work_turns.proofs.mesa_record.RecordsBoth.{record_found}
 use Rattle.mesa_work_turns.specs.mesa_script.Rows.{body_of}
 use Rattle.mesa_work_turns.specs.mesa_history_spec.Rows.{Rows, no_rows}
 use Rattle.mesa_work_turns.specs.mesa_schema.Changes.{epoch_of}
-use Rattle.mesa_work_turns.specs.mesa_publishing.Recasts.{HasItsRanges, IsRecastIn, stock_of_recast}
-use Rattle.mesa_work_turns.proofs.mesa_publishing.Becoming.{same_columns}
+use Rattle.mesa_work_turns.specs.mesa_file_records.Recasts.{HasItsRanges, IsRecastIn, meta_of_recast}
+use Rattle.mesa_work_turns.proofs.mesa_file_records.Becoming.{same_columns}
 use Rattle.mesa_work_turns.specs.mesa_invariant_spec.Causes.{Replies, Unwritten, told_at}
 use Rattle.mesa_work_turns.specs.mesa_invariant_spec.Turns.{AnswersDisk, AnswersDraft, Shown, SomeRose, Takes, entry, faults_of}
 use Rattle.mesa_work_turns.specs.mesa_invariant_spec.Invariant.{Counts, run_at}
@@ -36,7 +36,7 @@ use Rattle.mesa_engine.specs.Printing.{PrintsBlock}
 use Rattle.mesa_engine.specs.Memory.{Memory}
 use Rattle.mesa_engine.specs.Engine.{IsEngine, Standing, starts_of}
 use Rattle.mesa_engine.proofs.Drafting.{answers_none}
-use Rattle.mesa_tasks.specs.Recasts.{claim_of_recast, recast_in, recast_table}
+use Rattle.mesa_open_files.specs.Recasts.{claim_of_recast, recast_in, recast_table}
 use Rattle.mesa_engine.specs.mesa_commit.Holding.{kept}
 use Rattle.mesa_work_turns.proofs.mesa_write_turns.Loads.{all_tell}
 use Rattle.mesa_work_turns.proofs.mesa_write_turns.Written.{IsWhole, IsWorked}
@@ -89,11 +89,11 @@ table_there g c =
 rested_in : (g : _) (c : goal.After-prepare-arg-1 g) → HasRested g.D.Reader.FileReader.bytes c.engine.inside.metadata.state c.args.task.now
 rested_in g c = subst (λ (x : Standing). HasRested g.D.Reader.FileReader.bytes x.state c.args.task.now) (sym c.engine.view_is) c.requires.rested
 
-epoch_in : (g : _) (c : goal.After-prepare-arg-1 g) → epoch_of (stock_of_recast c.engine.inside.metadata.state c.args.task.now).lineage ≡ c.args.task.now.epoch
+epoch_in : (g : _) (c : goal.After-prepare-arg-1 g) → epoch_of (meta_of_recast c.engine.inside.metadata.state c.args.task.now).lineage ≡ c.args.task.now.epoch
 epoch_in g c =
     let t = c.args.task.now in
-    let still = subst (λ (x : Standing). still_checked (stock_of_recast x.state t).lineage t.epoch (recast_in t) ≡ Ok tt) (sym c.engine.view_is) c.requires.still in
-    epoch_still (stock_of_recast c.engine.inside.metadata.state t).lineage t.epoch (recast_in t) still
+    let still = subst (λ (x : Standing). still_checked (meta_of_recast x.state t).lineage t.epoch (recast_in t) ≡ Ok tt) (sym c.engine.view_is) c.requires.still in
+    epoch_still (meta_of_recast c.engine.inside.metadata.state t).lineage t.epoch (recast_in t) still
 
 pub prepare-requires-clause-there : goal.prepare-requires-clause-there
 prepare-requires-clause-there g c κs within = table_there g c
@@ -104,14 +104,14 @@ prepare-requires-clause-task g c κs within = c.requires.rested.task
 pub prepare-requires-clause-allowed : goal.prepare-requires-clause-allowed
 prepare-requires-clause-allowed g c κs within =
     let t = c.args.task.now in
-    let still = subst (λ (x : Standing). still_checked (stock_of_recast x.state t).lineage t.epoch (recast_in t) ≡ Ok tt) (sym c.engine.view_is) c.requires.still in
-    still_allowed (stock_of_recast c.engine.inside.metadata.state t).lineage t.epoch (recast_in t) still
+    let still = subst (λ (x : Standing). still_checked (meta_of_recast x.state t).lineage t.epoch (recast_in t) ≡ Ok tt) (sym c.engine.view_is) c.requires.still in
+    still_allowed (meta_of_recast c.engine.inside.metadata.state t).lineage t.epoch (recast_in t) still
 
 pub prepare-requires-clause-same : goal.prepare-requires-clause-same
 prepare-requires-clause-same g c κs within =
     let t = c.args.task.now in
     let rested = rested_in g c in
-    same_columns (recast_table t) (stock_of_recast c.engine.inside.metadata.state t).lineage (epoch_in g c ∙ rested.task.epoch) rested.become
+    same_columns (recast_table t) (meta_of_recast c.engine.inside.metadata.state t).lineage (epoch_in g c ∙ rested.task.epoch) rested.become
 
 pub prepare-requires-clause-holds : goal.prepare-requires-clause-holds
 prepare-requires-clause-holds g c κs within =
@@ -284,11 +284,11 @@ kept_done g c =
     let number = c.args.who.command in
     let due : IsDue N.script (run_at N.script (N.start no_rows) h) session number (command.Recast words) (Renewed (claim_of_recast t)) =
     subst (λ (x : Standing). IsDue N.script (run_at N.script (N.start no_rows) x.shown.history) session number (command.Recast words) (Renewed (claim_of_recast t))) (sym c.engine.view_is) c.requires.due.1 in
-    let still : still_checked (stock_of_recast l t).lineage t.epoch (recast_in t) ≡ Ok tt =
-    subst (λ (x : Standing). still_checked (stock_of_recast x.state t).lineage t.epoch (recast_in t) ≡ Ok tt) (sym c.engine.view_is) c.requires.still in
+    let still : still_checked (meta_of_recast l t).lineage t.epoch (recast_in t) ≡ Ok tt =
+    subst (λ (x : Standing). still_checked (meta_of_recast x.state t).lineage t.epoch (recast_in t) ≡ Ok tt) (sym c.engine.view_is) c.requires.still in
     let has : (w : Rows) → n.sound w → HasItsRanges read t (written_by (outset_of n w) (n.origin w).found h t.table) =
     λ w sound. subst (λ (x : Standing). HasItsRanges read t (written_at N.script (N.start w) (N.origin w) x.shown.history t.table)) (sym c.engine.view_is)
-    (c.requires.ranges w sound (subst (λ (x : Standing). epoch_of (stock_of_recast x.state t).lineage ≡ t.epoch) c.engine.view_is (epoch_still (stock_of_recast l t).lineage t.epoch (recast_in t) still))) in
+    (c.requires.ranges w sound (subst (λ (x : Standing). epoch_of (meta_of_recast x.state t).lineage ≡ t.epoch) c.engine.view_is (epoch_still (meta_of_recast l t).lineage t.epoch (recast_in t) still))) in
     let tell = λ (w : Rows) (sound : n.sound w). all_tell bytes (c.requires.told w sound) s.made.items in
     let new = g.D.Disk.story c.write_record.new.disk in
     let body = c.in-Ok.ready.framed in
@@ -416,11 +416,11 @@ kept_failed g c =
     let number = c.args.who.command in
     let due : IsDue N.script (run_at N.script (N.start no_rows) h) session number (command.Recast words) (Renewed (claim_of_recast t)) =
     subst (λ (x : Standing). IsDue N.script (run_at N.script (N.start no_rows) x.shown.history) session number (command.Recast words) (Renewed (claim_of_recast t))) (sym c.engine.view_is) c.requires.due.1 in
-    let still : still_checked (stock_of_recast l t).lineage t.epoch (recast_in t) ≡ Ok tt =
-    subst (λ (x : Standing). still_checked (stock_of_recast x.state t).lineage t.epoch (recast_in t) ≡ Ok tt) (sym c.engine.view_is) c.requires.still in
+    let still : still_checked (meta_of_recast l t).lineage t.epoch (recast_in t) ≡ Ok tt =
+    subst (λ (x : Standing). still_checked (meta_of_recast x.state t).lineage t.epoch (recast_in t) ≡ Ok tt) (sym c.engine.view_is) c.requires.still in
     let has : (w : Rows) → n.sound w → HasItsRanges read t (written_by (outset_of n w) (n.origin w).found h t.table) =
     λ w sound. subst (λ (x : Standing). HasItsRanges read t (written_at N.script (N.start w) (N.origin w) x.shown.history t.table)) (sym c.engine.view_is)
-    (c.requires.ranges w sound (subst (λ (x : Standing). epoch_of (stock_of_recast x.state t).lineage ≡ t.epoch) c.engine.view_is (epoch_still (stock_of_recast l t).lineage t.epoch (recast_in t) still))) in
+    (c.requires.ranges w sound (subst (λ (x : Standing). epoch_of (meta_of_recast x.state t).lineage ≡ t.epoch) c.engine.view_is (epoch_still (meta_of_recast l t).lineage t.epoch (recast_in t) still))) in
     let tell = λ (w : Rows) (sound : n.sound w). all_tell bytes (c.requires.told w sound) s.made.items in
     let new = g.D.Disk.story c.write_record.new.disk in
     let body = c.in-Ok.ready.framed in
@@ -487,11 +487,11 @@ returns g c =
     let number = c.args.who.command in
     let due : IsDue N.script (run_at N.script (N.start no_rows) h) session number (command.Recast words) (Renewed (claim_of_recast t)) =
     subst (λ (x : Standing). IsDue N.script (run_at N.script (N.start no_rows) x.shown.history) session number (command.Recast words) (Renewed (claim_of_recast t))) (sym c.engine.view_is) c.requires.due.1 in
-    let still : still_checked (stock_of_recast l t).lineage t.epoch (recast_in t) ≡ Ok tt =
-    subst (λ (x : Standing). still_checked (stock_of_recast x.state t).lineage t.epoch (recast_in t) ≡ Ok tt) (sym c.engine.view_is) c.requires.still in
+    let still : still_checked (meta_of_recast l t).lineage t.epoch (recast_in t) ≡ Ok tt =
+    subst (λ (x : Standing). still_checked (meta_of_recast x.state t).lineage t.epoch (recast_in t) ≡ Ok tt) (sym c.engine.view_is) c.requires.still in
     let has : (w : Rows) → n.sound w → HasItsRanges read t (written_by (outset_of n w) (n.origin w).found h t.table) =
     λ w sound. subst (λ (x : Standing). HasItsRanges read t (written_at N.script (N.start w) (N.origin w) x.shown.history t.table)) (sym c.engine.view_is)
-    (c.requires.ranges w sound (subst (λ (x : Standing). epoch_of (stock_of_recast x.state t).lineage ≡ t.epoch) c.engine.view_is (epoch_still (stock_of_recast l t).lineage t.epoch (recast_in t) still))) in
+    (c.requires.ranges w sound (subst (λ (x : Standing). epoch_of (meta_of_recast x.state t).lineage ≡ t.epoch) c.engine.view_is (epoch_still (meta_of_recast l t).lineage t.epoch (recast_in t) still))) in
     let tell = λ (w : Rows) (sound : n.sound w). all_tell bytes (c.requires.told w sound) s.made.items in
     let new = g.D.Disk.story c.write_record.new.disk in
     let body = c.in-Ok.ready.framed in

@@ -2,10 +2,10 @@ use Rattle.std.proofs.Common.{◌≡◌, inl, ◌<◌, ◌≤◌, length, not, t
 use Rattle.std.specs.Prelude.{IfOk, IfSome}
 use Rattle.std.specs.List.{AllByRecursion}
 use Rattle.mesa_work_turns.specs.mesa_schema.Changes.{epoch_of}
-use Rattle.mesa_engine.specs.mesa_image_spec.Catalog.{Catalog, Delta, Stock, stock_at}
-use Rattle.mesa_engine.specs.mesa_image_spec.Fitting.{deltas_of}
-use Rattle.mesa_plans.specs.Ranges.{HoldsAll, IsDamagedRange, IsOfRange, IsOpenedRange}
-use Rattle.mesa_work_turns.specs.mesa_table.Meaning.{stock_of}
+use Rattle.mesa_engine.specs.mesa_store_spec.Catalog.{Catalog, Delta, TableMeta, meta_at}
+use Rattle.mesa_engine.specs.mesa_store_spec.Fitting.{deltas_of}
+use Rattle.mesa_pick_files.specs.Ranges.{HoldsAll, IsDamagedRange, IsOfRange, IsOpenedRange}
+use Rattle.mesa_work_turns.specs.mesa_catalog_table.Meaning.{meta_of}
 use Rattle.mesa_work_turns.specs.mesa_history_spec.Rows.{no_rows}
 use Rattle.mesa_engine.specs.Engine.{Standing, starts_of}
 use Rattle.mesa_engine.specs.Vault.{Starts, outset_of}
@@ -27,8 +27,8 @@ gather_more-requires-after_bounds g c κs within =
     let number = c.args.number in
     let there : number < length i.metadata.state.catalogue.tables = subst (λ (x : Standing). number < length x.state.catalogue.tables) (sym c.engine.view_is) c.requires.there in
     let shaped = shaped_at i.metadata.state.catalogue (c.engine.invariant.vault no_rows false (λ is. absurd cc)).shaped number there in
-    let stock = c.table-table.ensures.stock ∙ ap (λ (k : Catalog). stock_at k number) c.catalog.ensures in
-    (_, c.table-table.ensures.held, subst (λ (u : Stock). AllByRecursion (λ (d : Delta). d.epoch ≤ epoch_of u.lineage) (deltas_of u)) (sym stock) shaped.epochs)
+    let meta = c.table-table.ensures.meta ∙ ap (λ (k : Catalog). meta_at k number) c.catalog.ensures in
+    (_, c.table-table.ensures.held, subst (λ (u : TableMeta). AllByRecursion (λ (d : Delta). d.epoch ≤ epoch_of u.lineage) (deltas_of u)) (sym meta) shaped.epochs)
 
 pub invariant_of-engine : goal.invariant_of-engine
 invariant_of-engine g c =
@@ -52,8 +52,8 @@ was_open : (g : _) (c : goal.After-gather_more g) → c.engine.inside.metadata.s
 was_open g c = ap (λ (x : Standing). x.state.closed) c.engine.view_is ∙ c.requires.opened
 
 -- the table is the catalogue's
-stock_is : (g : _) (c : goal.After-gather_more g) → stock_of c.catalog.result.now.catalogue.next c.table-table.result.now ≡ stock_at c.engine.inside.metadata.state.catalogue c.args.number
-stock_is g c = c.table-table.ensures.stock ∙ ap (λ (k : Catalog). stock_at k c.args.number) c.catalog.ensures
+meta_is : (g : _) (c : goal.After-gather_more g) → meta_of c.catalog.result.now.catalogue.next c.table-table.result.now ≡ meta_at c.engine.inside.metadata.state.catalogue c.args.number
+meta_is g c = c.table-table.ensures.meta ∙ ap (λ (k : Catalog). meta_at k c.args.number) c.catalog.ensures
 
 pub returns-clause-rose : goal.returns-clause-rose
 returns-clause-rose g c is =
@@ -80,11 +80,11 @@ returns-clause-more g c =
     let read = g.D.Reader.FileReader.bytes in
     let faults = g.D.Reader.FileReader.faults in
     let story = g.D.Disk.story i.disk in
-    let now = stock_at l.catalogue number in
+    let now = meta_at l.catalogue number in
     let more = c.gather_more.ensures.more _ c.table-table.ensures.held in
-    let opened = subst (λ (u : Stock). AllByRecursion (IsOpenedRange read faults story.told u) more.0) (stock_is g c) more.2 in
+    let opened = subst (λ (u : TableMeta). AllByRecursion (IsOpenedRange read faults story.told u) more.0) (meta_is g c) more.2 in
     let are = all_so (IsOpenedRange read faults story.told now) (IsOfRange read faults story.told now) more.0 (λ x is. inl is) opened in
-    subst (λ (x : Standing). HasFurther read (stock_at x.state.catalogue number).lineage N.sound (λ w. written_at N.script (N.start w) (N.origin w) x.shown.history number) c.args.ranges.now.items c.gather_more.new.ranges.items) c.engine.view_is
+    subst (λ (x : Standing). HasFurther read (meta_at x.state.catalogue number).lineage N.sound (λ w. written_at N.script (N.start w) (N.origin w) x.shown.history number) c.args.ranges.now.items c.gather_more.new.ranges.items) c.engine.view_is
     (record {
       more = more.0;
       behind = more.1;
@@ -95,8 +95,8 @@ returns-clause-more g c =
 
 pub returns-clause-holds : goal.returns-clause-holds
 returns-clause-holds g c =
-    subst (λ (x : Standing). IfOk c.gather_more.result (λ d. d ≡ None → HoldsAll c.gather_more.new.ranges.items (stock_at x.state.catalogue c.args.number))) c.engine.view_is
-    (subst (λ (u : Stock). IfOk c.gather_more.result (λ d. d ≡ None → HoldsAll c.gather_more.new.ranges.items u)) (stock_is g c) (c.gather_more.ensures.holds _ c.table-table.ensures.held))
+    subst (λ (x : Standing). IfOk c.gather_more.result (λ d. d ≡ None → HoldsAll c.gather_more.new.ranges.items (meta_at x.state.catalogue c.args.number))) c.engine.view_is
+    (subst (λ (u : TableMeta). IfOk c.gather_more.result (λ d. d ≡ None → HoldsAll c.gather_more.new.ranges.items u)) (meta_is g c) (c.gather_more.ensures.holds _ c.table-table.ensures.held))
 
 pub returns-clause-whole : goal.returns-clause-whole
 returns-clause-whole g c w sound =
@@ -105,6 +105,6 @@ returns-clause-whole g c w sound =
     let i = c.engine.inside in
     let l = i.metadata.state in
     let story = g.D.Disk.story i.disk in
-    ok_also c.gather_more.result (λ d. IfSome d (IsDamagedRange story.told (stock_at l.catalogue c.args.number))) (λ d. d ≡ None)
+    ok_also c.gather_more.result (λ d. IfSome d (IsDamagedRange story.told (meta_at l.catalogue c.args.number))) (λ d. d ≡ None)
     (λ d met. none_damaged (outset_of n w) (n.origin w) l story (g.K.Sink.held i.log.printer.sink) i.log.history.items (not i.log.printer.broken) i.log.refused (c.engine.invariant.vault w true (λ ok. sound)) (was_open g c) c.args.number (table_there g c) d met)
-    (subst (λ (u : Stock). IfOk c.gather_more.result (λ d. IfSome d (IsDamagedRange story.told u))) (stock_is g c) (c.gather_more.ensures.damaged _ c.table-table.ensures.held))
+    (subst (λ (u : TableMeta). IfOk c.gather_more.result (λ d. IfSome d (IsDamagedRange story.told u))) (meta_is g c) (c.gather_more.ensures.damaged _ c.table-table.ensures.held))

@@ -1,14 +1,14 @@
 use Rattle.std.proofs.Common.{◌≡◌, inl, inr, ◌<◌, length, true, false, refl, sym, ◌∙◌, ap, subst, arith, [], Err}
-use Rattle.mesa_engine.specs.mesa_image_spec.Catalog.{stock_at}
+use Rattle.mesa_engine.specs.mesa_store_spec.Catalog.{meta_at}
 use Rattle.mesa_work_turns.specs.mesa_schema.Changes.{columns_of}
 use Rattle.mesa_work_turns.specs.mesa_history_spec.Rows.{Rows}
-use Rattle.mesa_tasks.specs.Recasts.{recast_in, recast_table}
+use Rattle.mesa_open_files.specs.Recasts.{recast_in, recast_table}
 use Rattle.mesa_delta.specs.declared.error.FileError.TheVariants as file_error
 use Rattle.mesa_engine.specs.Engine.{Standing}
 use Rattle.mesa_engine.specs.Written.{written_at}
 use Rattle.mesa_work_turns.specs.mesa_copy.Copying.{known_ranges}
 use Rattle.mesa_work_turns.proofs.mesa_copy.Rewriting.{rewritten_all}
-use Rattle.mesa_work_turns.proofs.mesa_publishing.Becoming.{same_columns as become_same}
+use Rattle.mesa_work_turns.proofs.mesa_file_records.Becoming.{same_columns as become_same}
 use Rattle.mesa_recast_turns.specs.Rested.{MayRest}
 use Rattle.mesa_recast_turns.proofs.Further.{further_begun, further_bounded, further_known, further_of, further_sourced, known_none}
 use Rattle.mesa_recast_turns.proofs.resting.rest.Goals as goal
@@ -81,7 +81,7 @@ returns-in-Ok-clause-longer g c =
     let N = g.N.Naming in
     let read = g.D.Reader.FileReader.bytes in
     let t = c.args.task.now in
-    let now = (stock_at c.args.engine.now.state.catalogue t.table).lineage in
+    let now = (meta_at c.args.engine.now.state.catalogue t.table).lineage in
     let written = λ (w : Rows). written_at N.script (N.start w) (N.origin w) c.args.engine.now.shown.history t.table in
     record {
       table = refl;
@@ -99,7 +99,7 @@ returns-in-Ok-clause-begun g c made are =
     let N = g.N.Naming in
     let read = g.D.Reader.FileReader.bytes in
     let t = c.args.task.now in
-    let now = (stock_at c.args.engine.now.state.catalogue t.table).lineage in
+    let now = (meta_at c.args.engine.now.state.catalogue t.table).lineage in
     let written = λ (w : Rows). written_at N.script (N.start w) (N.origin w) c.args.engine.now.shown.history t.table in
     further_begun read now N.sound written t.ranges.items c.open_more.new.ranges.items c.open_more.ensures.more g.M.Made.bytes g.M.Made.id_of (columns_of (recast_table t)) (recast_in t) made.ranges.items are
 
@@ -108,7 +108,7 @@ returns-in-Ok-clause-kept g c =
     let N = g.N.Naming in
     let read = g.D.Reader.FileReader.bytes in
     let t = c.args.task.now in
-    let now = (stock_at c.args.engine.now.state.catalogue t.table).lineage in
+    let now = (meta_at c.args.engine.now.state.catalogue t.table).lineage in
     let is = subst (λ (x : Standing). MayRest x.state t) c.engine.view_is (c.may_rest.ensures.0 c.if-not-may_rest.false) in
     let same = become_same (recast_table t) now (is.epoch ∙ c.requires.task.epoch) c.requires.grown in
     let written = λ (w : Rows). written_at N.script (N.start w) (N.origin w) c.args.engine.now.shown.history t.table in
@@ -119,7 +119,7 @@ returns-in-Ok-clause-ranges g c w sound has =
     let N = g.N.Naming in
     let read = g.D.Reader.FileReader.bytes in
     let t = c.args.task.now in
-    let now = (stock_at c.args.engine.now.state.catalogue t.table).lineage in
+    let now = (meta_at c.args.engine.now.state.catalogue t.table).lineage in
     let is = subst (λ (x : Standing). MayRest x.state t) c.engine.view_is (c.may_rest.ensures.0 c.if-not-may_rest.false) in
     let same = become_same (recast_table t) now (is.epoch ∙ c.requires.task.epoch) c.requires.grown in
     let written = λ (w : Rows). written_at N.script (N.start w) (N.origin w) c.args.engine.now.shown.history t.table in
@@ -130,7 +130,7 @@ returns-in-Ok-clause-bounded g c w sound are =
     let N = g.N.Naming in
     let read = g.D.Reader.FileReader.bytes in
     let t = c.args.task.now in
-    let now = (stock_at c.args.engine.now.state.catalogue t.table).lineage in
+    let now = (meta_at c.args.engine.now.state.catalogue t.table).lineage in
     let is = subst (λ (x : Standing). MayRest x.state t) c.engine.view_is (c.may_rest.ensures.0 c.if-not-may_rest.false) in
     let same = become_same (recast_table t) now (is.epoch ∙ c.requires.task.epoch) c.requires.grown in
     let written = λ (w : Rows). written_at N.script (N.start w) (N.origin w) c.args.engine.now.shown.history t.table in
@@ -152,7 +152,7 @@ returns-in-Err-Fault-clause-longer g c =
     let N = g.N.Naming in
     let read = g.D.Reader.FileReader.bytes in
     let t = c.args.task.now in
-    let now = (stock_at c.args.engine.now.state.catalogue t.table).lineage in
+    let now = (meta_at c.args.engine.now.state.catalogue t.table).lineage in
     let written = λ (w : Rows). written_at N.script (N.start w) (N.origin w) c.args.engine.now.shown.history t.table in
     record {
       table = refl;
@@ -170,7 +170,7 @@ returns-in-Err-Fault-clause-begun g c made are =
     let N = g.N.Naming in
     let read = g.D.Reader.FileReader.bytes in
     let t = c.args.task.now in
-    let now = (stock_at c.args.engine.now.state.catalogue t.table).lineage in
+    let now = (meta_at c.args.engine.now.state.catalogue t.table).lineage in
     let written = λ (w : Rows). written_at N.script (N.start w) (N.origin w) c.args.engine.now.shown.history t.table in
     further_begun read now N.sound written t.ranges.items c.open_more.new.ranges.items c.open_more.ensures.more g.M.Made.bytes g.M.Made.id_of (columns_of (recast_table t)) (recast_in t) made.ranges.items are
 
@@ -179,7 +179,7 @@ returns-in-Err-Fault-clause-kept g c =
     let N = g.N.Naming in
     let read = g.D.Reader.FileReader.bytes in
     let t = c.args.task.now in
-    let now = (stock_at c.args.engine.now.state.catalogue t.table).lineage in
+    let now = (meta_at c.args.engine.now.state.catalogue t.table).lineage in
     let is = subst (λ (x : Standing). MayRest x.state t) c.engine.view_is (c.may_rest.ensures.0 c.if-not-may_rest.false) in
     let same = become_same (recast_table t) now (is.epoch ∙ c.requires.task.epoch) c.requires.grown in
     let written = λ (w : Rows). written_at N.script (N.start w) (N.origin w) c.args.engine.now.shown.history t.table in
@@ -190,7 +190,7 @@ returns-in-Err-Fault-clause-ranges g c w sound has =
     let N = g.N.Naming in
     let read = g.D.Reader.FileReader.bytes in
     let t = c.args.task.now in
-    let now = (stock_at c.args.engine.now.state.catalogue t.table).lineage in
+    let now = (meta_at c.args.engine.now.state.catalogue t.table).lineage in
     let is = subst (λ (x : Standing). MayRest x.state t) c.engine.view_is (c.may_rest.ensures.0 c.if-not-may_rest.false) in
     let same = become_same (recast_table t) now (is.epoch ∙ c.requires.task.epoch) c.requires.grown in
     let written = λ (w : Rows). written_at N.script (N.start w) (N.origin w) c.args.engine.now.shown.history t.table in
@@ -201,7 +201,7 @@ returns-in-Err-Fault-clause-bounded g c w sound are =
     let N = g.N.Naming in
     let read = g.D.Reader.FileReader.bytes in
     let t = c.args.task.now in
-    let now = (stock_at c.args.engine.now.state.catalogue t.table).lineage in
+    let now = (meta_at c.args.engine.now.state.catalogue t.table).lineage in
     let is = subst (λ (x : Standing). MayRest x.state t) c.engine.view_is (c.may_rest.ensures.0 c.if-not-may_rest.false) in
     let same = become_same (recast_table t) now (is.epoch ∙ c.requires.task.epoch) c.requires.grown in
     let written = λ (w : Rows). written_at N.script (N.start w) (N.origin w) c.args.engine.now.shown.history t.table in
@@ -226,7 +226,7 @@ returns-in-Err-Memory-clause-longer g c =
     let N = g.N.Naming in
     let read = g.D.Reader.FileReader.bytes in
     let t = c.args.task.now in
-    let now = (stock_at c.args.engine.now.state.catalogue t.table).lineage in
+    let now = (meta_at c.args.engine.now.state.catalogue t.table).lineage in
     let written = λ (w : Rows). written_at N.script (N.start w) (N.origin w) c.args.engine.now.shown.history t.table in
     record {
       table = refl;
@@ -244,7 +244,7 @@ returns-in-Err-Memory-clause-begun g c made are =
     let N = g.N.Naming in
     let read = g.D.Reader.FileReader.bytes in
     let t = c.args.task.now in
-    let now = (stock_at c.args.engine.now.state.catalogue t.table).lineage in
+    let now = (meta_at c.args.engine.now.state.catalogue t.table).lineage in
     let written = λ (w : Rows). written_at N.script (N.start w) (N.origin w) c.args.engine.now.shown.history t.table in
     further_begun read now N.sound written t.ranges.items c.open_more.new.ranges.items c.open_more.ensures.more g.M.Made.bytes g.M.Made.id_of (columns_of (recast_table t)) (recast_in t) made.ranges.items are
 
@@ -253,7 +253,7 @@ returns-in-Err-Memory-clause-kept g c =
     let N = g.N.Naming in
     let read = g.D.Reader.FileReader.bytes in
     let t = c.args.task.now in
-    let now = (stock_at c.args.engine.now.state.catalogue t.table).lineage in
+    let now = (meta_at c.args.engine.now.state.catalogue t.table).lineage in
     let is = subst (λ (x : Standing). MayRest x.state t) c.engine.view_is (c.may_rest.ensures.0 c.if-not-may_rest.false) in
     let same = become_same (recast_table t) now (is.epoch ∙ c.requires.task.epoch) c.requires.grown in
     let written = λ (w : Rows). written_at N.script (N.start w) (N.origin w) c.args.engine.now.shown.history t.table in
@@ -264,7 +264,7 @@ returns-in-Err-Memory-clause-ranges g c w sound has =
     let N = g.N.Naming in
     let read = g.D.Reader.FileReader.bytes in
     let t = c.args.task.now in
-    let now = (stock_at c.args.engine.now.state.catalogue t.table).lineage in
+    let now = (meta_at c.args.engine.now.state.catalogue t.table).lineage in
     let is = subst (λ (x : Standing). MayRest x.state t) c.engine.view_is (c.may_rest.ensures.0 c.if-not-may_rest.false) in
     let same = become_same (recast_table t) now (is.epoch ∙ c.requires.task.epoch) c.requires.grown in
     let written = λ (w : Rows). written_at N.script (N.start w) (N.origin w) c.args.engine.now.shown.history t.table in
@@ -275,7 +275,7 @@ returns-in-Err-Memory-clause-bounded g c w sound are =
     let N = g.N.Naming in
     let read = g.D.Reader.FileReader.bytes in
     let t = c.args.task.now in
-    let now = (stock_at c.args.engine.now.state.catalogue t.table).lineage in
+    let now = (meta_at c.args.engine.now.state.catalogue t.table).lineage in
     let is = subst (λ (x : Standing). MayRest x.state t) c.engine.view_is (c.may_rest.ensures.0 c.if-not-may_rest.false) in
     let same = become_same (recast_table t) now (is.epoch ∙ c.requires.task.epoch) c.requires.grown in
     let written = λ (w : Rows). written_at N.script (N.start w) (N.origin w) c.args.engine.now.shown.history t.table in

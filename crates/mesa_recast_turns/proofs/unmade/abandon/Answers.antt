@@ -26,9 +26,9 @@ use Rattle.mesa_work_turns.proofs.mesa_invariant_spec.Clock.{begun_moment, not_c
 use Rattle.mesa_work_turns.proofs.mesa_invariant_spec.Faulting.{disk_where}
 use Rattle.mesa_engine.specs.Engine.{Standing, IsEngine, starts_of}
 use Rattle.mesa_engine.proofs.Drafting.{answers_where}
-use Rattle.mesa_tasks.specs.Recasts.{claim_of_recast, recast_inputs}
-use Rattle.mesa_tasks.specs.GivingBack.{SomeFailed}
-use Rattle.mesa_tasks.specs.declared.merging.CompactError.TheVariants as compact
+use Rattle.mesa_open_files.specs.Recasts.{claim_of_recast, recast_inputs}
+use Rattle.mesa_open_files.specs.GivingBack.{SomeFailed}
+use Rattle.mesa_open_files.specs.declared.merging.CompactError.TheVariants as compact
 use Rattle.mesa_delta.specs.declared.error.FileError.TheVariants as file_error
 use Rattle.mesa_work_turns.specs.Unmerged.{cause_of, closing_cause, closing_state}
 use Rattle.mesa_work_turns.proofs.Closings.{given_up_engine, given_up_takes, only_draft}

@@ -1,7 +1,7 @@
 use Rattle.std.proofs.Common.{◌≡◌, ◌∙◌, ap, subst, sym, true, arith}
 use Rattle.mesa_record.specs.declared.record.Record.TheVariants as record_of
 use Rattle.mesa_record.specs.Rules.{keeps_rules}
-use Rattle.mesa_image_spec.specs.Checkpoint.{checkpoint_of}
+use Rattle.mesa_store_spec.specs.Checkpoint.{checkpoint_of}
 use Rattle.mesa_recover.proofs.Restating.{checkpoint_ruled}
 use Rattle.mesa_recover.proofs.anew.state_anew.Goals as goal
 

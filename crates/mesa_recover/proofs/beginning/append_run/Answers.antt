@@ -1,7 +1,7 @@
 use Rattle.std.proofs.Common.{◌≡◌, ◌∙◌, Ok, true, ap, subst, sym}
 use Rattle.std.proofs.lemmas.Result.{err_from_is_err_and}
-use Rattle.mesa_image_spec.specs.Catalog.{applied}
-use Rattle.mesa_image_spec.specs.Fitting.{fits}
+use Rattle.mesa_store_spec.specs.Catalog.{applied}
+use Rattle.mesa_store_spec.specs.Fitting.{fits}
 use Rattle.mesa_recover.specs.Opening.{IsHeldAs}
 use Rattle.mesa_recover.specs.Strays.{AreStrays}
 use Rattle.mesa_recover.proofs.Beginnings.{begins_run, counts_err, found_unmoved, images_after}

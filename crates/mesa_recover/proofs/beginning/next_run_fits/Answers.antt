@@ -1,5 +1,5 @@
 use Rattle.std.proofs.Common.{◌≡◌, ◌+◌, ◌-◌, ◌<◌, ◌^◌, true, sym, subst}
-use Rattle.mesa_image_spec.specs.Fitting.{fits}
+use Rattle.mesa_store_spec.specs.Fitting.{fits}
 use Rattle.mesa_recover.specs.Opening.{run_record}
 use Rattle.mesa_recover.proofs.Beginnings.{fits_run}
 use Rattle.mesa_recover.proofs.beginning.next_run_fits.Goals as goal

@@ -2,8 +2,8 @@ use Rattle.std.proofs.Common.{ℕ, ◌++◌, ◌∷◌, [], ap, subst, sym}
 use Rattle.mesa_disk.specs.Story.{Steps}
 use Rattle.mesa_disk.specs.declared.area.Area.{Area}
 use Rattle.mesa_catalog.specs.mesa_commit.Turn.{MovesOnly}
-use Rattle.mesa_image_spec.specs.Catalog.{applied}
-use Rattle.mesa_image_spec.specs.Held.{IsHeld}
+use Rattle.mesa_store_spec.specs.Catalog.{applied}
+use Rattle.mesa_store_spec.specs.Held.{IsHeld}
 use Rattle.mesa_disk.specs.Files.{files_of}
 use Rattle.mesa_store.specs.Store.{area_after, bodies_after}
 use Rattle.mesa_recover.specs.Opening.{run_record}

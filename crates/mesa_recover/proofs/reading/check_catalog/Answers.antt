@@ -2,9 +2,9 @@ use Rattle.std.proofs.Common.{sym, subst}
 use Rattle.std.proofs.lemmas.Result.{IfErr-weaker}
 use Rattle.std.specs.List.{AllByRecursion}
 use Rattle.mesa_recover.specs.Damages.{IsAsRecorded}
-use Rattle.mesa_table.specs.Files.{AreRecorded}
+use Rattle.mesa_catalog_table.specs.Files.{AreRecorded}
 use Rattle.mesa_recover.proofs.Reasons.{all_recorded}
-use Rattle.mesa_table.proofs.Pushes.{on_ok}
+use Rattle.mesa_catalog_table.proofs.Pushes.{on_ok}
 use Rattle.mesa_recover.proofs.reading.check_catalog.Goals as goal
 
 pub returns-clause-good : goal.returns-clause-good

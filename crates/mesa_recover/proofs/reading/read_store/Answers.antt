@@ -3,7 +3,7 @@ use Rattle.std.proofs.lemmas.Result.{err_from_is_err_and}
 use Rattle.mesa_journal.specs.Areas.{number_of}
 use Rattle.mesa_journal.specs.Read.{bodies_of, placed_from}
 use Rattle.mesa_journal.specs.declared.reading.Body.{Body}
-use Rattle.mesa_image_spec.specs.Journaled.{catalog}
+use Rattle.mesa_store_spec.specs.Journaled.{catalog}
 use Rattle.mesa_recover.specs.Misfits.{IsMisfitIn}
 use Rattle.mesa_recover.proofs.Reasons.{misfit_reason}
 use Rattle.mesa_recover.proofs.reading.read_store.Goals as goal

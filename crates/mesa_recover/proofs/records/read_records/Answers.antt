@@ -2,7 +2,7 @@ use Rattle.std.proofs.Common.{◌∙◌, ◌+◌, List, suc, take, sym, ap}
 use Rattle.std.proofs.lemmas.Result.{err_from_is_err_and}
 use Rattle.mesa_journal.specs.Read.{bodies_of}
 use Rattle.mesa_journal.specs.declared.reading.Body.{Body}
-use Rattle.mesa_image_spec.specs.Journaled.{catalog}
+use Rattle.mesa_store_spec.specs.Journaled.{catalog}
 use Rattle.mesa_recover.proofs.Bodies.{bodies_more, first_refused, later_refused, one_body}
 use Rattle.mesa_recover.proofs.records.read_records.Goals as goal
 

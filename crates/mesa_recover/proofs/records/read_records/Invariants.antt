@@ -1,6 +1,6 @@
 use Rattle.std.proofs.Common.{◌≡◌, suc, take, Some, None}
 use Rattle.mesa_journal.specs.Read.{bodies_of}
-use Rattle.mesa_image_spec.specs.Journaled.{catalog}
+use Rattle.mesa_store_spec.specs.Journaled.{catalog}
 use Rattle.mesa_recover.proofs.records.read_records.Given as goal
 
 -- the first body and those so far make the catalogue

@@ -1,5 +1,5 @@
 use Rattle.std.proofs.Common.{◌≡◌, map, take}
-use Rattle.mesa_table.specs.Files.{recorded_id}
+use Rattle.mesa_catalog_table.specs.Files.{recorded_id}
 use Rattle.mesa_recover.proofs.strays.numbers_of.Given as goal
 
 abbrev pub invariant-loop-file : goal.invariant-loop-file

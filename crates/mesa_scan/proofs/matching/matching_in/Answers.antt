@@ -7,7 +7,7 @@ use Rattle.mesa_schema.specs.Columns.{chosen}
 use Rattle.mesa_schema.specs.Lent.{lent}
 use Rattle.mesa_schema.proofs.Lists.{all_append, all_so}
 use Rattle.mesa_filter.specs.Filter.{meets}
-use Rattle.mesa_scan.specs.Matching.{matching_rows}
+use Rattle.mesa_scan.specs.MatchingRows.{matching_rows}
 use Rattle.mesa_scan.proofs.Chosen.{match_more, match_not}
 use Rattle.mesa_scan.proofs.matching.matching_in.Goals as goal
 use Rattle.mesa_scan.proofs.matching.matching_in.Goals.{else-matches, then-matches+in_ok-push}

@@ -1,7 +1,7 @@
 use Rattle.std.proofs.Common.{◌≡◌, ◌<◌, take}
 use Rattle.std.specs.List.{AllByRecursion}
 use Rattle.mesa_schema.specs.Columns.{chosen}
-use Rattle.mesa_scan.specs.Matching.{matching_rows}
+use Rattle.mesa_scan.specs.MatchingRows.{matching_rows}
 use Rattle.mesa_scan.proofs.matching.matching_in.Given as goal
 
 -- the places so far are those of the matching rows among the first

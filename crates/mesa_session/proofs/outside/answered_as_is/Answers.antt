@@ -4,7 +4,7 @@ use Rattle.std.specs.List.{AllByRecursion}
 use Rattle.mesa_key.specs.Spelling.{is_spelling}
 use Rattle.mesa_core.specs.mesa_schema.declared.rows.Row.{Row}
 use Rattle.mesa_filter.specs.Query.{BuiltQuery, group_kinds}
-use Rattle.mesa_tasks.specs.declared.querying.Pinned.{Pinned}
+use Rattle.mesa_open_files.specs.declared.querying.Pinned.{Pinned}
 use Rattle.mesa_session.proofs.Pinned.{fault_closes, known_stays, page_closes}
 use Rattle.mesa_session.proofs.Spelling.{page_spells}
 use Rattle.mesa_session.proofs.outside.answered_as_is.Goals as goal

@@ -5,7 +5,7 @@ use Rattle.mesa_key.specs.Spelling.{is_spelling}
 use Rattle.mesa_core.specs.mesa_schema.declared.rows.Row.{Row}
 use Rattle.mesa_filter.specs.Query.{BuiltQuery, group_kinds}
 use Rattle.mesa_script.specs.Rows.{rendered}
-use Rattle.mesa_tasks.specs.declared.querying.Pinned.{Pinned}
+use Rattle.mesa_open_files.specs.declared.querying.Pinned.{Pinned}
 use Rattle.mesa_core.specs.Pins.{heading_in}
 use Rattle.mesa_session.proofs.Pinned.{answer_along, fault_closes, known_along, known_stays, page_closes}
 use Rattle.mesa_session.proofs.Spelling.{page_spells}

@@ -1,6 +1,6 @@
 use Rattle.std.proofs.Common.{◌≡◌, ◌∙◌, Result, Ok, Err}
 use Rattle.mesa_compact.specs.Writing.{damaged_by}
-use Rattle.mesa_tasks.specs.declared.merging.CompactError.{CompactError}
+use Rattle.mesa_open_files.specs.declared.merging.CompactError.{CompactError}
 use Rattle.mesa_session.proofs.Damaged.{recast_differs}
 use Rattle.mesa_session.proofs.Merged.{merged_owes}
 use Rattle.mesa_session.proofs.Regrouped.{none_met, recast_known, stays_so, unmade_closes}

@@ -1,7 +1,7 @@
 use Rattle.std.proofs.Common.{sym, subst}
 use Rattle.std.specs.Prelude.{IfOk}
 use Rattle.mesa_batch.specs.Glance.{Sight}
-use Rattle.mesa_tasks.specs.Batches.{HasPrepared}
+use Rattle.mesa_open_files.specs.Batches.{HasPrepared}
 use Rattle.mesa_session.proofs.Prepared.{prepared_is, prepared_owes}
 use Rattle.mesa_session.proofs.preparing.prepared_by.Goals as goal
 

@@ -9,10 +9,10 @@ use Rattle.mesa_model.specs.declared.entries.Kind.TheVariants as kind
 use Rattle.mesa_core.specs.mesa_history_spec.Rows.{no_rows}
 use Rattle.mesa_core.proofs.Answering.{step_drafts}
 use Rattle.mesa_core.proofs.Turning.{Step, step_took}
-use Rattle.mesa_tasks.specs.declared.merging.CompactError.{CompactError}
-use Rattle.mesa_tasks.specs.declared.merging.CompactError.TheVariants as compact
+use Rattle.mesa_open_files.specs.declared.merging.CompactError.{CompactError}
+use Rattle.mesa_open_files.specs.declared.merging.CompactError.TheVariants as compact
 use Rattle.mesa_core.specs.Drafts.{owed_by_error}
-use Rattle.mesa_tasks.specs.Recasts.{claim_of_recast}
+use Rattle.mesa_open_files.specs.Recasts.{claim_of_recast}
 use Rattle.mesa_session.proofs.Prepared.{owed_error}
 use Rattle.mesa_session.proofs.Found.{granted_found}
 use Rattle.mesa_session.proofs.Stepping.{Enters, asks, finds_numbers, goes_on, one, room_for, step}

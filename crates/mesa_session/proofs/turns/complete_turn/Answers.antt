@@ -10,9 +10,9 @@ use Rattle.mesa_core.specs.mesa_history_spec.Rows.{no_rows}
 use Rattle.mesa_core.specs.mesa_invariant_spec.Works.{closing_stage}
 use Rattle.mesa_core.proofs.Answering.{step_drafts}
 use Rattle.mesa_core.proofs.Turning.{Step, step_took}
-use Rattle.mesa_tasks.specs.declared.merging.CompactError.TheVariants as compact
+use Rattle.mesa_open_files.specs.declared.merging.CompactError.TheVariants as compact
 use Rattle.mesa_core.specs.Drafts.{owed_by_work}
-use Rattle.mesa_tasks.specs.Tasks.{claim_in}
+use Rattle.mesa_open_files.specs.Tasks.{claim_in}
 use Rattle.mesa_session.proofs.Prepared.{owed_merged}
 use Rattle.mesa_session.proofs.Found.{granted_found}
 use Rattle.mesa_session.proofs.Stepping.{Enters, asks, finds_numbers, goes_on, one, room_for, step}

@@ -9,7 +9,7 @@ use Rattle.mesa_core.specs.mesa_history_spec.Rows.{no_rows}
 use Rattle.mesa_core.proofs.Answering.{none_granting, step_none}
 use Rattle.mesa_core.proofs.Turning.{Step, step_took, step_seen}
 use Rattle.mesa_core.specs.mesa_invariant_spec.Works.{stage_if}
-use Rattle.mesa_tasks.specs.Recasts.{claim_of_recast}
+use Rattle.mesa_open_files.specs.Recasts.{claim_of_recast}
 use Rattle.mesa_core.specs.Recasts.{known_recast}
 use Rattle.mesa_session.proofs.Found.{granted_then}
 use Rattle.mesa_session.proofs.Stepping.{Enters, asks, goes_on, one, room_for, step}

@@ -9,7 +9,7 @@ use Rattle.mesa_core.specs.mesa_history_spec.Rows.{no_rows}
 use Rattle.mesa_core.specs.mesa_invariant_spec.Turns.{is_load}
 use Rattle.mesa_core.proofs.Answering.{answers_within, step_drafts}
 use Rattle.mesa_core.proofs.Turning.{Step, step_took}
-use Rattle.mesa_tasks.specs.declared.prepared.LoadError.TheVariants as load
+use Rattle.mesa_open_files.specs.declared.prepared.LoadError.TheVariants as load
 use Rattle.mesa_core.specs.Drafts.{owed_by_load}
 use Rattle.mesa_core.specs.Sight.{sight_after}
 use Rattle.mesa_session.proofs.Prepared.{owed_made}

@@ -10,7 +10,7 @@ use Rattle.mesa_core.proofs.Answering.{none_renewing, step_none}
 use Rattle.mesa_core.proofs.Turning.{Step, step_took}
 use Rattle.mesa_core.specs.mesa_invariant_spec.Works.{stage_if}
 use Rattle.mesa_core.specs.Works.{known_task}
-use Rattle.mesa_tasks.specs.Tasks.{claim_in}
+use Rattle.mesa_open_files.specs.Tasks.{claim_in}
 use Rattle.mesa_session.proofs.Found.{granted_found, granted_later}
 use Rattle.mesa_session.proofs.Stepping.{Enters, asks, finds_numbers, goes_on, one, room_for, step}
 use Rattle.mesa_session.proofs.turns.renew_turn.Goals as goal

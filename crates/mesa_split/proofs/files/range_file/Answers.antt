@@ -1,7 +1,7 @@
 use Rattle.std.proofs.Common.{◌≡◌, ◌<◌, [], refl, sym, ap, subst, ◌∙◌}
 use Rattle.mesa_schema.specs.Columns.{Columns}
 use Rattle.mesa_delta.specs.Writing.{columns_of}
-use Rattle.mesa_tasks.specs.Made.{IsMadeFile}
+use Rattle.mesa_open_files.specs.Made.{IsMadeFile}
 use Rattle.mesa_split.specs.Lending.{own_in}
 use Rattle.mesa_split.proofs.Ranges.{range_failed, range_made, range_none, range_unbegun, range_unended}
 use Rattle.mesa_split.proofs.files.range_file.Goals as goal

@@ -1,5 +1,5 @@
 use Rattle.std.proofs.Common.{◌≡◌, ◌+◌, ◌++◌, ◌≤◌, [], ◌∷◌, List, drop, map, take, refl, sym, ap, subst, ◌∙◌, arith, add-one}
-use Rattle.mesa_tasks.specs.declared.merging.Spare.{Spare}
+use Rattle.mesa_open_files.specs.declared.merging.Spare.{Spare}
 use Rattle.mesa_compact.proofs.Putting.{map_set}
 use Rattle.mesa_compact.proofs.Viewing.{drop_some}
 use Rattle.mesa_split.specs.Lending.{lists_in, lists_of, returned}

@@ -1,5 +1,5 @@
 use Rattle.std.proofs.Common.{◌≡◌, ◌+◌, ◌++◌, [], ◌∷◌, List, length, set, refl, sym, ap, subst, ◌∙◌, arith, length-append}
-use Rattle.mesa_tasks.specs.declared.merging.Spare.{Spare}
+use Rattle.mesa_open_files.specs.declared.merging.Spare.{Spare}
 use Rattle.mesa_split.specs.Lending.{AreLent, lists_in, lists_of}
 use Rattle.mesa_split.specs.declared.parts.Part.{Part}
 use Rattle.mesa_compact.proofs.Putting.{map_set}

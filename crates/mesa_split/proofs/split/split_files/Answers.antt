@@ -9,12 +9,12 @@ use Rattle.mesa_answer.specs.Answering.{KeepsSums}
 use Rattle.mesa_compact.specs.mesa_scan.Cursors.{IsInput}
 use Rattle.mesa_merge.specs.Inputs.{knowns_of}
 use Rattle.mesa_merge.proofs.Handing.{refill}
-use Rattle.mesa_tasks.specs.GivingBack.{own_inputs}
-use Rattle.mesa_tasks.specs.Serials.{Drafts, after_drafts, drawn}
-use Rattle.mesa_tasks.specs.Spares.{AreSpareInputs}
-use Rattle.mesa_tasks.specs.Tasks.{AreMergedViews, AreTaskViews}
-use Rattle.mesa_tasks.specs.declared.merging.Spare.{Spare}
-use Rattle.mesa_tasks.specs.declared.merging.TaskView.{TaskView}
+use Rattle.mesa_open_files.specs.GivingBack.{own_inputs}
+use Rattle.mesa_open_files.specs.Serials.{Drafts, after_drafts, drawn}
+use Rattle.mesa_open_files.specs.Spares.{AreSpareInputs}
+use Rattle.mesa_open_files.specs.Tasks.{AreMergedViews, AreTaskViews}
+use Rattle.mesa_open_files.specs.declared.merging.Spare.{Spare}
+use Rattle.mesa_open_files.specs.declared.merging.TaskView.{TaskView}
 use Rattle.mesa_compact.specs.Bounded.{AreViewsBounded}
 use Rattle.mesa_compact.specs.Damaged.{IsNewestOf}
 use Rattle.mesa_compact.specs.Grouping.{HavePut, TakesRows}

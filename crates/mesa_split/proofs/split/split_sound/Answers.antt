@@ -2,7 +2,7 @@ use Rattle.std.proofs.Common.{◌≡◌, ◌<◌, length, refl, sym, ap, subst, 
 use Rattle.std.specs.Prelude.{◌==◌}
 use Rattle.mesa_schema.specs.Changes.{Lineage}
 use Rattle.mesa_delta.specs.declared.input.Input.{Input}
-use Rattle.mesa_tasks.specs.Tasks.{IsTask}
+use Rattle.mesa_open_files.specs.Tasks.{IsTask}
 use Rattle.mesa_compact.proofs.Tasking.{first_table, some_of}
 use Rattle.mesa_split.proofs.Splits.{none_of, split_empty, split_memory}
 use Rattle.mesa_split.proofs.split.split_sound.Goals as goal

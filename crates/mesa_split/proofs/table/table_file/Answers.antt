@@ -8,7 +8,7 @@ use Rattle.mesa_delta.specs.declared.error.FileError.TheVariants.{Memory, Read}
 use Rattle.mesa_answer.specs.declared.groups.Groups.{Groups}
 use Rattle.mesa_compact.specs.mesa_scan.Cursors.{IsInput}
 use Rattle.mesa_merge.proofs.Handing.{refill}
-use Rattle.mesa_tasks.specs.declared.merging.CompactError.TheVariants.{File}
+use Rattle.mesa_open_files.specs.declared.merging.CompactError.TheVariants.{File}
 use Rattle.mesa_compact.specs.Grouping.{TakesRows}
 use Rattle.mesa_compact.specs.Writing.{damaged_by}
 use Rattle.mesa_compact.proofs.Causing.{caused_memory}

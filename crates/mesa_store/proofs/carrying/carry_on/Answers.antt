@@ -1,8 +1,8 @@
 use Rattle.std.proofs.Common.{ℕ, List, Option, sym, subst}
 use Rattle.mesa_journal.specs.Areas.{other_of}
-use Rattle.mesa_image_spec.specs.Contents.{kept_of}
-use Rattle.mesa_image_spec.specs.Sound.{StandsFor}
-use Rattle.mesa_image_spec.specs.Held.{IsHeld}
+use Rattle.mesa_store_spec.specs.Contents.{kept_of}
+use Rattle.mesa_store_spec.specs.Sound.{StandsFor}
+use Rattle.mesa_store_spec.specs.Held.{IsHeld}
 use Rattle.mesa_store.specs.Store.{area_after, bodies_after, end_after}
 use Rattle.mesa_store.proofs.Gates.{carried, files_stay, files_stay_twice, holds_still, restates}
 use Rattle.mesa_store.proofs.carrying.carry_on.Goals as goal

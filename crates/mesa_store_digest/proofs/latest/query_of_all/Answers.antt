@@ -1,9 +1,9 @@
 use Rattle.std.proofs.Common.{◌≡◌, ap, subst, Ok}
-use Rattle.mesa_plans.specs.mesa_schema.Columns.{Columns}
+use Rattle.mesa_pick_files.specs.mesa_schema.Columns.{Columns}
 use Rattle.mesa_filter.specs.Asked.{asked_of}
 use Rattle.mesa_filter.specs.Query.{IsQueryOf}
 use Rattle.mesa_filter.specs.declared.words.QueryWords.{QueryWords}
-use Rattle.mesa_rules.specs.Found.{columns_at}
+use Rattle.mesa_validate.specs.Found.{columns_at}
 use Rattle.mesa_store_digest.proofs.AllAsked.{AskForAll, asks_all, none_refuses}
 use Rattle.mesa_store_digest.proofs.latest.query_of_all.Goals as goal
 

@@ -7,9 +7,9 @@ use Rattle.mesa_store_digest.proofs.looking.digests_of.Goals as goal
 use Rattle.mesa_query.proofs.mesa_merge.Causing.{cause_other, cause_quiet}
 use Rattle.mesa_query.proofs.Differing.{query_differs}
 use Rattle.mesa_query.specs.Whole.{all_wanted}
-use Rattle.mesa_rules.specs.Found.{columns_at}
-use Rattle.mesa_plans.specs.mesa_schema.Columns.{Columns}
-use Rattle.mesa_plans.specs.mesa_schema.Rows.{AreRowsOf}
+use Rattle.mesa_validate.specs.Found.{columns_at}
+use Rattle.mesa_pick_files.specs.mesa_schema.Columns.{Columns}
+use Rattle.mesa_pick_files.specs.mesa_schema.Rows.{AreRowsOf}
 
 pub digests-requires : goal.digests-requires
 digests-requires g c =

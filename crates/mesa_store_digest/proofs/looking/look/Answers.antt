@@ -3,24 +3,24 @@ use Rattle.std.specs.Prelude.{IfErr, IfOk, IfSome, is_some}
 use Rattle.std.proofs.lemmas.Result.{err_from_is_err_and}
 use Rattle.mesa_delta.specs.declared.error.FileError.TheVariants as file_error
 use Rattle.mesa_recover.specs.mesa_io.Causes.{Rose}
-use Rattle.mesa_tasks.specs.mesa_file.declared.damage.Damage.{Damage}
-use Rattle.mesa_image_spec.specs.Catalog.{stock_at}
+use Rattle.mesa_open_files.specs.mesa_file.declared.damage.Damage.{Damage}
+use Rattle.mesa_store_spec.specs.Catalog.{meta_at}
 use Rattle.mesa_store_digest.proofs.Content.{err_is, given_quiet, given_rose, looked_is}
 use Rattle.mesa_store_digest.proofs.Newest.{columns_named, file_reason, none_named}
 use Rattle.mesa_store_digest.proofs.looking.look.Goals as goal
 use Rattle.mesa_store_digest.specs.Latest.{CanBeLookedAt, HasLookReason, IsLatest, all_asked}
 use Rattle.mesa_store_digest.specs.Errors.{look_failure}
 use Rattle.mesa_store_digest.specs.Looked.{AreDigests}
-use Rattle.mesa_plans.specs.mesa_merge.Faults.{HaveFaultCause, faults_of}
-use Rattle.mesa_plans.specs.mesa_model.Relations.{relation_columns}
-use Rattle.mesa_plans.specs.Told.{TellContent}
+use Rattle.mesa_pick_files.specs.mesa_merge.Faults.{HaveFaultCause, faults_of}
+use Rattle.mesa_pick_files.specs.mesa_model.Relations.{relation_columns}
+use Rattle.mesa_pick_files.specs.Told.{TellContent}
 use Rattle.mesa_recover.specs.declared.opened.Opened.{Opened}
-use Rattle.mesa_rules.specs.Found.{columns_at}
-use Rattle.mesa_plans.specs.mesa_schema.Columns.{Columns}
-use Rattle.mesa_plans.specs.mesa_schema.declared.rows.Row.{Row}
-use Rattle.mesa_tasks.specs.Errors.{Differs}
-use Rattle.mesa_tasks.specs.GivingBack.{pinned_inputs}
-use Rattle.mesa_tasks.specs.Pins.{IsPinned}
+use Rattle.mesa_validate.specs.Found.{columns_at}
+use Rattle.mesa_pick_files.specs.mesa_schema.Columns.{Columns}
+use Rattle.mesa_pick_files.specs.mesa_schema.declared.rows.Row.{Row}
+use Rattle.mesa_open_files.specs.Errors.{Differs}
+use Rattle.mesa_open_files.specs.GivingBack.{pinned_inputs}
+use Rattle.mesa_open_files.specs.Pins.{IsPinned}
 
 pub returns-in_default-clause-reason : goal.returns-in_default-clause-reason
 returns-in_default-clause-reason g c = none_named c.args.opened.now.catalog.catalogue c.args.name.now (sym c.in_default.ensures.found)
@@ -44,7 +44,7 @@ digests_of-looked-requires-clause-table g c κs within =
 
 pub digests_of-looked-requires-clause-view : goal.digests_of-looked-requires-clause-view
 digests_of-looked-requires-clause-view g c κs within =
-    subst (λ (o : Opened _). IfSome c.in-Some.place.view (λ view. view < length (stock_at o.catalog.catalogue c.in-Some.place.table).lineage.views)) (sym c.in_ok-pinned.ensures.same) c.in-Some.ensures.view
+    subst (λ (o : Opened _). IfSome c.in-Some.place.view (λ view. view < length (meta_at o.catalog.catalogue c.in-Some.place.table).lineage.views)) (sym c.in_ok-pinned.ensures.same) c.in-Some.ensures.view
 
 pub digests_of-looked-requires-clause-pinned : goal.digests_of-looked-requires-clause-pinned
 digests_of-looked-requires-clause-pinned g c κs within =

@@ -1,8 +1,8 @@
 use Rattle.std.proofs.Common.{◌∙◌, sym, ap}
 use Rattle.mesa_span.specs.Ranges.{base_before}
 use Rattle.mesa_span.specs.Work.{next_work}
-use Rattle.mesa_engine.specs.mesa_image_spec.Catalog.{Catalog, ranges_of, stock_at}
-use Rattle.mesa_rules.specs.Seen.{number_of}
+use Rattle.mesa_engine.specs.mesa_store_spec.Catalog.{Catalog, ranges_of, meta_at}
+use Rattle.mesa_validate.specs.Seen.{number_of}
 use Rattle.mesa_work_turns.proofs.Claims.{busy, claimed, idle, missing}
 use Rattle.mesa_work_turns.proofs.claiming.claim.Goals as goal
 
@@ -21,8 +21,8 @@ returns-in-Some-next_work-clause-claimed c =
     let same = c.catalog-catalog.ensures in
     let table = c.in-Some-table_number.table in
     let there = sym (ap (λ k. number_of k c.args.name.now) same) ∙ sym c.table_number.ensures.found ∙ c.in-Some-table_number.is in
-    let ranges = c.in-Ok.ensures.ranges ∙ ap (λ k. ranges_of (stock_at k table)) same in
-    let oldest = c.oldest.ensures ∙ ap (λ k. (stock_at k table).oldest) same in
+    let ranges = c.in-Ok.ensures.ranges ∙ ap (λ k. ranges_of (meta_at k table)) same in
+    let oldest = c.oldest.ensures ∙ ap (λ k. (meta_at k table).oldest) same in
     let newest = c.newest.ensures ∙ ap (λ (k : Catalog). base_before k.next) same in
     let work = sym (c.next_work.ensures ∙ (λ i. next_work (ranges i) (oldest i) (newest i))) ∙ c.in-Some-next_work.is in
     claimed c.args.metadata.now.state c.args.position c.args.name.now (sym c.closed.ensures ∙ c.in_default.is) table there c.in-Some-next_work.work (sym c.holder.ensures ∙ c.in_default-holder.is) work
@@ -32,8 +32,8 @@ returns-clause-refused c =
     let same = c.catalog-catalog.ensures in
     let table = c.in-Some-table_number.table in
     let there = sym (ap (λ k. number_of k c.args.name.now) same) ∙ sym c.table_number.ensures.found ∙ c.in-Some-table_number.is in
-    let ranges = c.in-Ok.ensures.ranges ∙ ap (λ k. ranges_of (stock_at k table)) same in
-    let oldest = c.oldest.ensures ∙ ap (λ k. (stock_at k table).oldest) same in
+    let ranges = c.in-Ok.ensures.ranges ∙ ap (λ k. ranges_of (meta_at k table)) same in
+    let oldest = c.oldest.ensures ∙ ap (λ k. (meta_at k table).oldest) same in
     let newest = c.newest.ensures ∙ ap (λ (k : Catalog). base_before k.next) same in
     let none = sym (c.next_work.ensures ∙ (λ i. next_work (ranges i) (oldest i) (newest i))) ∙ c.in-None.is in
     idle c.args.metadata.now.state c.args.position c.args.name.now (sym c.closed.ensures ∙ c.in_default.is) table there (sym c.holder.ensures ∙ c.in_default-holder.is) none
@@ -42,7 +42,7 @@ pub returns-in-Some-next_work-clause-next : goal.returns-in-Some-next_work-claus
 returns-in-Some-next_work-clause-next c =
     let same = c.catalog-catalog.ensures in
     let table = c.in-Some-table_number.table in
-    let ranges = c.in-Ok.ensures.ranges ∙ ap (λ k. ranges_of (stock_at k table)) same in
-    let oldest = c.oldest.ensures ∙ ap (λ k. (stock_at k table).oldest) same in
+    let ranges = c.in-Ok.ensures.ranges ∙ ap (λ k. ranges_of (meta_at k table)) same in
+    let oldest = c.oldest.ensures ∙ ap (λ k. (meta_at k table).oldest) same in
     let newest = c.newest.ensures ∙ ap (λ (k : Catalog). base_before k.next) same in
     sym (c.next_work.ensures ∙ (λ i. next_work (ranges i) (oldest i) (newest i))) ∙ c.in-Some-next_work.is

@@ -4,7 +4,7 @@ use Rattle.mesa_engine.specs.EngineState.{books_of}
 use Rattle.mesa_write_turns.specs.mesa_history_spec.Claims.{is_live}
 use Rattle.mesa_model.specs.declared.replies.Refusal.{Refusal}
 use Rattle.mesa_write_turns.specs.mesa_history_spec.Rows.{no_rows}
-use Rattle.mesa_tasks.specs.Tasks.{claim_in}
+use Rattle.mesa_open_files.specs.Tasks.{claim_in}
 use Rattle.mesa_work_turns.specs.Claims.{lease_checked}
 use Rattle.mesa_work_turns.specs.Swept.{ClaimHolds}
 use Rattle.mesa_work_turns.proofs.ClosingClaims.{checked_live}

@@ -6,7 +6,7 @@ use Rattle.mesa_write_turns.specs.mesa_history_spec.Rows.{no_rows}
 use Rattle.mesa_write_turns.specs.mesa_invariant_spec.Turns.{AnswersDisk, AnswersDraft, Shown, SomeRose, Takes}
 use Rattle.mesa_write_turns.proofs.mesa_invariant_spec.Alike.{due_alike}
 use Rattle.mesa_write_turns.proofs.mesa_invariant_spec.Faulting.{disk_also, rose_still}
-use Rattle.mesa_tasks.specs.Tasks.{claim_in}
+use Rattle.mesa_open_files.specs.Tasks.{claim_in}
 use Rattle.mesa_work_turns.specs.Swept.{HasStood, IsSwept}
 use Rattle.mesa_work_turns.proofs.Sweeping.{skipped_stood}
 use Rattle.mesa_work_turns.proofs.completing.complete.Goals as goal

@@ -18,7 +18,7 @@ use Rattle.mesa_write_turns.proofs.mesa_invariant_spec.Alike.{due_alike}
 use Rattle.mesa_write_turns.proofs.mesa_invariant_spec.Faulting.{disk_never}
 use Rattle.mesa_engine.specs.Engine.{Standing, IsEngine, starts_of}
 use Rattle.mesa_engine.proofs.Drafting.{answers_none}
-use Rattle.mesa_tasks.specs.Tasks.{claim_in}
+use Rattle.mesa_open_files.specs.Tasks.{claim_in}
 use Rattle.mesa_work_turns.specs.Merged.{HasNotSwapped, cause_met, unswapped_state}
 use Rattle.mesa_work_turns.proofs.Refusing.{closed_takes, no_draft, no_fault, unswapped_engine}
 use Rattle.mesa_work_turns.proofs.completing.refuse.Goals as goal

@@ -5,8 +5,8 @@ use Rattle.mesa_write_turns.specs.mesa_history_spec.Machine.{claim_checked, swap
 use Rattle.mesa_write_turns.specs.mesa_history_spec.Refused.{is_refusal}
 use Rattle.mesa_write_turns.specs.mesa_history_spec.Run.{Finished, Renewed}
 use Rattle.mesa_write_turns.specs.mesa_history_spec.Turns.{IsDue}
-use Rattle.mesa_engine.specs.mesa_image_spec.Catalog.{applied, stock_at}
-use Rattle.mesa_engine.specs.mesa_image_spec.Ids.{dropped_ids}
+use Rattle.mesa_engine.specs.mesa_store_spec.Catalog.{applied, meta_at}
+use Rattle.mesa_engine.specs.mesa_store_spec.Ids.{dropped_ids}
 use Rattle.mesa_engine.specs.mesa_catalog.Lookups.{generation_of, turns_generation}
 use Rattle.mesa_lease.specs.Book.{ended}
 use Rattle.mesa_model.specs.Entry.{IsShort}
@@ -17,8 +17,8 @@ use Rattle.mesa_write_turns.specs.mesa_history_spec.Replay.{no_rows as no_lines}
 use Rattle.mesa_record.proofs.RecordsBoth.{record_found}
 use Rattle.mesa_write_turns.specs.mesa_script.Rows.{body_of}
 use Rattle.mesa_write_turns.specs.mesa_history_spec.Rows.{Rows, no_rows}
-use Rattle.mesa_write_turns.specs.mesa_publishing.Finished.{HasRange, IsFinished}
-use Rattle.mesa_write_turns.specs.mesa_publishing.Swapped.{IsSwapped}
+use Rattle.mesa_write_turns.specs.mesa_file_records.Finished.{HasRange, IsFinished}
+use Rattle.mesa_write_turns.specs.mesa_file_records.Swapped.{IsSwapped}
 use Rattle.mesa_write_turns.specs.mesa_invariant_spec.Causes.{Replies, Unwritten, told_at}
 use Rattle.mesa_write_turns.specs.mesa_invariant_spec.Turns.{AnswersDisk, AnswersDraft, Shown, SomeRose, Takes, entry, faults_of}
 use Rattle.mesa_write_turns.specs.mesa_invariant_spec.Invariant.{Counts, run_at}
@@ -35,7 +35,7 @@ use Rattle.mesa_engine.specs.Printing.{PrintsBlock}
 use Rattle.mesa_engine.specs.Memory.{Memory}
 use Rattle.mesa_engine.specs.Engine.{IsEngine, Standing, starts_of}
 use Rattle.mesa_engine.proofs.Drafting.{answers_none}
-use Rattle.mesa_tasks.specs.Tasks.{claim_in}
+use Rattle.mesa_open_files.specs.Tasks.{claim_in}
 use Rattle.mesa_engine.specs.mesa_commit.Holding.{kept}
 use Rattle.mesa_write_turns.proofs.Loads.{all_tell}
 use Rattle.mesa_write_turns.proofs.Written.{IsWhole, IsWorked}
@@ -116,8 +116,8 @@ write_record-requires-clause-new g c κs within =
     let s = c.in-Ok.ready.swapped in
     let holds : claim_checked (books_of no_rows l).bare (books_of no_rows l).machine (length h) (claim_in t) ≡ Ok tt =
     subst (λ (x : Standing). claim_checked (books_of no_rows x.state).bare (books_of no_rows x.state).machine (length x.shown.history) (claim_in t) ≡ Ok tt) (sym c.engine.view_is) c.requires.holds in
-    let finished : IsFinished bytes g.M.Made.id_of read was (stock_at l.catalogue t.table).lineage t c.args.delta =
-    subst (λ (x : Standing). IsFinished bytes g.M.Made.id_of read was (stock_at x.state.catalogue t.table).lineage t c.args.delta) (sym c.engine.view_is) c.requires.finished.1 in
+    let finished : IsFinished bytes g.M.Made.id_of read was (meta_at l.catalogue t.table).lineage t c.args.delta =
+    subst (λ (x : Standing). IsFinished bytes g.M.Made.id_of read was (meta_at x.state.catalogue t.table).lineage t c.args.delta) (sym c.engine.view_is) c.requires.finished.1 in
     let is : IsSwapped bytes read l was t s = c.in-Ok.ensures.swapped was finished in
     let v = c.engine.invariant.vault no_rows false (λ is. absurd cc) in
     let most = v.counts.adopted in
@@ -143,8 +143,8 @@ write_record-requires-clause-room g c κs within =
     let s = c.in-Ok.ready.swapped in
     let holds : claim_checked (books_of no_rows l).bare (books_of no_rows l).machine (length h) (claim_in t) ≡ Ok tt =
     subst (λ (x : Standing). claim_checked (books_of no_rows x.state).bare (books_of no_rows x.state).machine (length x.shown.history) (claim_in t) ≡ Ok tt) (sym c.engine.view_is) c.requires.holds in
-    let finished : IsFinished bytes g.M.Made.id_of read was (stock_at l.catalogue t.table).lineage t c.args.delta =
-    subst (λ (x : Standing). IsFinished bytes g.M.Made.id_of read was (stock_at x.state.catalogue t.table).lineage t c.args.delta) (sym c.engine.view_is) c.requires.finished.1 in
+    let finished : IsFinished bytes g.M.Made.id_of read was (meta_at l.catalogue t.table).lineage t c.args.delta =
+    subst (λ (x : Standing). IsFinished bytes g.M.Made.id_of read was (meta_at x.state.catalogue t.table).lineage t c.args.delta) (sym c.engine.view_is) c.requires.finished.1 in
     let is : IsSwapped bytes read l was t s = c.in-Ok.ensures.swapped was finished in
     let end_is : c.end-end.result ≡ l.end = c.end-end.ensures ∙ ap (λ (m : Memory). m.state.end) c.in-Ok.ensures.reserved in
     let area_is : c.area-area.result ≡ l.area = c.area-area.ensures ∙ ap (λ (m : Memory). m.state.area) c.in-Ok.ensures.reserved in
@@ -166,8 +166,8 @@ apply_swap-requires-clause-few g c =
     let s = c.in-Ok.ready.swapped in
     let holds : claim_checked (books_of no_rows l).bare (books_of no_rows l).machine (length h) (claim_in t) ≡ Ok tt =
     subst (λ (x : Standing). claim_checked (books_of no_rows x.state).bare (books_of no_rows x.state).machine (length x.shown.history) (claim_in t) ≡ Ok tt) (sym c.engine.view_is) c.requires.holds in
-    let finished : IsFinished bytes g.M.Made.id_of read was (stock_at l.catalogue t.table).lineage t c.args.delta =
-    subst (λ (x : Standing). IsFinished bytes g.M.Made.id_of read was (stock_at x.state.catalogue t.table).lineage t c.args.delta) (sym c.engine.view_is) c.requires.finished.1 in
+    let finished : IsFinished bytes g.M.Made.id_of read was (meta_at l.catalogue t.table).lineage t c.args.delta =
+    subst (λ (x : Standing). IsFinished bytes g.M.Made.id_of read was (meta_at x.state.catalogue t.table).lineage t c.args.delta) (sym c.engine.view_is) c.requires.finished.1 in
     let is : IsSwapped bytes read l was t s = c.in-Ok.ensures.swapped was finished in
     let v = c.engine.invariant.vault no_rows false (λ is. absurd cc) in
     let most = v.counts.adopted in
@@ -193,8 +193,8 @@ fail-requires g c =
     let s = c.in-Ok.ready.swapped in
     let holds : claim_checked (books_of no_rows l).bare (books_of no_rows l).machine (length h) (claim_in t) ≡ Ok tt =
     subst (λ (x : Standing). claim_checked (books_of no_rows x.state).bare (books_of no_rows x.state).machine (length x.shown.history) (claim_in t) ≡ Ok tt) (sym c.engine.view_is) c.requires.holds in
-    let finished : IsFinished bytes g.M.Made.id_of read was (stock_at l.catalogue t.table).lineage t c.args.delta =
-    subst (λ (x : Standing). IsFinished bytes g.M.Made.id_of read was (stock_at x.state.catalogue t.table).lineage t c.args.delta) (sym c.engine.view_is) c.requires.finished.1 in
+    let finished : IsFinished bytes g.M.Made.id_of read was (meta_at l.catalogue t.table).lineage t c.args.delta =
+    subst (λ (x : Standing). IsFinished bytes g.M.Made.id_of read was (meta_at x.state.catalogue t.table).lineage t c.args.delta) (sym c.engine.view_is) c.requires.finished.1 in
     let is : IsSwapped bytes read l was t s = c.in-Ok.ensures.swapped was finished in
     let v = c.engine.invariant.vault no_rows false (λ is. absurd cc) in
     let most = v.counts.adopted in
@@ -244,8 +244,8 @@ kept_done g c =
     let s = c.in-Ok.ready.swapped in
     let holds : claim_checked (books_of no_rows l).bare (books_of no_rows l).machine (length h) (claim_in t) ≡ Ok tt =
     subst (λ (x : Standing). claim_checked (books_of no_rows x.state).bare (books_of no_rows x.state).machine (length x.shown.history) (claim_in t) ≡ Ok tt) (sym c.engine.view_is) c.requires.holds in
-    let finished : IsFinished bytes g.M.Made.id_of read was (stock_at l.catalogue t.table).lineage t c.args.delta =
-    subst (λ (x : Standing). IsFinished bytes g.M.Made.id_of read was (stock_at x.state.catalogue t.table).lineage t c.args.delta) (sym c.engine.view_is) c.requires.finished.1 in
+    let finished : IsFinished bytes g.M.Made.id_of read was (meta_at l.catalogue t.table).lineage t c.args.delta =
+    subst (λ (x : Standing). IsFinished bytes g.M.Made.id_of read was (meta_at x.state.catalogue t.table).lineage t c.args.delta) (sym c.engine.view_is) c.requires.finished.1 in
     let is : IsSwapped bytes read l was t s = c.in-Ok.ensures.swapped was finished in
     let words = c.requires.due.0 in
     let session = c.args.who.session in
@@ -376,8 +376,8 @@ kept_failed g c =
     let s = c.in-Ok.ready.swapped in
     let holds : claim_checked (books_of no_rows l).bare (books_of no_rows l).machine (length h) (claim_in t) ≡ Ok tt =
     subst (λ (x : Standing). claim_checked (books_of no_rows x.state).bare (books_of no_rows x.state).machine (length x.shown.history) (claim_in t) ≡ Ok tt) (sym c.engine.view_is) c.requires.holds in
-    let finished : IsFinished bytes g.M.Made.id_of read was (stock_at l.catalogue t.table).lineage t c.args.delta =
-    subst (λ (x : Standing). IsFinished bytes g.M.Made.id_of read was (stock_at x.state.catalogue t.table).lineage t c.args.delta) (sym c.engine.view_is) c.requires.finished.1 in
+    let finished : IsFinished bytes g.M.Made.id_of read was (meta_at l.catalogue t.table).lineage t c.args.delta =
+    subst (λ (x : Standing). IsFinished bytes g.M.Made.id_of read was (meta_at x.state.catalogue t.table).lineage t c.args.delta) (sym c.engine.view_is) c.requires.finished.1 in
     let is : IsSwapped bytes read l was t s = c.in-Ok.ensures.swapped was finished in
     let words = c.requires.due.0 in
     let session = c.args.who.session in
@@ -447,8 +447,8 @@ returns g c =
     let s = c.in-Ok.ready.swapped in
     let holds : claim_checked (books_of no_rows l).bare (books_of no_rows l).machine (length h) (claim_in t) ≡ Ok tt =
     subst (λ (x : Standing). claim_checked (books_of no_rows x.state).bare (books_of no_rows x.state).machine (length x.shown.history) (claim_in t) ≡ Ok tt) (sym c.engine.view_is) c.requires.holds in
-    let finished : IsFinished bytes g.M.Made.id_of read was (stock_at l.catalogue t.table).lineage t c.args.delta =
-    subst (λ (x : Standing). IsFinished bytes g.M.Made.id_of read was (stock_at x.state.catalogue t.table).lineage t c.args.delta) (sym c.engine.view_is) c.requires.finished.1 in
+    let finished : IsFinished bytes g.M.Made.id_of read was (meta_at l.catalogue t.table).lineage t c.args.delta =
+    subst (λ (x : Standing). IsFinished bytes g.M.Made.id_of read was (meta_at x.state.catalogue t.table).lineage t c.args.delta) (sym c.engine.view_is) c.requires.finished.1 in
     let is : IsSwapped bytes read l was t s = c.in-Ok.ensures.swapped was finished in
     let words = c.requires.due.0 in
     let session = c.args.who.session in

@@ -6,26 +6,26 @@ use Rattle.mesa_span.specs.Work.{next_work}
 use Rattle.mesa_write_turns.specs.mesa_history_spec.Machine.{Claim, Merges, claim_of}
 use Rattle.mesa_write_turns.specs.mesa_history_spec.Run.{First, Granted, Finished}
 use Rattle.mesa_write_turns.specs.mesa_history_spec.Turns.{IsDue}
-use Rattle.mesa_engine.specs.mesa_image_spec.Catalog.{Catalog, Delta, Stock, ranges_of, stock_at}
-use Rattle.mesa_engine.specs.mesa_image_spec.Fitting.{deltas_of, may_be_work}
+use Rattle.mesa_engine.specs.mesa_store_spec.Catalog.{Catalog, Delta, TableMeta, ranges_of, meta_at}
+use Rattle.mesa_engine.specs.mesa_store_spec.Fitting.{deltas_of, may_be_work}
 use Rattle.mesa_model.specs.Entry.{IsShort}
 use Rattle.mesa_model.specs.declared.commands.Command.TheVariants as command
 use Rattle.mesa_model.specs.declared.entries.Kind.TheVariants as kind
 use Rattle.mesa_model.specs.declared.entries.Outcome.TheVariants as outcome
 use Rattle.mesa_engine.specs.EngineState.{EngineState, books_of}
-use Rattle.mesa_engine.proofs.mesa_image_spec.Plans.{due_work_fits}
-use Rattle.mesa_engine.specs.mesa_image_spec.Moves.{first_of, is_base, last_of}
+use Rattle.mesa_engine.proofs.mesa_store_spec.Plans.{due_work_fits}
+use Rattle.mesa_engine.specs.mesa_store_spec.Moves.{first_of, is_base, last_of}
 use Rattle.mesa_engine.specs.Vault.{IsVault, Starts, outset_of}
 use Rattle.mesa_copy.specs.mesa_compact.Bounded.{IsBounded}
 use Rattle.mesa_engine.specs.Failure.{cause_in}
-use Rattle.mesa_plans.specs.Gathered.{IsGathered, unread_views}
+use Rattle.mesa_pick_files.specs.Gathered.{IsGathered, unread_views}
 use Rattle.mesa_lease.specs.Book.{granted}
 use Rattle.mesa_engine.specs.Memory.{with_leases}
-use Rattle.mesa_plans.specs.mesa_table.Meaning.{stock_of}
+use Rattle.mesa_pick_files.specs.mesa_catalog_table.Meaning.{meta_of}
 use Rattle.mesa_write_turns.specs.mesa_history_spec.Rows.{Rows, no_rows}
-use Rattle.mesa_write_turns.specs.mesa_publishing.Finished.{HasRange}
-use Rattle.mesa_tasks.specs.Tasks.{IsTask}
-use Rattle.mesa_tasks.specs.declared.merging.Task.{Task}
+use Rattle.mesa_write_turns.specs.mesa_file_records.Finished.{HasRange}
+use Rattle.mesa_open_files.specs.Tasks.{IsTask}
+use Rattle.mesa_open_files.specs.declared.merging.Task.{Task}
 use Rattle.mesa_write_turns.specs.mesa_invariant_spec.Turns.{AnswersDisk, Shown, SomeRose, Takes, entry, faults_of}
 use Rattle.mesa_write_turns.specs.mesa_invariant_spec.Invariant.{run_at}
 use Rattle.mesa_write_turns.proofs.mesa_invariant_spec.Alike.{due_alike}
@@ -46,8 +46,8 @@ gather-gathered-requires-after_bounds g c κs within =
     let table = c.args.claimed.table in
     let there : table < length i.metadata.state.catalogue.tables = subst (λ (x : Standing). table < length x.state.catalogue.tables) (sym c.engine.view_is) c.requires.there in
     let shaped = shaped_at i.metadata.state.catalogue (c.engine.invariant.vault no_rows false (λ is. absurd cc)).shaped table there in
-    let stock = c.table-table.ensures.stock ∙ ap (λ (k : Catalog). stock_at k table) c.catalog.ensures in
-    (_, c.table-table.ensures.few, c.table-table.ensures.held, subst (λ (u : Stock). AllByRecursion (λ (d : Delta). d.epoch ≤ epoch_of u.lineage) (deltas_of u)) (sym stock) shaped.epochs)
+    let meta = c.table-table.ensures.meta ∙ ap (λ (k : Catalog). meta_at k table) c.catalog.ensures in
+    (_, c.table-table.ensures.few, c.table-table.ensures.held, subst (λ (u : TableMeta). AllByRecursion (λ (d : Delta). d.epoch ≤ epoch_of u.lineage) (deltas_of u)) (sym meta) shaped.epochs)
 
 -- ---- it is granted
 
@@ -120,19 +120,19 @@ table_there g c =
     subst (λ k. k < length l.catalogue.tables) (sym c.in-Ok.ensures.table) (subst (λ (x : Standing). c.args.claimed.table < length x.state.catalogue.tables) (sym c.engine.view_is) c.requires.there)
 
 -- its table is the catalogue's
-stock_is : (g : _) (c : goal.After-pass g) → stock_of c.catalog.result.now.catalogue.next c.table-table.result.now ≡ stock_at c.engine.inside.metadata.state.catalogue c.in-Ok.task.table
-stock_is g c = c.table-table.ensures.stock ∙ ap (λ (k : Catalog). stock_at k c.args.claimed.table) c.catalog.ensures ∙ ap (stock_at c.engine.inside.metadata.state.catalogue) (sym c.in-Ok.ensures.table)
+meta_is : (g : _) (c : goal.After-pass g) → meta_of c.catalog.result.now.catalogue.next c.table-table.result.now ≡ meta_at c.engine.inside.metadata.state.catalogue c.in-Ok.task.table
+meta_is g c = c.table-table.ensures.meta ∙ ap (λ (k : Catalog). meta_at k c.args.claimed.table) c.catalog.ensures ∙ ap (meta_at c.engine.inside.metadata.state.catalogue) (sym c.in-Ok.ensures.table)
 
 -- its work is one that is due
 work_due : (g : _) (c : goal.After-pass g)
-    → may_be_work c.engine.inside.metadata.state.catalogue (stock_at c.engine.inside.metadata.state.catalogue c.in-Ok.task.table) (is_base c.in-Ok.task.work) (first_of c.in-Ok.task.work) (last_of c.in-Ok.task.work) ≡ true
+    → may_be_work c.engine.inside.metadata.state.catalogue (meta_at c.engine.inside.metadata.state.catalogue c.in-Ok.task.table) (is_base c.in-Ok.task.work) (first_of c.in-Ok.task.work) (last_of c.in-Ok.task.work) ≡ true
 work_due g c =
     let l = c.engine.inside.metadata.state in
     let t = c.in-Ok.task in
-    let next : next_work (ranges_of (stock_at l.catalogue c.args.claimed.table)) (stock_at l.catalogue c.args.claimed.table).oldest (base_before l.catalogue.next) ≡ Some c.args.claimed.work =
-    subst (λ (x : Standing). next_work (ranges_of (stock_at x.state.catalogue c.args.claimed.table)) (stock_at x.state.catalogue c.args.claimed.table).oldest (base_before x.state.catalogue.next) ≡ Some c.args.claimed.work) (sym c.engine.view_is) c.requires.next in
-    due_work_fits l.catalogue (stock_at l.catalogue t.table) (stock_at l.catalogue t.table).oldest l.catalogue.next t.work
-    (ap (λ k. next_work (ranges_of (stock_at l.catalogue k)) (stock_at l.catalogue k).oldest (base_before l.catalogue.next)) c.in-Ok.ensures.table ∙ next ∙ ap Some (sym c.in-Ok.ensures.work)) (omega arith) (omega arith)
+    let next : next_work (ranges_of (meta_at l.catalogue c.args.claimed.table)) (meta_at l.catalogue c.args.claimed.table).oldest (base_before l.catalogue.next) ≡ Some c.args.claimed.work =
+    subst (λ (x : Standing). next_work (ranges_of (meta_at x.state.catalogue c.args.claimed.table)) (meta_at x.state.catalogue c.args.claimed.table).oldest (base_before x.state.catalogue.next) ≡ Some c.args.claimed.work) (sym c.engine.view_is) c.requires.next in
+    due_work_fits l.catalogue (meta_at l.catalogue t.table) (meta_at l.catalogue t.table).oldest l.catalogue.next t.work
+    (ap (λ k. next_work (ranges_of (meta_at l.catalogue k)) (meta_at l.catalogue k).oldest (base_before l.catalogue.next)) c.in-Ok.ensures.table ∙ next ∙ ap Some (sym c.in-Ok.ensures.work)) (omega arith) (omega arith)
 
 pub returns-in-Ok-clause-there : goal.returns-in-Ok-clause-there
 returns-in-Ok-clause-there g c =
@@ -149,28 +149,28 @@ returns-in-Ok-clause-next g c =
     let is = (c.engine.invariant.vault no_rows false (λ z. absurd cc)).shaped in
     subst (λ k. last_of t.work < k)
     (sym (next_there (outset_of (starts g c) no_rows) (g.N.Naming.origin no_rows) false (leased g c) (g.D.Disk.story c.gather-gathered.new.disk) (g.K.Sink.held later.printer.sink) later.history.items (not later.printer.broken) later.refused (vault_behind g c no_rows false (λ z. absurd cc))))
-    (work_ends l.catalogue (stock_at l.catalogue t.table) t.work (shaped_at l.catalogue is t.table (table_there g c)) (work_due g c))
+    (work_ends l.catalogue (meta_at l.catalogue t.table) t.work (shaped_at l.catalogue is t.table (table_there g c)) (work_due g c))
 
 -- the task as it is handed out
 abbrev task_of : (g : _) → goal.After-pass g → Task g.row.D-Reader.Denot
 task_of g c = record c.in-Ok.task { lease = c.lease.result }
 
-is_task : (g : _) (c : goal.After-pass g) → IsTask g.D.Reader.FileReader.bytes (stock_at c.engine.inside.metadata.state.catalogue c.in-Ok.task.table).lineage (task_of g c)
+is_task : (g : _) (c : goal.After-pass g) → IsTask g.D.Reader.FileReader.bytes (meta_at c.engine.inside.metadata.state.catalogue c.in-Ok.task.table).lineage (task_of g c)
 is_task g c =
-    let task = subst (λ (x : Lineage). IsTask g.D.Reader.FileReader.bytes x c.in-Ok.task) (ap (λ (u : Stock). u.lineage) (stock_is g c)) c.in-Ok.ensures.task in
+    let task = subst (λ (x : Lineage). IsTask g.D.Reader.FileReader.bytes x c.in-Ok.task) (ap (λ (u : TableMeta). u.lineage) (meta_is g c)) c.in-Ok.ensures.task in
     record { epoch = task.epoch; inputs = task.inputs; views = task.views }
 
 -- its files, as the disk behind the turn tells them
 gathered : (g : _) (c : goal.After-pass g)
-    → IsGathered g.D.Reader.FileReader.bytes g.D.Reader.FileReader.faults (g.D.Disk.story c.gather-gathered.new.disk).told (stock_at c.engine.inside.metadata.state.catalogue c.in-Ok.task.table) c.in-Ok.task.work (task_of g c)
+    → IsGathered g.D.Reader.FileReader.bytes g.D.Reader.FileReader.faults (g.D.Disk.story c.gather-gathered.new.disk).told (meta_at c.engine.inside.metadata.state.catalogue c.in-Ok.task.table) c.in-Ok.task.work (task_of g c)
 gathered g c =
     let bytes = g.D.Reader.FileReader.bytes in
     let faults = g.D.Reader.FileReader.faults in
     let told = (g.D.Disk.story c.engine.inside.disk).told in
-    let u = stock_at c.engine.inside.metadata.state.catalogue c.in-Ok.task.table in
+    let u = meta_at c.engine.inside.metadata.state.catalogue c.in-Ok.task.table in
     let t = c.in-Ok.task in
     let files = c.in-Ok.ensures.files _ c.table-table.ensures.held in
-    let of_table = subst (λ (x : Stock). IsGathered bytes faults told x c.args.claimed.work t) (stock_is g c) files in
+    let of_table = subst (λ (x : TableMeta). IsGathered bytes faults told x c.args.claimed.work t) (meta_is g c) files in
     let of_work = subst (λ k. IsGathered bytes faults told u k t) (sym c.in-Ok.ensures.work) of_table in
     let read = subst (λ i. IsGathered bytes faults i u t.work t) (sym c.gather-gathered.ensures.unmoved.told) of_work in
     record { wanted = read.wanted; are = read.are; opened = read.opened }
@@ -188,7 +188,7 @@ pub returns-in-Ok-clause-bounded : goal.returns-in-Ok-clause-bounded
 returns-in-Ok-clause-bounded g c w sound =
     let later = c.pass.new.self in
     let t = task_of g c in
-    subst (λ (x : Standing). IsBounded g.D.Reader.FileReader.bytes (stock_at x.state.catalogue t.table).lineage t) c.engine.view_is
+    subst (λ (x : Standing). IsBounded g.D.Reader.FileReader.bytes (meta_at x.state.catalogue t.table).lineage t) c.engine.view_is
     (is_bounded (outset_of (starts g c) w) (g.N.Naming.origin w) (leased g c) (g.D.Disk.story c.gather-gathered.new.disk) (g.K.Sink.held later.printer.sink) later.history.items (not later.printer.broken) later.refused (vault_behind g c w true (λ ok. sound)) (was_open g c)
     g.D.Reader.FileReader.bytes g.D.Reader.FileReader.faults t (table_there g c) _ c.in-Ok.ensures.views (gathered g c) (returns-in-Ok-clause-whole g c w sound))
 
@@ -198,15 +198,15 @@ returns-in-Ok-clause-range g c w sound =
     let later = c.pass.new.self in
     let bytes = g.D.Reader.FileReader.bytes in
     let t = task_of g c in
-    subst (λ (x : Standing). HasRange bytes (stock_at x.state.catalogue t.table).lineage t (written_at N.script (N.start w) (N.origin w) later.history.items t.table)) c.engine.view_is
+    subst (λ (x : Standing). HasRange bytes (meta_at x.state.catalogue t.table).lineage t (written_at N.script (N.start w) (N.origin w) later.history.items t.table)) c.engine.view_is
     (has_range (outset_of (starts g c) w) (N.origin w) (leased g c) (g.D.Disk.story c.gather-gathered.new.disk) (g.K.Sink.held later.printer.sink) later.history.items (not later.printer.broken) later.refused (vault_behind g c w true (λ ok. sound)) (was_open g c)
     bytes g.D.Reader.FileReader.faults t (table_there g c) (work_due g c) (is_task g c) _ c.in-Ok.ensures.views (gathered g c))
 
 pub returns-in-Ok-clause-views : goal.returns-in-Ok-clause-views
 returns-in-Ok-clause-views g c =
     c.in-Ok.ensures.views
-    ∙ ap (λ (u : Stock). unread_views 0 (length u.lineage.views)) (stock_is g c)
-    ∙ ap (λ (x : Standing). unread_views 0 (length (stock_at x.state.catalogue c.in-Ok.task.table).lineage.views)) c.engine.view_is
+    ∙ ap (λ (u : TableMeta). unread_views 0 (length u.lineage.views)) (meta_is g c)
+    ∙ ap (λ (x : Standing). unread_views 0 (length (meta_at x.state.catalogue c.in-Ok.task.table).lineage.views)) c.engine.view_is
 
 pub returns-in-Ok-clause-spare : goal.returns-in-Ok-clause-spare
 returns-in-Ok-clause-spare g c = leased_spares g.D.Reader.FileReader.bytes (c.args.parts - 1) c.in-Ok.task c.lease.result c.in-Ok.ensures.spare

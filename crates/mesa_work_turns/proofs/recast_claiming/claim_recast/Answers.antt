@@ -1,10 +1,10 @@
 use Rattle.std.proofs.Common.{◌≡◌, ◌∙◌, ◌+◌, ◌-◌, sym, ap, subst, Ok}
 use Rattle.mesa_binding.specs.Told.{IsDue}
 use Rattle.mesa_binding.specs.declared.recasting.RecastNames.{RecastNames}
-use Rattle.mesa_engine.specs.mesa_image_spec.Catalog.{Catalog, start_in, stock_at}
+use Rattle.mesa_engine.specs.mesa_store_spec.Catalog.{Catalog, start_in, meta_at}
 use Rattle.mesa_model.specs.Tables.{recast_asked}
-use Rattle.mesa_rules.specs.Recastings.{recast_due}
-use Rattle.mesa_rules.specs.Seen.{number_of}
+use Rattle.mesa_validate.specs.Recastings.{recast_due}
+use Rattle.mesa_validate.specs.Seen.{number_of}
 use Rattle.mesa_write_turns.specs.mesa_schema.Changes.{epoch_of}
 use Rattle.mesa_write_turns.specs.mesa_schema.Recasts.{Recast, recast_checked}
 use Rattle.mesa_engine.specs.EngineState.{books_of}
@@ -30,7 +30,7 @@ returns-in-Some-holder-clause-refused c =
     let same = c.catalog-catalog.ensures in
     let table = c.in-Ok.asked.table in
     let there = ap (λ k. number_of k c.args.words.now.table) (sym same) ∙ c.in-Ok.ensures.table in
-    let rule = subst (λ (k : Catalog). recast_checked (stock_at k table).lineage (recast_asked c.args.words.now) ≡ Ok tt) same c.in-Ok.ensures.checked in
+    let rule = subst (λ (k : Catalog). recast_checked (meta_at k table).lineage (recast_asked c.args.words.now) ≡ Ok tt) same c.in-Ok.ensures.checked in
     busy c.args.metadata.now.state c.args.position c.args.words.now (sym c.closed.ensures ∙ c.in_default.is) table there rule c.in-Some-holder.lease (sym c.holder.ensures ∙ c.in-Some-holder.is)
 
 -- ---- the rules allow it, and no lease holds
@@ -38,9 +38,9 @@ returns-in-Some-holder-clause-refused c =
 pub returns-clause-checked : goal.returns-clause-checked
 returns-clause-checked c =
     let asked = c.in-Ok.asked in
-    let rule = subst (λ (k : Catalog). recast_checked (stock_at k asked.table).lineage (recast_asked c.args.words.now) ≡ Ok tt) c.catalog-catalog.ensures c.in-Ok.ensures.checked in
+    let rule = subst (λ (k : Catalog). recast_checked (meta_at k asked.table).lineage (recast_asked c.args.words.now) ≡ Ok tt) c.catalog-catalog.ensures c.in-Ok.ensures.checked in
     let names : recast_asked c.args.words.now ≡ record { keys = asked.names.keys; values = asked.names.values } = ap (λ (n : RecastNames). record { keys = n.keys; values = n.values }) (sym c.in-Ok.ensures.names) in
-    subst (λ (r : Recast). recast_checked (stock_at c.args.metadata.now.state.catalogue asked.table).lineage r ≡ Ok tt) names rule
+    subst (λ (r : Recast). recast_checked (meta_at c.args.metadata.now.state.catalogue asked.table).lineage r ≡ Ok tt) names rule
 
 pub returns-then-singletons-clause-refused : goal.returns-then-singletons-clause-refused
 returns-then-singletons-clause-refused c =
@@ -48,9 +48,9 @@ returns-then-singletons-clause-refused c =
     let same = c.catalog-catalog.ensures in
     let table = c.in-Ok.asked.table in
     let there = ap (λ k. number_of k c.args.words.now.table) (sym same) ∙ c.in-Ok.ensures.table in
-    let rule = subst (λ (k : Catalog). recast_checked (stock_at k table).lineage (recast_asked c.args.words.now) ≡ Ok tt) same c.in-Ok.ensures.checked in
-    let count = c.singletons.ensures ∙ ap (λ (k : Catalog). k.next - start_in (stock_at k table)) same in
-    crowded l c.args.position c.args.words.now (sym c.closed.ensures ∙ c.in_default.is) table there rule (sym c.holder.ensures ∙ c.in_default-holder.is) (over c.singletons.result (l.catalogue.next - start_in (stock_at l.catalogue table)) count c.if-singletons.true)
+    let rule = subst (λ (k : Catalog). recast_checked (meta_at k table).lineage (recast_asked c.args.words.now) ≡ Ok tt) same c.in-Ok.ensures.checked in
+    let count = c.singletons.ensures ∙ ap (λ (k : Catalog). k.next - start_in (meta_at k table)) same in
+    crowded l c.args.position c.args.words.now (sym c.closed.ensures ∙ c.in_default.is) table there rule (sym c.holder.ensures ∙ c.in_default-holder.is) (over c.singletons.result (l.catalogue.next - start_in (meta_at l.catalogue table)) count c.if-singletons.true)
 
 pub returns-clause-claimed : goal.returns-clause-claimed
 returns-clause-claimed c =
@@ -59,8 +59,8 @@ returns-clause-claimed c =
     let asked = c.in-Ok.asked in
     let table = asked.table in
     let there = ap (λ k. number_of k c.args.words.now.table) (sym same) ∙ c.in-Ok.ensures.table in
-    let rule = subst (λ (k : Catalog). recast_checked (stock_at k table).lineage (recast_asked c.args.words.now) ≡ Ok tt) same c.in-Ok.ensures.checked in
-    let count = c.singletons.ensures ∙ ap (λ (k : Catalog). k.next - start_in (stock_at k table)) same in
+    let rule = subst (λ (k : Catalog). recast_checked (meta_at k table).lineage (recast_asked c.args.words.now) ≡ Ok tt) same c.in-Ok.ensures.checked in
+    let count = c.singletons.ensures ∙ ap (λ (k : Catalog). k.next - start_in (meta_at k table)) same in
     let names : recast_asked c.args.words.now ≡ record { keys = asked.names.keys; values = asked.names.values } = ap (λ (n : RecastNames). record { keys = n.keys; values = n.values }) (sym c.in-Ok.ensures.names) in
-    claimed l c.args.position c.args.words.now (sym c.closed.ensures ∙ c.in_default.is) table there rule (sym c.holder.ensures ∙ c.in_default-holder.is) (within c.singletons.result (l.catalogue.next - start_in (stock_at l.catalogue table)) count c.if-singletons.false)
-    ∙ ap (λ (r : Recast). Ok (record { table = table; lease = l.leases.granted + 1; errand = Recasts (epoch_of (stock_at l.catalogue table).lineage) r })) names
+    claimed l c.args.position c.args.words.now (sym c.closed.ensures ∙ c.in_default.is) table there rule (sym c.holder.ensures ∙ c.in_default-holder.is) (within c.singletons.result (l.catalogue.next - start_in (meta_at l.catalogue table)) count c.if-singletons.false)
+    ∙ ap (λ (r : Recast). Ok (record { table = table; lease = l.leases.granted + 1; errand = Recasts (epoch_of (meta_at l.catalogue table).lineage) r })) names

@@ -4,7 +4,7 @@ use Rattle.mesa_write_turns.specs.mesa_schema.Changes.{Lineage, epoch_of}
 use Rattle.mesa_write_turns.specs.mesa_history_spec.Machine.{Claim, Recasts, recast_claim_of}
 use Rattle.mesa_write_turns.specs.mesa_history_spec.Run.{First, Granted, Finished}
 use Rattle.mesa_write_turns.specs.mesa_history_spec.Turns.{IsDue}
-use Rattle.mesa_engine.specs.mesa_image_spec.Catalog.{Catalog, Delta, Stock, stock_at}
+use Rattle.mesa_engine.specs.mesa_store_spec.Catalog.{Catalog, Delta, TableMeta, meta_at}
 use Rattle.mesa_model.specs.Entry.{IsShort}
 use Rattle.mesa_model.specs.declared.commands.Command.TheVariants as command
 use Rattle.mesa_model.specs.declared.entries.Kind.TheVariants as kind
@@ -14,7 +14,7 @@ use Rattle.mesa_engine.specs.Vault.{IsVault, Starts, outset_of}
 use Rattle.mesa_engine.specs.Failure.{cause_in}
 use Rattle.mesa_lease.specs.Book.{granted}
 use Rattle.mesa_engine.specs.Memory.{with_leases}
-use Rattle.mesa_plans.specs.mesa_table.Meaning.{stock_of}
+use Rattle.mesa_pick_files.specs.mesa_catalog_table.Meaning.{meta_of}
 use Rattle.mesa_write_turns.specs.mesa_history_spec.Rows.{Rows, no_rows}
 use Rattle.mesa_write_turns.specs.mesa_invariant_spec.Turns.{AnswersDisk, Shown, SomeRose, Takes, entry, faults_of}
 use Rattle.mesa_write_turns.specs.mesa_invariant_spec.Invariant.{run_at}
@@ -24,12 +24,12 @@ use Rattle.mesa_work_turns.specs.Claims.{recast_claim_as}
 use Rattle.mesa_work_turns.proofs.Grants.{next_there, shaped_at, tables_there, unopened_counts}
 use Rattle.mesa_work_turns.proofs.GrantTurns.{IsGrant, IsNoGrant, is_grant, is_no_grant}
 use Rattle.std.specs.Prelude.{IfSome}
-use Rattle.mesa_engine.specs.mesa_image_spec.Fitting.{deltas_of}
+use Rattle.mesa_engine.specs.mesa_store_spec.Fitting.{deltas_of}
 use Rattle.mesa_write_turns.specs.mesa_schema.Recasts.{recast_checked}
-use Rattle.mesa_plans.specs.Ranges.{HoldsAll, IsDamagedRange, IsOfRange}
-use Rattle.mesa_tasks.specs.Recasts.{AreRangesOf, claim_of_recast, recast_table}
-use Rattle.mesa_tasks.specs.declared.recasting.Recast.{Recast}
-use Rattle.mesa_tasks.specs.declared.recasting.RecastRange.{RecastRange}
+use Rattle.mesa_pick_files.specs.Ranges.{HoldsAll, IsDamagedRange, IsOfRange}
+use Rattle.mesa_open_files.specs.Recasts.{AreRangesOf, claim_of_recast, recast_table}
+use Rattle.mesa_open_files.specs.declared.recasting.Recast.{Recast}
+use Rattle.mesa_open_files.specs.declared.recasting.RecastRange.{RecastRange}
 use Rattle.mesa_work_turns.proofs.RecastRanges.{none_damaged, ranges_end, ranges_inputs, recast_bounded, recast_has_ranges}
 use Rattle.mesa_work_turns.proofs.recast_granting.take.Goals as goal
 
@@ -39,8 +39,8 @@ gather_recast-gathered-requires-after_bounds g c κs within =
     let table = c.args.claimed.table in
     let there : table < length i.metadata.state.catalogue.tables = subst (λ (x : Standing). table < length x.state.catalogue.tables) (sym c.engine.view_is) c.requires.there in
     let shaped = shaped_at i.metadata.state.catalogue (c.engine.invariant.vault no_rows false (λ is. absurd cc)).shaped table there in
-    let stock = c.table-table.ensures.stock ∙ ap (λ (k : Catalog). stock_at k table) c.catalog.ensures in
-    (_, c.table-table.ensures.held, subst (λ (u : Stock). AllByRecursion (λ (d : Delta). d.epoch ≤ epoch_of u.lineage) (deltas_of u)) (sym stock) shaped.epochs)
+    let meta = c.table-table.ensures.meta ∙ ap (λ (k : Catalog). meta_at k table) c.catalog.ensures in
+    (_, c.table-table.ensures.held, subst (λ (u : TableMeta). AllByRecursion (λ (d : Delta). d.epoch ≤ epoch_of u.lineage) (deltas_of u)) (sym meta) shaped.epochs)
 
 -- ---- it is granted
 
@@ -98,7 +98,7 @@ returns-in-Ok-clause-turn g c =
     let who = c.args.who in
     let later = c.pass.new.self in
     let shown : Shown = record { history = later.history.items; running = not later.printer.broken; clock = (g.D.Disk.story c.gather_recast-gathered.new.disk).moment } in
-    let epoch = c.in-Ok.ensures.epoch ∙ ap (λ (u : Stock). epoch_of u.lineage) (c.table-table.ensures.stock ∙ ap (λ (k : Catalog). stock_at k c.args.claimed.table) c.catalog.ensures) in
+    let epoch = c.in-Ok.ensures.epoch ∙ ap (λ (u : TableMeta). epoch_of u.lineage) (c.table-table.ensures.meta ∙ ap (λ (k : Catalog). meta_at k c.args.claimed.table) c.catalog.ensures) in
     let same : recast_claim_as i.metadata.state c.args.claimed ≡ claim_of_recast (task_of g c) =
     λ i. record { table = sym c.in-Ok.ensures.table i; lease = sym c.lease.ensures.number i; errand = Recasts (sym epoch i) (record { keys = sym c.in-Ok.ensures.columns.0 i; values = sym c.in-Ok.ensures.columns.1 i }) } in
     subst (λ (x : Claim). Takes N.script (N.start no_rows) c.args.engine.now.shown shown who.session who.command kind.Grant (Granted x)) same
@@ -118,14 +118,14 @@ table_there g c =
     subst (λ k. k < length l.catalogue.tables) (sym c.in-Ok.ensures.table) (subst (λ (x : Standing). c.args.claimed.table < length x.state.catalogue.tables) (sym c.engine.view_is) c.requires.there)
 
 -- its table is the catalogue's
-stock_is : (g : _) (c : goal.After-pass g) → stock_of c.catalog.result.now.catalogue.next c.table-table.result.now ≡ stock_at c.engine.inside.metadata.state.catalogue c.in-Ok.task.table
-stock_is g c = c.table-table.ensures.stock ∙ ap (λ (k : Catalog). stock_at k c.args.claimed.table) c.catalog.ensures ∙ ap (stock_at c.engine.inside.metadata.state.catalogue) (sym c.in-Ok.ensures.table)
+meta_is : (g : _) (c : goal.After-pass g) → meta_of c.catalog.result.now.catalogue.next c.table-table.result.now ≡ meta_at c.engine.inside.metadata.state.catalogue c.in-Ok.task.table
+meta_is g c = c.table-table.ensures.meta ∙ ap (λ (k : Catalog). meta_at k c.args.claimed.table) c.catalog.ensures ∙ ap (meta_at c.engine.inside.metadata.state.catalogue) (sym c.in-Ok.ensures.table)
 
 -- each range of the task is one of its table
-ranges_of_stock : (g : _) (c : goal.After-pass g)
-    → AllByRecursion (IsOfRange g.D.Reader.FileReader.bytes g.D.Reader.FileReader.faults (g.D.Disk.story c.engine.inside.disk).told (stock_at c.engine.inside.metadata.state.catalogue c.in-Ok.task.table)) c.in-Ok.task.ranges.items
-ranges_of_stock g c =
-    subst (λ (u : Stock). AllByRecursion (IsOfRange g.D.Reader.FileReader.bytes g.D.Reader.FileReader.faults (g.D.Disk.story c.engine.inside.disk).told u) c.in-Ok.task.ranges.items) (stock_is g c) (c.in-Ok.ensures.ranges _ c.table-table.ensures.held)
+ranges_of_meta : (g : _) (c : goal.After-pass g)
+    → AllByRecursion (IsOfRange g.D.Reader.FileReader.bytes g.D.Reader.FileReader.faults (g.D.Disk.story c.engine.inside.disk).told (meta_at c.engine.inside.metadata.state.catalogue c.in-Ok.task.table)) c.in-Ok.task.ranges.items
+ranges_of_meta g c =
+    subst (λ (u : TableMeta). AllByRecursion (IsOfRange g.D.Reader.FileReader.bytes g.D.Reader.FileReader.faults (g.D.Disk.story c.engine.inside.disk).told u) c.in-Ok.task.ranges.items) (meta_is g c) (c.in-Ok.ensures.ranges _ c.table-table.ensures.held)
 
 pub returns-in-Ok-clause-there : goal.returns-in-Ok-clause-there
 returns-in-Ok-clause-there g c =
@@ -141,63 +141,63 @@ returns-in-Ok-clause-next g c =
     let is = (c.engine.invariant.vault no_rows false (λ z. absurd cc)).shaped in
     subst (λ k. AllByRecursion (λ (x : RecastRange g.row.D-Reader.Denot). x.to < k) c.in-Ok.task.ranges.items)
     (sym (next_there (outset_of (starts g c) no_rows) (g.N.Naming.origin no_rows) false (leased g c) (g.D.Disk.story c.gather_recast-gathered.new.disk) (g.K.Sink.held later.printer.sink) later.history.items (not later.printer.broken) later.refused (vault_behind g c no_rows false (λ z. absurd cc))))
-    (ranges_end g.D.Reader.FileReader.bytes g.D.Reader.FileReader.faults (g.D.Disk.story c.engine.inside.disk).told l.catalogue.floor l.catalogue.next (stock_at l.catalogue c.in-Ok.task.table) (shaped_at l.catalogue is c.in-Ok.task.table (table_there g c)) c.in-Ok.task.ranges.items (ranges_of_stock g c))
+    (ranges_end g.D.Reader.FileReader.bytes g.D.Reader.FileReader.faults (g.D.Disk.story c.engine.inside.disk).told l.catalogue.floor l.catalogue.next (meta_at l.catalogue c.in-Ok.task.table) (shaped_at l.catalogue is c.in-Ok.task.table (table_there g c)) c.in-Ok.task.ranges.items (ranges_of_meta g c))
 
 pub returns-in-Ok-clause-task : goal.returns-in-Ok-clause-task
 returns-in-Ok-clause-task g c =
     let t = c.in-Ok.task in
     let l = c.engine.inside.metadata.state in
-    let now = stock_at l.catalogue t.table in
-    let evolving : recast_table t ≡ now.lineage = c.in-Ok.ensures.evolving ∙ ap (λ (u : Stock). u.lineage) (stock_is g c) in
-    let checked = subst (λ (x : Standing). recast_checked (stock_at x.state.catalogue c.args.claimed.table).lineage (record { keys = c.args.claimed.names.keys; values = c.args.claimed.names.values }) ≡ Ok tt) (sym c.engine.view_is) c.requires.checked in
+    let now = meta_at l.catalogue t.table in
+    let evolving : recast_table t ≡ now.lineage = c.in-Ok.ensures.evolving ∙ ap (λ (u : TableMeta). u.lineage) (meta_is g c) in
+    let checked = subst (λ (x : Standing). recast_checked (meta_at x.state.catalogue c.args.claimed.table).lineage (record { keys = c.args.claimed.names.keys; values = c.args.claimed.names.values }) ≡ Ok tt) (sym c.engine.view_is) c.requires.checked in
     record {
       epoch = c.in-Ok.ensures.epoch ∙ ap epoch_of (sym c.in-Ok.ensures.evolving);
-      allowed = (λ i. recast_checked (((evolving ∙ ap (λ k. (stock_at l.catalogue k).lineage) c.in-Ok.ensures.table) i)) (record { keys = c.in-Ok.ensures.columns.0 i; values = c.in-Ok.ensures.columns.1 i })) ∙ checked;
+      allowed = (λ i. recast_checked (((evolving ∙ ap (λ k. (meta_at l.catalogue k).lineage) c.in-Ok.ensures.table) i)) (record { keys = c.in-Ok.ensures.columns.0 i; values = c.in-Ok.ensures.columns.1 i })) ∙ checked;
       ranges = subst (λ (x : Lineage). AreRangesOf g.D.Reader.FileReader.bytes x t.ranges.items) (sym evolving)
-          (ranges_inputs g.D.Reader.FileReader.bytes g.D.Reader.FileReader.faults (g.D.Disk.story c.engine.inside.disk).told now t.ranges.items (ranges_of_stock g c));
+          (ranges_inputs g.D.Reader.FileReader.bytes g.D.Reader.FileReader.faults (g.D.Disk.story c.engine.inside.disk).told now t.ranges.items (ranges_of_meta g c));
     }
 
 pub returns-in-Ok-clause-lineage : goal.returns-in-Ok-clause-lineage
 returns-in-Ok-clause-lineage g c =
-    c.in-Ok.ensures.evolving ∙ ap (λ (u : Stock). u.lineage) (c.table-table.ensures.stock ∙ ap (λ (k : Catalog). stock_at k c.args.claimed.table) c.catalog.ensures)
-    ∙ ap (λ (x : Standing). (stock_at x.state.catalogue c.args.claimed.table).lineage) c.engine.view_is
+    c.in-Ok.ensures.evolving ∙ ap (λ (u : TableMeta). u.lineage) (c.table-table.ensures.meta ∙ ap (λ (k : Catalog). meta_at k c.args.claimed.table) c.catalog.ensures)
+    ∙ ap (λ (x : Standing). (meta_at x.state.catalogue c.args.claimed.table).lineage) c.engine.view_is
 
 pub returns-in-Ok-clause-asked : goal.returns-in-Ok-clause-asked
 returns-in-Ok-clause-asked g c = λ i. record { keys = c.in-Ok.ensures.columns.0 i; values = c.in-Ok.ensures.columns.1 i }
 
 pub returns-in-Ok-clause-holds : goal.returns-in-Ok-clause-holds
 returns-in-Ok-clause-holds g c none =
-    subst (λ (x : Standing). HoldsAll c.in-Ok.task.ranges.items (stock_at x.state.catalogue c.in-Ok.task.table)) c.engine.view_is
-    (subst (HoldsAll c.in-Ok.task.ranges.items) (stock_is g c) (c.in-Ok.ensures.holds _ c.table-table.ensures.held none))
+    subst (λ (x : Standing). HoldsAll c.in-Ok.task.ranges.items (meta_at x.state.catalogue c.in-Ok.task.table)) c.engine.view_is
+    (subst (HoldsAll c.in-Ok.task.ranges.items) (meta_is g c) (c.in-Ok.ensures.holds _ c.table-table.ensures.held none))
 
 was_open : (g : _) (c : goal.After-pass g) → c.engine.inside.metadata.state.closed ≡ None
 was_open g c = ap (λ (x : Standing). x.state.closed) c.engine.view_is ∙ c.requires.opened
 
 -- the files of its ranges, as the disk behind the turn tells them
 told_ranges : (g : _) (c : goal.After-pass g)
-    → AllByRecursion (IsOfRange g.D.Reader.FileReader.bytes g.D.Reader.FileReader.faults (g.D.Disk.story c.gather_recast-gathered.new.disk).told (stock_at c.engine.inside.metadata.state.catalogue c.in-Ok.task.table)) c.in-Ok.task.ranges.items
+    → AllByRecursion (IsOfRange g.D.Reader.FileReader.bytes g.D.Reader.FileReader.faults (g.D.Disk.story c.gather_recast-gathered.new.disk).told (meta_at c.engine.inside.metadata.state.catalogue c.in-Ok.task.table)) c.in-Ok.task.ranges.items
 told_ranges g c =
-    subst (λ i. AllByRecursion (IsOfRange g.D.Reader.FileReader.bytes g.D.Reader.FileReader.faults i (stock_at c.engine.inside.metadata.state.catalogue c.in-Ok.task.table)) c.in-Ok.task.ranges.items) (sym c.gather_recast-gathered.ensures.unmoved.told) (ranges_of_stock g c)
+    subst (λ i. AllByRecursion (IsOfRange g.D.Reader.FileReader.bytes g.D.Reader.FileReader.faults i (meta_at c.engine.inside.metadata.state.catalogue c.in-Ok.task.table)) c.in-Ok.task.ranges.items) (sym c.gather_recast-gathered.ensures.unmoved.told) (ranges_of_meta g c)
 
 pub returns-in-Ok-clause-whole : goal.returns-in-Ok-clause-whole
 returns-in-Ok-clause-whole g c w sound =
     let later = c.pass.new.self in
     let told = (g.D.Disk.story c.engine.inside.disk).told in
-    let met = subst (λ (u : Stock). IfSome c.in-Ok.task.damage (IsDamagedRange told u)) (stock_is g c) (c.in-Ok.ensures.damaged _ c.table-table.ensures.held) in
+    let met = subst (λ (u : TableMeta). IfSome c.in-Ok.task.damage (IsDamagedRange told u)) (meta_is g c) (c.in-Ok.ensures.damaged _ c.table-table.ensures.held) in
     none_damaged (outset_of (starts g c) w) (g.N.Naming.origin w) (leased g c) (g.D.Disk.story c.gather_recast-gathered.new.disk) (g.K.Sink.held later.printer.sink) later.history.items (not later.printer.broken) later.refused (vault_behind g c w true (λ ok. sound)) (was_open g c)
-    c.in-Ok.task.table (table_there g c) c.in-Ok.task.damage (subst (λ i. IfSome c.in-Ok.task.damage (IsDamagedRange i (stock_at c.engine.inside.metadata.state.catalogue c.in-Ok.task.table))) (sym c.gather_recast-gathered.ensures.unmoved.told) met)
+    c.in-Ok.task.table (table_there g c) c.in-Ok.task.damage (subst (λ i. IfSome c.in-Ok.task.damage (IsDamagedRange i (meta_at c.engine.inside.metadata.state.catalogue c.in-Ok.task.table))) (sym c.gather_recast-gathered.ensures.unmoved.told) met)
 
 pub returns-in-Ok-clause-bounded : goal.returns-in-Ok-clause-bounded
 returns-in-Ok-clause-bounded g c w sound =
     let later = c.pass.new.self in
     recast_bounded (outset_of (starts g c) w) (g.N.Naming.origin w) (leased g c) (g.D.Disk.story c.gather_recast-gathered.new.disk) (g.K.Sink.held later.printer.sink) later.history.items (not later.printer.broken) later.refused (vault_behind g c w true (λ ok. sound)) (was_open g c)
-    g.D.Reader.FileReader.bytes g.D.Reader.FileReader.faults (task_of g c) (table_there g c) (c.in-Ok.ensures.evolving ∙ ap (λ (u : Stock). u.lineage) (stock_is g c)) (told_ranges g c)
+    g.D.Reader.FileReader.bytes g.D.Reader.FileReader.faults (task_of g c) (table_there g c) (c.in-Ok.ensures.evolving ∙ ap (λ (u : TableMeta). u.lineage) (meta_is g c)) (told_ranges g c)
 
 pub returns-in-Ok-clause-ranges : goal.returns-in-Ok-clause-ranges
 returns-in-Ok-clause-ranges g c w sound =
     let later = c.pass.new.self in
     recast_has_ranges (outset_of (starts g c) w) (g.N.Naming.origin w) (leased g c) (g.D.Disk.story c.gather_recast-gathered.new.disk) (g.K.Sink.held later.printer.sink) later.history.items (not later.printer.broken) later.refused (vault_behind g c w true (λ ok. sound)) (was_open g c)
-    g.D.Reader.FileReader.bytes g.D.Reader.FileReader.faults (task_of g c) (table_there g c) (c.in-Ok.ensures.evolving ∙ ap (λ (u : Stock). u.lineage) (stock_is g c)) (told_ranges g c)
+    g.D.Reader.FileReader.bytes g.D.Reader.FileReader.faults (task_of g c) (table_there g c) (c.in-Ok.ensures.evolving ∙ ap (λ (u : TableMeta). u.lineage) (meta_is g c)) (told_ranges g c)
 
 pub returns-in-Ok-clause-disk : goal.returns-in-Ok-clause-disk
 returns-in-Ok-clause-disk g c =

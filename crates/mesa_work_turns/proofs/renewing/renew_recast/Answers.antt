@@ -6,7 +6,7 @@ use Rattle.mesa_model.specs.declared.entries.Kind.TheVariants as kind
 use Rattle.mesa_write_turns.specs.mesa_history_spec.Rows.{no_rows}
 use Rattle.mesa_write_turns.specs.mesa_invariant_spec.Turns.{AnswersDisk, Shown, SomeRose, Takes}
 use Rattle.mesa_write_turns.proofs.mesa_invariant_spec.Faulting.{disk_also}
-use Rattle.mesa_tasks.specs.Recasts.{recast_in}
+use Rattle.mesa_open_files.specs.Recasts.{recast_in}
 use Rattle.mesa_work_turns.proofs.renewing.renew_recast.Goals as goal
 
 pub renew_lease-requires-clause-due : goal.renew_lease-requires-clause-due

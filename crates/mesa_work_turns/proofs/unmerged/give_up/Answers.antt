@@ -15,7 +15,7 @@ use Rattle.mesa_engine.specs.Printing.{PrintsBlock}
 use Rattle.mesa_engine.specs.Memory.{Memory}
 use Rattle.mesa_write_turns.specs.mesa_history_spec.Output.{block}
 use Rattle.mesa_write_turns.specs.mesa_history_spec.Rows.{no_rows}
-use Rattle.mesa_tasks.specs.GivingBack.{task_inputs}
+use Rattle.mesa_open_files.specs.GivingBack.{task_inputs}
 use Rattle.mesa_write_turns.specs.mesa_invariant_spec.Causes.{Cause, is_read_fault, outcome_of, reply_of, told_at}
 use Rattle.mesa_write_turns.specs.mesa_invariant_spec.Printing.{IsPut}
 use Rattle.mesa_write_turns.specs.mesa_invariant_spec.Turns.{AnswersDisk, AnswersDraft, Shown, SomeRose, Takes, entry, faults_of}
@@ -25,8 +25,8 @@ use Rattle.mesa_write_turns.proofs.mesa_invariant_spec.Clock.{begun_moment, not_
 use Rattle.mesa_write_turns.proofs.mesa_invariant_spec.Faulting.{disk_caused}
 use Rattle.mesa_engine.specs.Engine.{Standing, IsEngine, starts_of}
 use Rattle.mesa_engine.proofs.Drafting.{answers_where}
-use Rattle.mesa_tasks.specs.Tasks.{claim_in}
-use Rattle.mesa_tasks.specs.declared.merging.CompactError.TheVariants as compact
+use Rattle.mesa_open_files.specs.Tasks.{claim_in}
+use Rattle.mesa_open_files.specs.declared.merging.CompactError.TheVariants as compact
 use Rattle.mesa_read_turns.proofs.Closes.{given_counts}
 use Rattle.mesa_work_turns.specs.Unmerged.{cause_of, closing_cause, closing_state}
 use Rattle.mesa_work_turns.proofs.Closings.{closing_read, given_up_engine, given_up_takes, only_draft, paid_back}

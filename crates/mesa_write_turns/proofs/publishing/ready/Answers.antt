@@ -1,15 +1,15 @@
 use Rattle.std.proofs.Common.{refl, sym, ◌∙◌, ap, subst}
 use Rattle.mesa_engine.specs.mesa_catalog.Lookups.{sight_of}
-use Rattle.mesa_engine.specs.mesa_image_spec.Catalog.{Catalog}
+use Rattle.mesa_engine.specs.mesa_store_spec.Catalog.{Catalog}
 use Rattle.mesa_model.specs.declared.commands.Command.TheVariants as command
 use Rattle.mesa_engine.specs.mesa_history_spec.Rows.{no_rows}
 use Rattle.mesa_engine.specs.mesa_invariant_spec.Changes.{HasFailed}
 use Rattle.mesa_engine.specs.EngineState.{books_of}
 use Rattle.mesa_model.specs.Load.{load_batch}
-use Rattle.mesa_publishing.specs.Bounds.{IsDue}
-use Rattle.mesa_publishing.specs.Published.{bare_of}
+use Rattle.mesa_file_records.specs.Bounds.{IsDue}
+use Rattle.mesa_file_records.specs.Published.{bare_of}
 use Rattle.mesa_write_turns.specs.Loading.{cause_of}
-use Rattle.mesa_tasks.specs.Batches.{HasPrepared}
+use Rattle.mesa_open_files.specs.Batches.{HasPrepared}
 use Rattle.mesa_write_turns.proofs.Loads.{can_publish, read_so, unready_fails}
 use Rattle.mesa_write_turns.proofs.publishing.ready.Goals as goal
 

@@ -4,11 +4,11 @@ use Rattle.mesa_schema.specs.Changes.{columns_of, epoch_of}
 use Rattle.mesa_model.specs.Tables.{alter_table, change_asked}
 use Rattle.mesa_model.specs.declared.replies.Reply.TheVariants as reply
 use Rattle.mesa_record.specs.declared.record.Record.TheVariants as record_of
-use Rattle.mesa_engine.specs.mesa_image_spec.Catalog.{stock_at}
-use Rattle.mesa_rules.specs.Seen.{number_of}
+use Rattle.mesa_engine.specs.mesa_store_spec.Catalog.{meta_at}
+use Rattle.mesa_validate.specs.Seen.{number_of}
 use Rattle.mesa_model.specs.declared.commands.Command.TheVariants as command
-use Rattle.mesa_engine.specs.mesa_image_spec.Catalog.{Catalog}
-use Rattle.mesa_rules.specs.Ruled.{IsRuled, IsRefused as IsUnruled}
+use Rattle.mesa_engine.specs.mesa_store_spec.Catalog.{Catalog}
+use Rattle.mesa_validate.specs.Ruled.{IsRuled, IsRefused as IsUnruled}
 use Rattle.mesa_write_turns.specs.Ruling.{IsRefused}
 use Rattle.mesa_write_turns.proofs.Rulings.{rules_do, rules_told}
 use Rattle.mesa_write_turns.proofs.ruling.rule_alter.Goals as goal
@@ -20,10 +20,10 @@ returns-in-Ok-clause-allowed c =
     let same = c.catalog.ensures in
     let ruled = subst (λ (k : Catalog). IsRuled k (λ w. alter_table w c.args.words.now) c.in-Ok.ruled) same c.in-Ok.ensures.ruled in
     let words = c.args.words.now in
-    let w = subst (λ (k : Catalog). (number : ℕ) × (change : Change) × (number_of k words.table ≡ Some number) × (change_asked (columns_of (stock_at k number).lineage) words.change ≡ Ok change) × (c.in-Ok.ruled.writes ≡ record_of.Alter number change)) same c.in-Ok.ensures.written in
-    let t = subst (λ (k : Catalog). (number : ℕ) × (number_of k words.table ≡ Some number) × (c.in-Ok.ruled.tells ≡ reply.Altered words.table (epoch_of (stock_at k number).lineage + 1))) same c.in-Ok.ensures.told in
+    let w = subst (λ (k : Catalog). (number : ℕ) × (change : Change) × (number_of k words.table ≡ Some number) × (change_asked (columns_of (meta_at k number).lineage) words.change ≡ Ok change) × (c.in-Ok.ruled.writes ≡ record_of.Alter number change)) same c.in-Ok.ensures.written in
+    let t = subst (λ (k : Catalog). (number : ℕ) × (number_of k words.table ≡ Some number) × (c.in-Ok.ruled.tells ≡ reply.Altered words.table (epoch_of (meta_at k number).lineage + 1))) same c.in-Ok.ensures.told in
     let one : t.0 ≡ w.0 = (let both : Some t.0 ≡ Some w.0 = sym t.1 ∙ w.2 in cc) in
-    record { opened = opened; rules = ruled.rules; fit = ruled.fit; does = (w.0, w.1, w.2, w.3, w.4, t.2 ∙ ap (λ n. reply.Altered words.table (epoch_of (stock_at l.catalogue n).lineage + 1)) one, rules_do l opened (λ w. alter_table w c.args.words.now) c.in-Ok.ruled ruled) }
+    record { opened = opened; rules = ruled.rules; fit = ruled.fit; does = (w.0, w.1, w.2, w.3, w.4, t.2 ∙ ap (λ n. reply.Altered words.table (epoch_of (meta_at l.catalogue n).lineage + 1)) one, rules_do l opened (λ w. alter_table w c.args.words.now) c.in-Ok.ruled ruled) }
 
 pub returns-in-Err-clause-refused : goal.returns-in-Err-clause-refused
 returns-in-Err-clause-refused c =

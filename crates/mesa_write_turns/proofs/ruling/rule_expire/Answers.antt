@@ -3,10 +3,10 @@ use Rattle.mesa_model.specs.Versions.{expire_all, expire_table}
 use Rattle.mesa_model.specs.Warehouse.{Warehouse}
 use Rattle.mesa_model.specs.declared.commands.Command.TheVariants as command
 use Rattle.mesa_record.specs.declared.record.Record.TheVariants as record_of
-use Rattle.mesa_engine.specs.mesa_image_spec.Catalog.{Catalog}
+use Rattle.mesa_engine.specs.mesa_store_spec.Catalog.{Catalog}
 use Rattle.mesa_engine.specs.declared.failure.Failure.TheVariants as failure
-use Rattle.mesa_rules.specs.Ruled.{IsRuled, IsRefused as IsUnruled}
-use Rattle.mesa_rules.specs.Seen.{HasCatalog, number_of}
+use Rattle.mesa_validate.specs.Ruled.{IsRuled, IsRefused as IsUnruled}
+use Rattle.mesa_validate.specs.Seen.{HasCatalog, number_of}
 use Rattle.mesa_write_turns.specs.Ruling.{IsAllowed, IsRefused, told_as}
 use Rattle.mesa_write_turns.proofs.Rulings.{rules_do, rules_refuse_now, rules_told}
 use Rattle.mesa_write_turns.proofs.ruling.rule_expire.Goals as goal

@@ -1,8 +1,8 @@
 use Rattle.std.proofs.Common.{sym, refl, subst}
 use Rattle.mesa_model.specs.Tables.{make_table}
 use Rattle.mesa_model.specs.declared.commands.Command.TheVariants as command
-use Rattle.mesa_engine.specs.mesa_image_spec.Catalog.{Catalog}
-use Rattle.mesa_rules.specs.Ruled.{IsRuled, IsRefused as IsUnruled}
+use Rattle.mesa_engine.specs.mesa_store_spec.Catalog.{Catalog}
+use Rattle.mesa_validate.specs.Ruled.{IsRuled, IsRefused as IsUnruled}
 use Rattle.mesa_write_turns.specs.Ruling.{IsRefused}
 use Rattle.mesa_write_turns.proofs.Rulings.{rules_do, rules_told}
 use Rattle.mesa_write_turns.proofs.ruling.rule_table.Goals as goal

@@ -4,7 +4,7 @@ use Rattle.mesa_disk.specs.Files.{files_of}
 use Rattle.mesa_disk.specs.Story.{Steps}
 use Rattle.mesa_engine.specs.mesa_history_spec.Replay.{no_rows as no_lines}
 use Rattle.mesa_engine.specs.mesa_history_spec.Run.{Finished}
-use Rattle.mesa_engine.specs.mesa_image_spec.Catalog.{applied}
+use Rattle.mesa_engine.specs.mesa_store_spec.Catalog.{applied}
 use Rattle.mesa_engine.specs.mesa_catalog.Lookups.{generation_of, turns_generation}
 use Rattle.mesa_model.specs.Entry.{IsShort}
 use Rattle.mesa_model.specs.declared.entries.Kind.TheVariants as kind

@@ -2,8 +2,8 @@ use Rattle.std.proofs.Common.{◌≡◌, ◌∙◌, ◌+◌, ◌≤◌, ap, sym,
 use Rattle.std.specs.Prelude.{Option, Some, IfSome, option_map}
 use Rattle.mesa_record.specs.declared.record.Record.{Record}
 use Rattle.std.specs.List.{AllByRecursion}
-use Rattle.mesa_table.specs.mesa_image_spec.Catalog.{Catalog}
-use Rattle.mesa_table.specs.mesa_image_spec.Ids.{named, times}
+use Rattle.mesa_catalog_table.specs.mesa_store_spec.Catalog.{Catalog}
+use Rattle.mesa_catalog_table.specs.mesa_store_spec.Ids.{named, times}
 use Rattle.mesa_catalog.specs.Kept.{Reserved}
 use Rattle.mesa_catalog.specs.declared.ready.Ready.{Ready}
 use Rattle.mesa_catalog.specs.Lookups.{generation_of, turns_generation}
@@ -21,7 +21,7 @@ some_same a b e = cc
 
 pub invariant_of-self : goal.invariant_of-self
 invariant_of-self c =
-    let s = c.self.inside.shelves in
+    let s = c.self.inside.catalog_tables in
     let old = c.self.inside.greatest in
     let new = c.greatest_with-self-inside.result in
     let y = c.in-Some.ready in
@@ -31,7 +31,7 @@ invariant_of-self c =
     let kind = kind_of_fits (catalogue_of s) (record_in y) ready.fits in
     let brings = subst (λ r. AllByRecursion (λ id. id ≤ new) (ids_brought r)) (sym same) c.greatest_with-self-inside.ensures.all in
     record {
-      shelves = c.take_in.ensures.shelved;
+      catalog_tables = c.take_in.ensures.live_files;
       ready = subst (λ (o : Option Ready). IfSome o (IsReady c.take_in.new.self)) (sym c.take.ensures.after) tt;
       once = λ id. subst (λ (k : Catalog). times id (named k) ≤ 1) (sym c.take_in.ensures.applied) (still_once id (catalogue_of s) (record_in y) ready.fits (c.self.invariant.once id));
       most = subst (λ (k : Catalog). AllByRecursion (λ id. id ≤ new) (named k)) (sym c.take_in.ensures.applied) (most_after (catalogue_of s) (record_in y) old new kind c.greatest_with-self-inside.ensures.least c.self.invariant.most brings);
@@ -39,7 +39,7 @@ invariant_of-self c =
 
 pub returns-in-Some-clause-generation : goal.returns-in-Some-clause-generation
 returns-in-Some-clause-generation c =
-    let s = c.self.inside.shelves in
+    let s = c.self.inside.catalog_tables in
     let y = c.in-Some.ready in
     let was = c.in-Some.ensures.value in
     let ready = subst (λ (o : Option Ready). IfSome o (IsReady s)) (sym was) c.self.invariant.ready in

@@ -1,6 +1,6 @@
 use Rattle.std.proofs.Common.{◌≤◌, ◌∙◌, ap, sym, subst}
 use Rattle.std.specs.List.{AllByRecursion}
-use Rattle.mesa_table.specs.mesa_image_spec.Fitting.{brings_new_files}
+use Rattle.mesa_catalog_table.specs.mesa_store_spec.Fitting.{brings_new_files}
 use Rattle.mesa_catalog.specs.Kept.{Reserved}
 use Rattle.mesa_catalog.specs.Named.{held_ids, ids_brought}
 use Rattle.mesa_catalog.proofs.Ids.{brings_held, named_held, rising_new}
@@ -8,7 +8,7 @@ use Rattle.mesa_catalog.proofs.catalog.Catalog.brings_new_files.Goals as goal
 
 pub returns-then-brings_rising : goal.returns-then-brings_rising
 returns-then-brings_rising c =
-    let s = c.self.inside.shelves in
+    let s = c.self.inside.catalog_tables in
     let r = c.args.r.now in
     let above = c.self.inside.greatest in
     let found = c.brings_rising.ensures c.if-brings_rising.true in
@@ -17,6 +17,6 @@ returns-then-brings_rising c =
 
 pub returns : goal.returns
 returns c =
-    let s = c.self.inside.shelves in
+    let s = c.self.inside.catalog_tables in
     let r = c.args.r.now in
     c.brings_new.ensures ∙ brings_held s r ∙ ap (λ (k : Reserved). brings_new_files k.catalogue r) c.self.view_is

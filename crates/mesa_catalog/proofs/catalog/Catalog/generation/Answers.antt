@@ -7,5 +7,5 @@ use Rattle.mesa_catalog.proofs.catalog.Catalog.generation.Goals as goal
 
 pub returns : goal.returns
 returns c =
-    let s = c.self.inside.shelves in
+    let s = c.self.inside.catalog_tables in
     c.generation.ensures ∙ ap (sum_by changes_of) c.deref.ensures.value ∙ generation_held s.next s.tables.items ∙ ap (λ (k : Reserved). generation_of k.catalogue) c.self.view_is

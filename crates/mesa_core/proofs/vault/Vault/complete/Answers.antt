@@ -5,8 +5,8 @@ use Rattle.mesa_model.specs.declared.commands.Command.TheVariants as command
 use Rattle.mesa_core.specs.Works.{HasMerged, WasGranted, known_task}
 use Rattle.mesa_recast_turns.specs.mesa_work_turns.Swept.{ClaimHolds, HasStood, IsSwept}
 use Rattle.mesa_recast_turns.specs.mesa_history_spec.Rows.{no_rows}
-use Rattle.mesa_tasks.specs.Tasks.{claim_in}
-use Rattle.mesa_tasks.specs.declared.merging.CompactError.TheVariants as compact
+use Rattle.mesa_open_files.specs.Tasks.{claim_in}
+use Rattle.mesa_open_files.specs.declared.merging.CompactError.TheVariants as compact
 use Rattle.mesa_recast_turns.specs.mesa_invariant_spec.Turns.{AnswersDisk, AnswersDraft, Asks, SomeRose, is_merge}
 use Rattle.mesa_recast_turns.specs.mesa_invariant_spec.Invariant.{run_at}
 use Rattle.mesa_recast_turns.specs.mesa_invariant_spec.Works.{closing_stage}

@@ -5,7 +5,7 @@ use Rattle.mesa_model.specs.declared.commands.Command.TheVariants as command
 use Rattle.mesa_model.specs.declared.commands.Script.{Script}
 use Rattle.mesa_core.specs.Sight.{sight_after}
 use Rattle.mesa_recast_turns.specs.mesa_history_spec.Rows.{no_rows}
-use Rattle.mesa_tasks.specs.Batches.{HasPrepared}
+use Rattle.mesa_open_files.specs.Batches.{HasPrepared}
 use Rattle.mesa_recast_turns.specs.mesa_invariant_spec.Turns.{Asks, is_load}
 use Rattle.mesa_recast_turns.specs.mesa_invariant_spec.Invariant.{run_at}
 use Rattle.mesa_core.specs.Vault.{Stand}

@@ -4,7 +4,7 @@ use Rattle.std.specs.Prelude.{IfErr, OnOk}
 use Rattle.mesa_delta.specs.declared.error.FileError.TheVariants as file_error
 use Rattle.mesa_core.specs.Recasts.{HasRegrouped, known_recast}
 use Rattle.mesa_core.specs.Works.{WasGranted}
-use Rattle.mesa_recast_turns.specs.mesa_publishing.Recasts.{stock_of_recast}
+use Rattle.mesa_recast_turns.specs.mesa_file_records.Recasts.{meta_of_recast}
 use Rattle.mesa_recast_turns.specs.mesa_history_spec.Machine.{still_checked}
 use Rattle.mesa_recast_turns.specs.mesa_history_spec.Run.{Renewed}
 use Rattle.mesa_model.specs.declared.commands.Command.TheVariants as command
@@ -14,8 +14,8 @@ use Rattle.mesa_recast_turns.specs.mesa_work_turns.Unmerged.{closing_cause}
 use Rattle.mesa_recast_turns.specs.Rested.{HasUnpaid}
 use Rattle.mesa_recast_turns.specs.mesa_schema.Changes.{epoch_of}
 use Rattle.mesa_recast_turns.specs.mesa_history_spec.Rows.{no_rows}
-use Rattle.mesa_tasks.specs.Recasts.{claim_of_recast, recast_in}
-use Rattle.mesa_tasks.specs.declared.merging.CompactError.TheVariants as compact
+use Rattle.mesa_open_files.specs.Recasts.{claim_of_recast, recast_in}
+use Rattle.mesa_open_files.specs.declared.merging.CompactError.TheVariants as compact
 use Rattle.mesa_recast_turns.specs.mesa_history_spec.Output.{block}
 use Rattle.mesa_recast_turns.specs.mesa_invariant_spec.Causes.{outcome_of, reply_of, told_at}
 use Rattle.mesa_recast_turns.specs.mesa_invariant_spec.Printing.{IsPut}
@@ -128,5 +128,5 @@ returns-clause-swept g c =
     let who = c.args.who in
     let t = c.args.task in
     let now = c.recast.new.engine in
-    subst (λ (s : Stand). OnOk c.args.made (HasStood s.shown now.shown who.session who.command → ClaimHolds s.state (length s.shown.history) (claim_of_recast t) → still_checked (stock_of_recast s.state t).lineage t.epoch (recast_in t) ≡ Ok tt
+    subst (λ (s : Stand). OnOk c.args.made (HasStood s.shown now.shown who.session who.command → ClaimHolds s.state (length s.shown.history) (claim_of_recast t) → still_checked (meta_of_recast s.state t).lineage t.epoch (recast_in t) ≡ Ok tt
     → IsSwept now.told now.state now.shown.history)) c.self.view_is c.recast.ensures.swept

@@ -1,11 +1,11 @@
 use Rattle.std.proofs.Common.{◌≡◌, ◌<◌, inl, sym, ap, ◌∙◌, subst, true, Ok, Err}
 use Rattle.mesa_core.specs.Recasts.{known_recast}
 use Rattle.mesa_core.specs.Works.{WasGranted}
-use Rattle.mesa_recast_turns.specs.mesa_publishing.Grown.{HasBecome}
+use Rattle.mesa_recast_turns.specs.mesa_file_records.Grown.{HasBecome}
 use Rattle.mesa_engine.specs.Engine.{Standing}
 use Rattle.mesa_engine.specs.EngineState.{EngineState}
 use Rattle.mesa_recast_turns.specs.mesa_history_spec.Rows.{no_rows}
-use Rattle.mesa_tasks.specs.Recasts.{recast_table}
+use Rattle.mesa_open_files.specs.Recasts.{recast_table}
 use Rattle.mesa_recast_turns.specs.Rested.{MayRest}
 use Rattle.mesa_recast_turns.specs.mesa_invariant_spec.Turns.{Shown, SomeRose}
 use Rattle.mesa_core.specs.Handing.{AllAreRested, IsRecastGranted, IsRecastHeld}

@@ -1,8 +1,8 @@
 use Rattle.std.proofs.Common.{◌≡◌, ◌<◌, ◌^◌, ℕ, true, arith, subst, sym, Option, None, Some, IsTrue}
 use Rattle.std.specs.Prelude.{IfSome, option_map}
 use Rattle.mesa_record.specs.declared.record.Record.{Record}
-use Rattle.mesa_catalog.specs.mesa_image_spec.Catalog.{Catalog}
-use Rattle.mesa_catalog.specs.mesa_image_spec.Fitting.{fits}
+use Rattle.mesa_catalog.specs.mesa_store_spec.Catalog.{Catalog}
+use Rattle.mesa_catalog.specs.mesa_store_spec.Fitting.{fits}
 use Rattle.mesa_engine.specs.Meaning.{readied}
 use Rattle.mesa_engine.specs.Memory.{HasRoomFor, Memory}
 use Rattle.mesa_engine.proofs.Runs.{run_stays}

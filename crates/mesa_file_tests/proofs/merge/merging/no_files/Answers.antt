@@ -4,8 +4,8 @@ use Rattle.std.specs.List.{AllByRecursion}
 use Rattle.std.proofs.lemmas.List.{take_all}
 use Rattle.mesa_schema.specs.declared.views.View.{View}
 use Rattle.mesa_schema.specs.Changes.{columns_of}
-use Rattle.mesa_tasks.specs.Tasks.{AreTaskViews}
-use Rattle.mesa_tasks.specs.declared.merging.TaskView.{TaskView}
+use Rattle.mesa_open_files.specs.Tasks.{AreTaskViews}
+use Rattle.mesa_open_files.specs.declared.merging.TaskView.{TaskView}
 use Rattle.mesa_compact.proofs.Viewing.{all_pushed}
 use Rattle.mesa_file_tests.proofs.Tasks.{view_pushed}
 use Rattle.mesa_file_tests.proofs.merge.merging.no_files.Goals as goal

@@ -2,8 +2,8 @@ use Rattle.std.proofs.Common.{◌≡◌, take}
 use Rattle.std.specs.Prelude.{None}
 use Rattle.std.specs.List.{AllByRecursion}
 use Rattle.mesa_schema.specs.Changes.{columns_of}
-use Rattle.mesa_tasks.specs.Tasks.{AreTaskViews}
-use Rattle.mesa_tasks.specs.declared.merging.TaskView.{TaskView}
+use Rattle.mesa_open_files.specs.Tasks.{AreTaskViews}
+use Rattle.mesa_open_files.specs.declared.merging.TaskView.{TaskView}
 use Rattle.mesa_file_tests.proofs.merge.merging.no_files.Given as goal
 
 abbrev pub invariant-each : goal.invariant-each

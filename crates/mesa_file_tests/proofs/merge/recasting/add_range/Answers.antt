@@ -1,6 +1,6 @@
 use Rattle.std.proofs.Common.{[], ◌∷◌, length, take, sym, subst}
 use Rattle.mesa_schema.specs.Changes.{columns_of}
-use Rattle.mesa_tasks.specs.Recasts.{AreRewritten, recast_in, recast_table}
+use Rattle.mesa_open_files.specs.Recasts.{AreRewritten, recast_in, recast_table}
 use Rattle.mesa_copy.proofs.Rewriting.{rewritten_front}
 use Rattle.mesa_file_tests.proofs.merge.recasting.add_range.Goals as goal
 

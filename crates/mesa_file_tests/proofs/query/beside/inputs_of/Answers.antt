@@ -2,9 +2,9 @@ use Rattle.std.proofs.Common.{◌∷◌, [], sym, subst}
 use Rattle.std.specs.Prelude.{None}
 use Rattle.std.specs.List.{AllByRecursion}
 use Rattle.mesa_schema.specs.Changes.{columns_of}
-use Rattle.mesa_tasks.proofs.Retired.{all_append}
-use Rattle.mesa_tasks.specs.Pins.{IsPinnedInput}
-use Rattle.mesa_tasks.specs.declared.querying.PinnedInput.{PinnedInput}
+use Rattle.mesa_open_files.proofs.Retired.{all_append}
+use Rattle.mesa_open_files.specs.Pins.{IsPinnedInput}
+use Rattle.mesa_open_files.specs.declared.querying.PinnedInput.{PinnedInput}
 use Rattle.mesa_file_tests.proofs.query.beside.inputs_of.Goals as goal
 
 pub each_source-preserved : goal.each_source-preserved

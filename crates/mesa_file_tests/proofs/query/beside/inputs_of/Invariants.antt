@@ -1,7 +1,7 @@
 use Rattle.std.specs.Prelude.{None}
 use Rattle.std.specs.List.{AllByRecursion}
 use Rattle.mesa_schema.specs.Changes.{columns_of}
-use Rattle.mesa_tasks.specs.Pins.{IsPinnedInput}
+use Rattle.mesa_open_files.specs.Pins.{IsPinnedInput}
 use Rattle.mesa_file_tests.proofs.query.beside.inputs_of.Given as goal
 
 abbrev pub invariant-each_source : goal.invariant-each_source

@@ -1,7 +1,7 @@
 use Rattle.std.proofs.Common.{sym, subst}
 use Rattle.std.specs.Prelude.{Some}
 use Rattle.mesa_schema.specs.Changes.{Lineage, columns_of}
-use Rattle.mesa_tasks.specs.Pins.{HasViewOf, view_at}
+use Rattle.mesa_open_files.specs.Pins.{HasViewOf, view_at}
 use Rattle.mesa_file_tests.proofs.query.inputs.derived.Goals as goal
 
 pub returns : goal.returns

@@ -1,7 +1,7 @@
 use Rattle.std.proofs.Common.{sym, subst}
 use Rattle.std.specs.Prelude.{None}
 use Rattle.std.specs.List.{AllByRecursion}
-use Rattle.mesa_tasks.specs.Pins.{IsPinnedInput}
+use Rattle.mesa_open_files.specs.Pins.{IsPinnedInput}
 use Rattle.mesa_file_tests.proofs.query.read_ahead.answered_alone.Goals as goal
 
 pub page_of-requires-after_bounds : goal.page_of-requires-after_bounds

@@ -1,4 +1,4 @@
-use Rattle.mesa_reference.specs.Plain.{GaveAtMost}
+use Rattle.mesa_test_oracle.specs.Plain.{GaveAtMost}
 use Rattle.mesa_tests.proofs.sessions.replay.expect_blocks.Given as goal
 
 -- no session was given more tokens than there were commands

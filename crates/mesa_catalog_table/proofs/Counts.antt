@@ -1,0 +1,112 @@
+-- Counts of columns.
+use Rattle.std.proofs.Common.{◌≡◌, ℕ, ◌+◌, ◌≤◌, ◌<◌, List, [], ◌∷◌, length, map, get_or, refl, sym, ◌∙◌, ap, arith, Bool, true, false, cond, suc, zero}
+use Rattle.std.specs.Prelude.{◌&&◌, not, nat_le, zip, count_by, is_some, is_none, Option, Some, None, slice_get}
+use Rattle.std.specs.List.{list_all, list_any}
+use Rattle.std.proofs.lemmas.List.FromFn.{get_or-map-range_with_len, length-map-range_with_len}
+use Rattle.std.proofs.lemmas.List.Sums.{sum_by-cons}
+use Rattle.std.proofs.lemmas.List.{length-map}
+use Rattle.std.proofs.lemmas.Option.{slice_get-get_or}
+use Rattle.mesa_value.specs.declared.Agg.{Agg}
+use Rattle.mesa_value.specs.declared.Agg.TheVariants.{Max, Min, Replace, Sum}
+use Rattle.mesa_schema.specs.declared.columns.KeyColumn.{KeyColumn}
+use Rattle.mesa_schema.specs.declared.columns.ValueColumn.{ValueColumn}
+use Rattle.mesa_schema.specs.declared.views.View.{View}
+use Rattle.mesa_schema.specs.declared.views.ViewError.TheVariants.{NoKey, NoValue}
+use Rattle.mesa_schema.specs.Names.{has_name}
+use Rattle.mesa_schema.specs.Columns.{Columns, aggs_of, chosen, key_names, place_of, places_in, value_names}
+use Rattle.mesa_schema.specs.Changes.{Lineage, columns_at, epoch_of}
+use Rattle.mesa_schema.specs.Lineages.{is_view_of}
+use Rattle.mesa_schema.specs.Views.{choice_checked, view_columns}
+use Rattle.mesa_schema.proofs.Choices.{chosen-slot}
+use Rattle.mesa_schema.proofs.Maps.{is_some_position, position_map}
+use Rattle.mesa_schema.proofs.Passing.{passed_first, passed_unless}
+use Rattle.mesa_batch.proofs.NameNumbers.{position-within}
+use Rattle.mesa_batch.specs.Totals.{is_sum, over_bound, sum_bound, sum_places, sums_in}
+use Rattle.mesa_list.specs.Bytes.{same_bytes}
+use Rattle.mesa_catalog_table.specs.Meaning.{widths_of}
+use Rattle.mesa_catalog_table.specs.Stated.{sums_of}
+
+-- ---- value columns of an epoch
+
+pub width_at : (l : Lineage) (epoch : ℕ) → epoch ≤ epoch_of l → get_or (widths_of l) epoch 0 ≡ length (columns_at l epoch).values
+width_at l epoch h = get_or-map-range_with_len (λ e. length (columns_at l e).values) 0 (epoch_of l + 1) epoch epoch 0 (omega arith) (omega arith)
+
+pub width_there : (l : Lineage) (epoch : ℕ) → epoch ≤ epoch_of l → epoch < length (widths_of l)
+width_there l epoch h = let count = length-map-range_with_len (λ e. length (columns_at l e).values) 0 (epoch_of l + 1) in omega arith
+
+-- ---- sum columns
+
+pub sums_at : (l : Lineage) (epoch : ℕ) → epoch ≤ epoch_of l → get_or (sums_of l) epoch 0 ≡ sums_in (aggs_of (columns_at l epoch))
+sums_at l epoch h = get_or-map-range_with_len (λ e. sums_in (aggs_of (columns_at l e))) 0 (epoch_of l + 1) epoch epoch 0 (omega arith) (omega arith)
+
+pub sums_there : (l : Lineage) (epoch : ℕ) → epoch ≤ epoch_of l → epoch < length (sums_of l)
+sums_there l epoch h = let count = length-map-range_with_len (λ e. sums_in (aggs_of (columns_at l e))) 0 (epoch_of l + 1) in omega arith
+
+sum_cons : (i : ℕ) (agg : Agg) (aggs : List Agg) (n : ℕ) → length (sum_places (i + 1) aggs) ≡ n → length (sum_places i (agg ∷ aggs)) ≡ cond (is_sum agg) 1 0 + n
+sum_cons i Sum aggs n e = let first : length (sum_places i (Sum ∷ aggs)) ≡ suc (length (sum_places (i + 1) aggs)) = refl in omega arith
+sum_cons i Min aggs n e = e ∙ omega arith
+sum_cons i Max aggs n e = e ∙ omega arith
+sum_cons i Replace aggs n e = e ∙ omega arith
+
+pub sums_counted : (i : ℕ) (columns : List ValueColumn) → length (sum_places i (map (λ (c : ValueColumn). c.agg) columns)) ≡ count_by (λ (c : ValueColumn). is_sum c.agg) columns
+sums_counted i [] = refl
+sums_counted i (c ∷ columns) =
+    sum_cons i c.agg (map (λ (x : ValueColumn). x.agg) columns) _ (sums_counted (i + 1) columns)
+    ∙ sym (sum_by-cons (λ (x : ValueColumn). cond (is_sum x.agg) 1 0) c columns)
+
+none_not : {X : Type 0} (o : Option X) → is_none o ≡ not (is_some o)
+none_not (Some x) = refl
+none_not None = refl
+
+-- no total passes its bound
+pub none_over : (totals more : List ℕ) → is_none (over_bound totals more) ≡ not (list_any (λ (p : ℕ × ℕ). nat_le sum_bound (p.0 + p.1)) (zip totals more))
+none_over totals more =
+    none_not (over_bound totals more)
+    ∙ ap (λ o. not (is_some o)) (position_map (λ total. nat_le sum_bound total) (λ (p : ℕ × ℕ). p.0 + p.1) (zip totals more))
+    ∙ ap not (is_some_position (λ (p : ℕ × ℕ). nat_le sum_bound (p.0 + p.1)) (zip totals more))
+
+-- ---- columns of a view
+
+both : (a b : Bool) → (a && b) ≡ true → (a ≡ true) × (b ≡ true)
+both true b e = (refl, e)
+both false b e = absurd (cc)
+
+some_is : {X : Type 0} (o : Option X) → is_some o ≡ true → (x : X) × (o ≡ Some x)
+some_is (Some x) e = (x, refl)
+some_is None e = absurd (cc)
+
+pub chosen_count : {C : Type 0} (names : List (List ℕ)) (columns : List C) (asked : List (List ℕ)) → length names ≡ length columns → list_all (λ name. has_name name names) asked ≡ true
+    → length (chosen (places_in names asked) columns) ≡ length asked
+chosen_count names columns [] same all = refl
+chosen_count names columns (name ∷ asked) same all =
+    let parts = both (has_name name names) (list_all (λ n. has_name n names) asked) all in
+    let found = some_is (place_of name names) (is_some_position (same_bytes name) names ∙ parts.0) in
+    let within : found.0 < length names = position-within (same_bytes name) names found.0 found.1 in
+    elim columns as (λ cs. length names ≡ length cs → length (chosen (places_in names (name ∷ asked)) cs) ≡ length (name ∷ asked)) [
+      | [] ↦ λ e. absurd (omega arith)
+      | c ∷ cs ↦ λ e.
+          ap length (chosen-slot names (c ∷ cs) name asked found.0 (get_or (c ∷ cs) found.0 c) found.1 (slice_get-get_or (c ∷ cs) found.0 c (omega arith)))
+          ∙ ap suc (chosen_count names (c ∷ cs) asked e parts.1)
+    ] same
+
+passes_at : {X : Type 0} (p : X → Bool) (xs : List X) (i : ℕ) (x : X) → list_all p xs ≡ true → slice_get xs i ≡ Some x → p x ≡ true
+passes_at p [] i x h e = absurd (cc)
+passes_at p (y ∷ ys) zero x h e = let same : y ≡ x = cc in ap p (sym same) ∙ (both (p y) (list_all p ys) h).0
+passes_at p (y ∷ ys) (suc i) x h e = passes_at p ys i x (both (p y) (list_all p ys) h).1 e
+
+-- a view that is allowed has just the value columns that it names
+pub view_width : (s : Columns) (views : List View) (i : ℕ) (v : View) → list_all (is_view_of s) views ≡ true → slice_get views i ≡ Some v → length (view_columns s v).values ≡ length v.values
+view_width s views i v all at =
+    let ok = passes_at (is_view_of s) views i v all at in
+    let values = (passed_first (choice_checked (key_names s) NoKey v.keys) _ ok).1 in
+    let chosen_ok = (passed_first (choice_checked (value_names s) NoValue v.values) _ values).0 in
+    let there = (passed_unless (list_all (λ name. has_name name (value_names s)) v.values) _ _ chosen_ok).0 in
+    chosen_count (value_names s) s.values v.values (length-map s.values (λ (c : ValueColumn). c.name)) there
+
+-- and just the key columns
+pub view_depth : (s : Columns) (views : List View) (i : ℕ) (v : View) → list_all (is_view_of s) views ≡ true → slice_get views i ≡ Some v → length (view_columns s v).keys ≡ length v.keys
+view_depth s views i v all at =
+    let ok = passes_at (is_view_of s) views i v all at in
+    let keys = (passed_first (choice_checked (key_names s) NoKey v.keys) _ ok).0 in
+    let there = (passed_unless (list_all (λ name. has_name name (key_names s)) v.keys) _ _ keys).0 in
+    chosen_count (key_names s) s.keys v.keys (length-map s.keys (λ (c : KeyColumn). c.name)) there

@@ -1,0 +1,10 @@
+pub use Rattle.mesa_pick_files.specs.mesa_key as mesa_key
+pub use Rattle.mesa_list.specs as mesa_list
+pub mod Batches
+pub mod Adopted
+pub mod Bounds
+pub mod Published
+pub mod Grown
+pub mod Finished
+pub mod Swapped
+pub mod Recasts

@@ -1,0 +1,79 @@
+// The bound of the sums.
+ghost use Rattle.std.specs.Prelude.{◌≡◌, ◌<◌, ◌≤◌, ◌^◌, length, Ok, IfErr, OnOk};
+ghost use Rattle.mesa_schema.specs.Changes.{columns_of};
+ghost use Rattle.mesa_schema.specs.Columns.{aggs_of};
+ghost use Rattle.mesa_batch.specs.Totals.{is_sum as adds, sum_places, sums_in};
+ghost use Rattle.mesa_model.specs.Load.{sum_name};
+ghost use Rattle.mesa_engine.specs.mesa_store_spec.Catalog.{meta_at};
+ghost use Rattle.mesa_engine.specs.mesa_store_spec.Shape.{IsCatalog};
+ghost use Rattle.mesa_file_records.specs.Adopted.{ArePartsOf};
+ghost use Rattle.mesa_file_records.specs.Bounds.{IsDue, parts_checked, totals_checked};
+
+use crate::Unpublished;
+use mesa_batch::fits;
+use mesa_catalog::Catalog;
+use mesa_disk::Made;
+use mesa_list::TryCopy;
+use mesa_model::Refusal;
+use mesa_schema::{Name, Schema, Totals};
+use mesa_open_files::PreparedPart;
+use mesa_value::Agg;
+
+// Refuses a batch with which a sum column would pass its bound: the first, by the tables' numbers.
+pub(crate) fn check_bounds<M: Made>(
+    catalog: &Catalog,
+    parts: &[PreparedPart<M>],
+) -> Result<(), Unpublished>
+    requires shaped { IsCatalog catalog.now.catalogue }
+    requires parts { ArePartsOf catalog.now.catalogue parts.now }
+    ensures checked { OnOk result (parts_checked catalog.now.catalogue parts.now ≡ Ok tt) }
+    ensures refused { IfErr result (IsDue (parts_checked catalog.now.catalogue parts.now)) }
+{
+    'parts: for part in parts {
+        check_totals(catalog, part.table, &part.totals)?;
+    }
+    Ok(())
+}
+
+// Refuses these totals where a sum column of the table would pass its bound with them.
+fn check_totals(catalog: &Catalog, table: u16, totals: &Totals) -> Result<(), Unpublished>
+    requires shaped { IsCatalog catalog.now.catalogue }
+    requires there { table < length catalog.now.catalogue.tables }
+    requires count { length totals.now ≡ sums_in (aggs_of (columns_of (meta_at catalog.now.catalogue table).lineage)) }
+    ensures checked { OnOk result (totals_checked (meta_at catalog.now.catalogue table) totals.now ≡ Ok tt) }
+    ensures refused { IfErr result (IsDue (totals_checked (meta_at catalog.now.catalogue table) totals.now)) }
+{
+    match fits(catalog.totals(table), totals) {
+        Ok(()) => Ok(()),
+        Err(place) => {
+            let schema = catalog.evolving(table).present();
+            Err(Unpublished::Refused(Refusal::SumBound {
+                table: catalog.name(table).copy()?,
+                column: sum_column(schema, place as usize).copy()?,
+            }))
+        }
+    }
+}
+
+// The name of a sum column, by its place among the sum columns.
+fn sum_column(schema: &Schema, place: usize) -> &Name
+    requires { place < length (sum_places 0 (aggs_of schema.now)) }
+    ensures { result.now ≡ sum_name schema.now place }
+{
+    let mut left = place;
+    'columns: for column in schema.values() {
+        if is_sum(column.agg) {
+            if left == 0 {
+                return &column.name;
+            }
+            left -= 1;
+        }
+    }
+    unreachable!()
+}
+
+fn is_sum(agg: Agg) -> bool
+    ensures { result ≡ adds agg }
+{
+    matches!(agg, Agg::Sum)
+}

@@ -1,6 +1,0 @@
-use Rattle.mesa_image_spec.proofs.Agreeing.{agree_kept, agree_stocked, agree_wants}
-use Rattle.mesa_image_spec.proofs.AllSourced.{agree_sourced}
-use Rattle.mesa_image_spec.proofs.files.rows_count_where_named.Goals as goal
-
-pub returns : goal.returns
-returns g = record { kept = agree_kept; stocked = agree_stocked; sourced = λ old new written c same has. agree_sourced old new written c same has; wanted = agree_wants }

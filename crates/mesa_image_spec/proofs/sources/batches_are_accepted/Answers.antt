@@ -1,5 +1,0 @@
-use Rattle.mesa_image_spec.proofs.Accepted.{read_accepted}
-use Rattle.mesa_image_spec.proofs.sources.batches_are_accepted.Goals as goal
-
-pub returns : goal.returns
-returns g c words batch read = read_accepted c words batch read

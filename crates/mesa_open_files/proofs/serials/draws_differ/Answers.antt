@@ -1,0 +1,8 @@
+use Rattle.mesa_open_files.proofs.Drafts.{others_differ, own_differ}
+use Rattle.mesa_open_files.proofs.serials.draws_differ.Goals as goal
+
+pub returns-clause-own : goal.returns-clause-own
+returns-clause-own c = own_differ
+
+pub returns-clause-others : goal.returns-clause-others
+returns-clause-others c = others_differ

@@ -1,0 +1,79 @@
+// Opening the files of a range.
+ghost use Rattle.std.specs.Prelude.{◌≡◌, ◌≢◌, ◌-◌, ◌<◌, ◌≤◌, ◌^◌, ℕ, IfOk, IfSome, length};
+ghost use Rattle.std.specs.List.{AllByRecursion};
+ghost use Rattle.mesa_schema.specs.Changes.{epoch_of};
+ghost use Rattle.mesa_disk.specs.Story.{Unmoved};
+ghost use Rattle.mesa_validate.specs.mesa_store_spec.Fitting.{deltas_of};
+ghost use Rattle.mesa_validate.specs.mesa_store_spec.Moves.{is_base, last_of};
+ghost use Rattle.mesa_pick_files.specs.Folding.{folded_deltas};
+ghost use Rattle.mesa_pick_files.specs.Lent.{AreOfEpochs, lent_in, with_rows};
+ghost use Rattle.mesa_catalog_table.specs.Meaning.{IsTable, meta_of};
+ghost use Rattle.mesa_open_files.specs.Opening.{Counted};
+ghost use Rattle.mesa_open_files.specs.Spares.{HasSpares};
+ghost use Rattle.mesa_open_files.specs.Tasks.{IsTask};
+ghost use Rattle.mesa_pick_files.specs.Gathered.{IsGathered, is_fault_among, unread_views};
+
+use crate::folding::folded;
+use crate::parts::{Part, Parts, open_parts};
+use crate::{Deltas, table_files};
+use mesa_disk::{Disk, Made};
+use mesa_span::Work;
+use mesa_catalog_table::Table;
+use mesa_open_files::{Spare, Task, Unopened};
+use std::alloc::Global;
+
+/// The task of a work on the table of a number, which has no lease yet: the table's files of what it folds are open. They are opened once for each part of the merge, and at least once. The first file that isn't the recorded one ends the opening, and is told in the task. Each view's rows are to be derived from the table's.
+pub fn gather<M: Made, D: Disk<M>>(
+    alloc: Global,
+    disk: &mut D,
+    table: &Table,
+    number: u16,
+    work: Work,
+    parts: u8,
+) -> Result<Task<D::Reader>, Unopened>
+    requires { (next : ℕ) × (next < 2 ^ 32) × IsTable next table.now × AllByRecursion (λ d. d.epoch ≤ epoch_of table.now.evolving.value) (deltas_of (meta_of next table.now)) }
+    ensures unmoved { Unmoved (D.story disk.old) (D.story disk.new) }
+    ensures counted { Counted (D.story disk.old) (D.story disk.new) (is_fault_among result) }
+    ensures table { IfOk result (λ t. t.table ≡ number) }
+    ensures work { IfOk result (λ t. t.work ≡ work) }
+    ensures task { IfOk result (IsTask D.Reader.bytes table.now.evolving.value) }
+    ensures views { IfOk result (λ t. t.views.items ≡ unread_views 0 (length table.now.evolving.value.views)) }
+    ensures damage { IfOk result (λ t. IfSome t.damage (λ d. d.want ≢ d.found)) }
+    ensures spare { IfOk result (HasSpares D.Reader.bytes (parts - 1)) }
+    ensures files { (next : ℕ) → IsTable next table.now → IfOk result (IsGathered D.Reader.bytes D.Reader.faults (D.story disk.old).told (meta_of next table.now) work) }
+{
+    let deltas = range_deltas(table, work);
+    let Ok(wanted) = table_files(alloc, &table.evolving, &deltas) else {
+        return Err(Unopened::Memory);
+    };
+    let count = table.evolving.views();
+    match open_parts(alloc, disk, &wanted, count, parts) {
+        Ok(Parts { first, spare }) => {
+            let Part { readers, damage } = first;
+            let Spare { inputs, views } = readers;
+            Ok(Task {
+                table: number,
+                work,
+                lease: 0,
+                epoch: table.evolving.epoch(),
+                inputs,
+                views,
+                damage,
+                spare,
+            })
+        }
+        Err(unopened) => Err(unopened),
+    }
+}
+
+// The deltas that a work folds.
+fn range_deltas(table: &Table, work: Work) -> Deltas
+    requires { (next : ℕ) × (next < 2 ^ 32) × IsTable next table.now }
+    ensures range { (next : ℕ) → IsTable next table.now → with_rows (lent_in result) ≡ with_rows (folded_deltas (meta_of next table.now) (is_base work) (last_of work)) }
+    ensures epochs { (next epoch : ℕ) → IsTable next table.now → AllByRecursion (λ d. d.epoch ≤ epoch) (deltas_of (meta_of next table.now)) → AreOfEpochs epoch (lent_in result) }
+{
+    match work {
+        Work::Base { to } => folded(table, true, to),
+        Work::Cumulative { to, .. } => folded(table, false, to),
+    }
+}

@@ -1,5 +1,0 @@
-use Rattle.mesa_publishing.proofs.KeysOnce.{totals_by_key}
-use Rattle.mesa_publishing.proofs.laws.totals_stay.Goals as goal
-
-pub returns : goal.returns
-returns c = totals_by_key

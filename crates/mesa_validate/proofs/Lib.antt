@@ -1,0 +1,11 @@
+pub use Rattle.mesa_catalog.proofs.mesa_batch as mesa_batch
+pub use Rattle.mesa_catalog.proofs as mesa_catalog
+pub use Rattle.mesa_catalog.proofs.mesa_store_spec as mesa_store_spec
+pub use Rattle.mesa_order.proofs as mesa_order
+pub mod Doing
+pub mod Fits
+pub mod Seen
+pub mod Answering
+pub mod Explained
+pub mod Finding
+pub mod ReadBy
