@@ -21,12 +21,12 @@ mod words;
 
 pub use batch::Batch;
 pub use builder::BatchBuilder;
+pub use contents::merge;
+pub use fold::{combine_into, combines_all, fold_in};
+pub use folding::{folds_totals, totals_outlast};
 pub use glance::{Glance, Glanced};
 pub use laws::{goes_row_by_row, keeps_forms, totals_last};
 pub use loading::{LoadRows, RowView};
 pub use recasting::{row_totals, sums_among, totals_recast};
 pub use totals::{OVER_BOUND, fits};
 pub use words::{BatchError, RowWords};
-pub use fold::{combine_into, combines_all, fold_in};
-pub use folding::{folds_totals, totals_outlast};
-pub use contents::merge;

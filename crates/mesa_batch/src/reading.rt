@@ -8,8 +8,11 @@ ghost use Rattle.mesa_schema.specs.Numbers.{key_value_of};
 ghost use Rattle.mesa_batch.specs.Batch.{key_from, row_of, values_from};
 ghost use Rattle.mesa_batch.specs.Reading.{IsRefusal, spelled};
 
-use mesa_schema::{Amount, KeyColumn, KeyText, KeyType, LentRow, Schema, ValueColumn, amount, encode_int, encode_text, signed};
 use mesa_list::FieldsView;
+use mesa_schema::{
+    Amount, KeyColumn, KeyText, KeyType, LentRow, Schema, ValueColumn, amount, encode_int,
+    encode_text, signed,
+};
 use std::alloc::{AllocError, AllocFailed};
 
 /// Why a row's fields make no row of its table.

@@ -10,8 +10,8 @@ ghost use Rattle.mesa_block.specs.Layout.{value};
 ghost use Rattle.mesa_block.specs.Spelling.{cell, front, lengths, rest, column, columns, value_column, value_columns};
 
 use crate::Width;
-use mesa_schema::{Amount, Column, ColumnValue, KeyColumns, KeyType, Schema};
 use mesa_list::Fields;
+use mesa_schema::{Amount, Column, ColumnValue, KeyColumns, KeyType, Schema};
 use std::alloc::{AllocError, Global};
 use std::mem::swap;
 

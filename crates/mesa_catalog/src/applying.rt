@@ -9,12 +9,12 @@ ghost use Rattle.mesa_catalog_table.specs.Meaning.{IsTable, meta_of};
 
 mod loading;
 
-use crate::ready::Ready;
 use crate::catalog_tables::CatalogTables;
+use crate::ready::Ready;
 use loading::load;
+use mesa_catalog_table::{Delta, ReadyPart, ReadyRecast, Table, recast, swap};
 use mesa_list::Items;
 use mesa_schema::{Evolving, Totals};
-use mesa_catalog_table::{Delta, ReadyPart, ReadyRecast, Table, recast, swap};
 use std::sync::Arc;
 
 impl CatalogTables {

@@ -5,13 +5,13 @@ ghost use Rattle.mesa_catalog_table.specs.mesa_store_spec.Catalog.{applied, empt
 ghost use Rattle.mesa_catalog_table.specs.mesa_store_spec.Fitting.{brings_new_files, fits as fits_catalog, kind_fits};
 ghost use Rattle.mesa_catalog.specs.Lookups.{generation_of, turns_generation};
 
+use crate::catalog_tables::CatalogTables;
 use crate::copying::share_tables;
 use crate::newness::{brings_new, brings_rising, greatest_with};
 use crate::ready::Ready;
 use crate::readying::make_room;
-use crate::catalog_tables::CatalogTables;
-use mesa_record::Record;
 use mesa_catalog_table::NoRows;
+use mesa_record::Record;
 use std::alloc::{AllocError, Global};
 use std::marker::Model;
 

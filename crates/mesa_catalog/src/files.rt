@@ -12,9 +12,9 @@ ghost use Rattle.mesa_catalog.specs.Meaning.{AreCatalogTables, catalogue_of};
 
 use crate::Catalog;
 use crate::catalog_tables::CatalogTables;
+use mesa_catalog_table::{Recorded, Table};
 use mesa_file::FileId;
 use mesa_record::Record;
-use mesa_catalog_table::{Recorded, Table};
 use std::alloc::{AllocError, Global};
 
 impl Catalog {

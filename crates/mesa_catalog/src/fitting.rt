@@ -6,13 +6,13 @@ ghost use Rattle.mesa_catalog_table.specs.mesa_store_spec.Fitting.{alter_fits, e
 ghost use Rattle.mesa_catalog.specs.Meaning.{AreCatalogTables, catalogue_of};
 ghost use Rattle.mesa_catalog_table.specs.Meaning.{IsTable, meta_of};
 
-use crate::catalog_tables::{MAX_TABLES, CatalogTables};
-use mesa_record::{Files, Part, Recasting, Record};
-use mesa_schema::{Change, KeyColumn, MAX_VIEWS, Name, Schema, ValueColumn};
+use crate::catalog_tables::{CatalogTables, MAX_TABLES};
 use mesa_catalog_table::{
     Table, allows_recast, counts_files, counts_files_if_any, counts_totals, keeps_bound,
     may_be_base, may_be_cumulative,
 };
+use mesa_record::{Files, Part, Recasting, Record};
+use mesa_schema::{Change, KeyColumn, MAX_VIEWS, Name, Schema, ValueColumn};
 
 // The number of the last run that there may be.
 pub(crate) const MAX_RUNS: u32 = (1 << 24) - 1;

@@ -4,6 +4,7 @@
 mod applying;
 mod begun;
 mod catalog;
+mod catalog_tables;
 mod copying;
 mod files;
 mod finding;
@@ -15,7 +16,6 @@ mod ready;
 mod readying;
 mod restored_ids;
 mod restoring;
-mod catalog_tables;
 mod stating;
 
 pub use begun::Begun;

@@ -10,10 +10,10 @@ ghost use Rattle.mesa_catalog.specs.Lookups.{changes_of, generation_of, known_in
 
 use crate::Catalog;
 use mesa_batch::{Glance, Glanced};
+use mesa_catalog_table::{Delta, Relation, Table, ranges};
 use mesa_list::TryCopy;
 use mesa_schema::{Evolving, Name, Totals};
 use mesa_span::Ranges;
-use mesa_catalog_table::{Delta, Relation, Table, ranges};
 use std::alloc::{AllocError, Global};
 use std::sync::Arc;
 

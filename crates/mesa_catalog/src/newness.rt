@@ -10,9 +10,9 @@ ghost use Rattle.mesa_catalog_table.specs.Named.{file_ids, own_if_any, table_ids
 ghost use Rattle.mesa_catalog.specs.Named.{RiseTo, held_ids, ids_brought, is_once_new, part_ids, recast_base_ids, recast_ids, told_id};
 
 use crate::catalog_tables::CatalogTables;
-use mesa_file::FileId;
-use mesa_record::{Files, Part, RecastBase, Recasting, Record, CheckpointSingle, ViewRef};
 use mesa_catalog_table::Table;
+use mesa_file::FileId;
+use mesa_record::{CheckpointSingle, Files, Part, RecastBase, Recasting, Record, ViewRef};
 
 // How many ids of files a run has.
 pub(crate) const IDS_OF_RUN: u64 = 1 << 40;
@@ -145,7 +145,8 @@ fn parts_are_new(catalog_tables: &CatalogTables, r: &Record, parts: &[Part]) -> 
 fn files_are_new(catalog_tables: &CatalogTables, r: &Record, files: &Files) -> bool
     ensures { result ≡ list_all (is_once_new catalog_tables.now.run (held_ids catalog_tables.now) (ids_brought r.now)) (file_ids files.now) }
 {
-    is_new(catalog_tables, r, files.file.id.number()) && views_are_new(catalog_tables, r, files.views.as_slice())
+    is_new(catalog_tables, r, files.file.id.number())
+        && views_are_new(catalog_tables, r, files.views.as_slice())
 }
 
 fn views_are_new(catalog_tables: &CatalogTables, r: &Record, views: &[ViewRef]) -> bool
@@ -159,7 +160,8 @@ fn views_are_new(catalog_tables: &CatalogTables, r: &Record, views: &[ViewRef]) 
 fn recast_is_new(catalog_tables: &CatalogTables, r: &Record, told: &Recasting) -> bool
     ensures { result ≡ list_all (is_once_new catalog_tables.now.run (held_ids catalog_tables.now) (ids_brought r.now)) (recast_ids told.now) }
 {
-    base_is_new(catalog_tables, r, &told.base) && singles_are_new(catalog_tables, r, told.singles.as_slice())
+    base_is_new(catalog_tables, r, &told.base)
+        && singles_are_new(catalog_tables, r, told.singles.as_slice())
 }
 
 fn base_is_new(catalog_tables: &CatalogTables, r: &Record, base: &Option<RecastBase>) -> bool
@@ -183,9 +185,7 @@ fn own_is_new(catalog_tables: &CatalogTables, r: &Record, files: &Option<Files>)
 fn singles_are_new(catalog_tables: &CatalogTables, r: &Record, singles: &[CheckpointSingle]) -> bool
     ensures { result ≡ list_all (λ (s : Told). is_once_new catalog_tables.now.run (held_ids catalog_tables.now) (ids_brought r.now) s.files.file.id) singles.now }
 {
-    singles
-        .iter()
-        .all(|single| is_new(catalog_tables, r, single.files.file.id.number()))
+    singles.iter().all(|single| is_new(catalog_tables, r, single.files.file.id.number()))
 }
 
 // Whether an id is of the last run, not named, and stands once among those of the record.

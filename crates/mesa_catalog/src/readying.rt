@@ -11,16 +11,16 @@ ghost use Rattle.mesa_catalog_table.specs.Meaning.{ending_of};
 ghost use Rattle.mesa_catalog.specs.Readied.{AreRoomier, HasRoom, IsMade, IsMadePart, record_in};
 ghost use Rattle.mesa_catalog_table.specs.Readied.{HasSpare, part_in};
 
+use crate::catalog_tables::CatalogTables;
 use crate::lineages::{lineage_with_change, lineage_with_view, new_lineage, widths_with};
 use crate::ready::Ready;
-use crate::catalog_tables::CatalogTables;
-use mesa_list::{Items, TryCopy};
-use mesa_record::{Files, Part, Recasting, Record};
-use mesa_schema::{Change, KeyColumn, Name, ValueColumn};
 use mesa_catalog_table::{
     Base, Delta, ReadyPart, Table, make_recast, make_spare, no_totals, totals_changed, totals_with,
     width_of,
 };
+use mesa_list::{Items, TryCopy};
+use mesa_record::{Files, Part, Recasting, Record};
+use mesa_schema::{Change, KeyColumn, Name, ValueColumn};
 use std::alloc::{AllocError, Global};
 use std::sync::Arc;
 

@@ -7,14 +7,17 @@ ghost use Rattle.mesa_catalog_table.specs.mesa_store_spec.Ids.{named};
 ghost use Rattle.mesa_catalog.specs.Meaning.{AreCatalogTables, catalogue_of};
 ghost use Rattle.mesa_catalog.specs.Restored.{ids_rise};
 
+use crate::catalog_tables::CatalogTables;
 use crate::files::push_ids;
 use crate::newness::IDS_OF_RUN;
-use crate::catalog_tables::CatalogTables;
 use mesa_file::FileId;
 use std::alloc::{AllocError, Global};
 
 // The greatest of a number of ids, if each is that of one file, and of a run up to the last one. They are sorted for that.
-pub(crate) fn greatest_id(alloc: Global, catalog_tables: &CatalogTables) -> Result<Option<u64>, AllocError>
+pub(crate) fn greatest_id(
+    alloc: Global,
+    catalog_tables: &CatalogTables,
+) -> Result<Option<u64>, AllocError>
     requires { AreCatalogTables catalog_tables.now }
     ensures fits { IfOk result (λ greatest. is_some greatest ≡ ids_fit (catalogue_of catalog_tables.now)) }
     ensures most { IfOk result (λ greatest. IfSome greatest (λ most. AllByRecursion (λ id. id ≤ most) (named (catalogue_of catalog_tables.now)))) }

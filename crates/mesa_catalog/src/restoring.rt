@@ -11,14 +11,14 @@ ghost use Rattle.mesa_catalog.specs.Meaning.{catalogue_of};
 ghost use Rattle.mesa_catalog.specs.Restored.{table_names};
 
 use crate::Catalog;
+use crate::catalog_tables::{CatalogTables, MAX_TABLES};
 use crate::fitting::MAX_RUNS;
 use crate::restored_ids::greatest_id;
-use crate::catalog_tables::{MAX_TABLES, CatalogTables};
+use mesa_catalog_table::{NoRows, RestoreError, Table, restore};
 use mesa_disk::Area;
 use mesa_list::{Items, TryCopy};
 use mesa_record::{Checkpoint, CheckpointTable};
 use mesa_schema::{Name, repeated_place};
-use mesa_catalog_table::{NoRows, RestoreError, Table, restore};
 use std::alloc::{AllocError, Global};
 use std::collections::VecDeque;
 

@@ -6,9 +6,9 @@ ghost use Rattle.mesa_catalog_table.specs.mesa_store_spec.Checkpoint.{checkpoint
 ghost use Rattle.mesa_catalog_table.specs.Meaning.{IsTable, meta_of};
 
 use crate::Catalog;
-use mesa_list::Items;
-use mesa_record::{Checkpoint, Record, CheckpointTable};
 use mesa_catalog_table::Table;
+use mesa_list::Items;
+use mesa_record::{Checkpoint, CheckpointTable, Record};
 use std::alloc::{AllocError, Global};
 
 impl Catalog {

@@ -16,7 +16,7 @@ use crate::stating::copy_files;
 use crate::{Base, Delta, Loaded, ReadyRecast, Table};
 use mesa_batch::totals_recast;
 use mesa_list::{Items, TryCopy};
-use mesa_record::{RecastBase, Recasting, CheckpointSingle};
+use mesa_record::{CheckpointSingle, RecastBase, Recasting};
 use mesa_schema::{Evolving, Name, Totals};
 use std::alloc::{AllocError, Global};
 use std::sync::Arc;

@@ -17,7 +17,7 @@ ghost use Rattle.mesa_catalog_table.specs.Stated.{stating_loaded};
 use crate::counting::{counts_views, is_sum, keep_bound};
 use crate::same::same_views;
 use crate::{Delta, Loaded, Table};
-use mesa_record::{Files, Recasting, CheckpointSingle};
+use mesa_record::{CheckpointSingle, Files, Recasting};
 use mesa_schema::{Evolving, Name, Totals, ValueColumn, place_of};
 use std::sync::Arc;
 

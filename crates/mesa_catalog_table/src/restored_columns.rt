@@ -15,7 +15,7 @@ use crate::counting::{epochs_of, first_widths, keep_bound, repeated, sums_now};
 use crate::restoring::RestoreError;
 use crate::{counts_files, counts_totals, width_of};
 use mesa_list::Items;
-use mesa_record::{Files, CheckpointRange, CheckpointSingle};
+use mesa_record::{CheckpointRange, CheckpointSingle, Files};
 use mesa_schema::{
     Change, ChangeError, Evolving, KeyColumn, MAX_CHANGES, MAX_VIEWS, Schema, Totals, ValueColumn,
     View, ViewError,

@@ -187,7 +187,10 @@ fn are_tens(start: u64, ranges: &[CheckpointRange]) -> bool
     true
 }
 
-fn restore_ranges(alloc: Global, stated: Items<CheckpointRange>) -> Result<Vec<Arc<Delta>>, AllocError>
+fn restore_ranges(
+    alloc: Global,
+    stated: Items<CheckpointRange>,
+) -> Result<Vec<Arc<Delta>>, AllocError>
     ensures { IfOk result (λ made. map value_in made.items ≡ map delta_stated stated) }
 {
     let mut deltas = Vec::with_capacity(alloc, stated.len())?;

@@ -6,7 +6,7 @@ ghost use Rattle.mesa_catalog_table.specs.Stated.{stating_loaded};
 
 use crate::{Base, Delta, Loaded, Table};
 use mesa_list::{Items, TryCopy};
-use mesa_record::{Files, CheckpointRange, CheckpointSingle, CheckpointTable};
+use mesa_record::{CheckpointRange, CheckpointSingle, CheckpointTable, Files};
 use mesa_schema::{Change, Evolving, KeyColumn, Totals, ValueColumn, View};
 use std::alloc::{AllocError, Global};
 use std::sync::Arc;

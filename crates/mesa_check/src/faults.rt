@@ -25,10 +25,10 @@ use crate::range::{Held, Kind};
 use crate::ranges::held_ranges;
 use crate::testing::{Test, test_ranges};
 use crate::totals::{add_up, are_at_most};
+use mesa_catalog_table::Table;
 use mesa_check_file::CheckError;
 use mesa_disk::{Disk, Made};
 use mesa_key::KeyBytes;
-use mesa_catalog_table::Table;
 use std::alloc::{AllocError, Global};
 
 /// A table's fault: its range of versions, and the key that shows it, if a single one does.

@@ -14,10 +14,10 @@ ghost use Rattle.mesa_check.specs.Tested.{AreSumsFound, HasRows, live_file_of};
 use mesa_check_file::{CheckError, Sums, examine};
 use mesa_delta::one_file;
 use mesa_disk::{Disk, FileRef, Made};
+use mesa_open_files::Wanted;
 use mesa_pick_files::own_columns;
 use mesa_record::ViewRef;
 use mesa_schema::Evolving;
-use mesa_open_files::Wanted;
 use std::alloc::Global;
 use std::sync::Arc;
 

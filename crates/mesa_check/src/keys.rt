@@ -23,14 +23,14 @@ use crate::parts::parts;
 use crate::range::Held;
 use crate::testing::Test;
 use crate::totals::keep_bound;
+use mesa_catalog_table::Table;
 use mesa_check_file::{CheckError, cumulative_difference, view_difference};
 use mesa_disk::{Disk, Made};
 use mesa_key::KeyBytes;
+use mesa_open_files::Wanted;
 use mesa_pick_files::{own_columns, table_files};
 use mesa_record::{Files, ViewRef};
 use mesa_schema::Evolving;
-use mesa_catalog_table::Table;
-use mesa_open_files::Wanted;
 use std::alloc::Global;
 use std::sync::Arc;
 

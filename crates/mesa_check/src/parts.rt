@@ -9,8 +9,8 @@ ghost use Rattle.mesa_check.specs.Held.{delta_of};
 ghost use Rattle.mesa_check.specs.Parts.{parts_of};
 
 use crate::testing::Test;
-use mesa_pick_files::{Deltas, singles_to};
 use mesa_catalog_table::{Loaded, Table};
+use mesa_pick_files::{Deltas, singles_to};
 
 /// The deltas whose fold the cumulative that ends at a version is to have: the singletons of its range; or the cumulative before it, where one is told, and the singletons since then. Takes no memory.
 pub(crate) fn parts<'a>(table: &'a Table, before: Option<&Test<'a>>, to: u32) -> Deltas<'a>

@@ -3,9 +3,9 @@ ghost use Rattle.std.specs.Prelude.{◌≡◌};
 ghost use Rattle.mesa_pick_files.specs.Lent.{now_if_any};
 ghost use Rattle.mesa_check.specs.Held.{delta_of};
 
+use mesa_catalog_table::Delta;
 use mesa_record::Files;
 use mesa_schema::Totals;
-use mesa_catalog_table::Delta;
 
 /// What a range is.
 #[derive(Clone, Copy)]

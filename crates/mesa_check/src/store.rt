@@ -18,12 +18,12 @@ ghost use Rattle.mesa_check.specs.Tested.{HasRows};
 use crate::faults::{Shown, table_fault};
 use crate::{Verdict, sound_where_no_fault};
 use mesa_catalog::Catalog;
+use mesa_catalog_table::Table;
 use mesa_check_file::CheckError;
 use mesa_disk::{Disk, Made};
-use mesa_store_spec::{catalogs_are_shaped, catalogs_own_ids};
 use mesa_list::TryCopy;
 use mesa_recover::Opened;
-use mesa_catalog_table::Table;
+use mesa_store_spec::{catalogs_are_shaped, catalogs_own_ids};
 use std::alloc::{AllocError, Global};
 
 /// Whether a store that was read is sound, and else its first fault. Each file that the catalogue names is read once, and once more for each comparison that it is in: a singleton's with one cumulative, a cumulative's with its singletons and with the next cumulative, and a table's file with each of its views'. A block of each file that is open is held, and of a view's file the groups of its table's rows. Nothing is written.

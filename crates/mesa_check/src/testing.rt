@@ -16,9 +16,9 @@ use crate::totals::{agree, no_sums};
 use mesa_check_file::CheckError;
 use mesa_disk::{Disk, Made};
 use mesa_list::Items;
+use mesa_open_files::Wanted;
 use mesa_record::Files;
 use mesa_schema::Evolving;
-use mesa_open_files::Wanted;
 use std::alloc::{AllocError, Global};
 use std::sync::Arc;
 

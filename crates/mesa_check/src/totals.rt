@@ -16,9 +16,9 @@ ghost use Rattle.mesa_pick_files.specs.Lent.{now_if_any};
 use crate::range::{Held, Kind};
 use crate::testing::Test;
 use mesa_batch::OVER_BOUND;
+use mesa_catalog_table::no_totals;
 use mesa_list::Items;
 use mesa_schema::{Schema, Totals};
-use mesa_catalog_table::no_totals;
 use std::alloc::{AllocError, Global};
 
 /// Those of no rows.

@@ -18,14 +18,16 @@ ghost use Rattle.mesa_check_file.specs.Difference.{first_difference};
 ghost use Rattle.mesa_check_file.specs.Examined.{is_read_failure};
 ghost use Rattle.mesa_check_file.specs.Compared.{HasFile, HasFileIfAny, HaveFiles, IsLiftedTo, present_if_any, present_parts, present_rows};
 
+use crate::CheckError;
 use crate::answers::answer;
 use crate::merged::{first_key, merged_difference};
-use crate::CheckError;
 use mesa_delta::Input;
 use mesa_disk::{Disk, Made};
 use mesa_key::KeyBytes;
 use mesa_merge::Merge;
-use mesa_open_files::{Met, Opened, Unopened, Wanted, open_all, open_one, retire_all, retire_input};
+use mesa_open_files::{
+    Met, Opened, Unopened, Wanted, open_all, open_one, retire_all, retire_input,
+};
 use std::alloc::Global;
 
 /// The first key at which the rows of a cumulative's own file, or none where it has no file, differ from the fold of the files of its range's singletons, all at present. Each file is read once, and of each one block is held.

@@ -19,12 +19,12 @@ use crate::rows::next_row;
 use crate::tally::Tally;
 use crate::totals::{Sums, sum_totals};
 use mesa_block::fits_alone;
-use mesa_scan::Cursor;
 use mesa_delta::{FileError, Input};
 use mesa_disk::{Disk, FileReader, FileRef, Made};
 use mesa_list::TryCopy;
-use mesa_schema::{Evolving, Lift, Row, Schema};
 use mesa_open_files::{Met, Wanted, open_one, retire_input};
+use mesa_scan::Cursor;
+use mesa_schema::{Evolving, Lift, Row, Schema};
 use std::alloc::{AllocError, Global};
 use std::sync::Arc;
 

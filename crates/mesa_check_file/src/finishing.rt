@@ -14,10 +14,10 @@ ghost use Rattle.mesa_merge.specs.Inputs.{AreAll, AreTold, knowns_of, lifted_par
 ghost use Rattle.mesa_merge.specs.Merged.{HasMerged, inputs_of};
 
 use crate::next_row;
-use mesa_scan::Cursor;
 use mesa_delta::{FileError, Input};
 use mesa_disk::FileReader;
 use mesa_merge::Merge;
+use mesa_scan::Cursor;
 use mesa_schema::Row;
 use std::alloc::Global;
 

@@ -20,11 +20,11 @@ mod tally;
 mod totals;
 mod views;
 
-pub use error::CheckError;
-pub use examining::examine;
-pub use rows::next_row;
-pub use totals::Sums;
 pub use comparing::differing_key;
 pub use cumulatives::cumulative_difference;
+pub use error::CheckError;
+pub use examining::examine;
 pub use laws::same_rows_differ_nowhere;
+pub use rows::next_row;
+pub use totals::Sums;
 pub use views::view_difference;

@@ -17,11 +17,11 @@ ghost use Rattle.mesa_check_file.specs.Difference.{first_difference};
 use crate::finishing::{finish_both, finish_merge};
 use crate::keys::difference_at;
 use crate::{next_row, same_rows_differ_nowhere};
-use mesa_scan::Cursor;
 use mesa_delta::{FileError, Input};
 use mesa_disk::FileReader;
 use mesa_key::KeyBytes;
 use mesa_merge::{Merge, all_are_told};
+use mesa_scan::Cursor;
 use mesa_schema::{Row, folds_by_key};
 use std::alloc::Global;
 

@@ -10,9 +10,9 @@ ghost use Rattle.mesa_schema.specs.Rows.{IsRowOf};
 ghost use Rattle.mesa_delta.specs.Reading.{IsIndexed, index_of};
 ghost use Rattle.mesa_delta.specs.declared.error.FileError.TheVariants as file_error;
 
-use mesa_scan::Cursor;
 use mesa_delta::{FileError, Input};
 use mesa_disk::FileReader;
+use mesa_scan::Cursor;
 use mesa_schema::Row;
 
 /// Puts the next row of an input, lifted to the present, into this one, in the room that it has: whether there is one. Beside it at most a block of the file is held. After an Err the row may hold anything.

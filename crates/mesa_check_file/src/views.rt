@@ -14,9 +14,9 @@ ghost use Rattle.mesa_check_file.specs.Difference.{first_difference};
 ghost use Rattle.mesa_check_file.specs.Examined.{is_read_failure};
 ghost use Rattle.mesa_check_file.specs.Compared.{HasFile, present_rows};
 
+use crate::CheckError;
 use crate::answers::answer;
 use crate::grouped::grouped_difference;
-use crate::CheckError;
 use mesa_delta::Input;
 use mesa_disk::{Disk, Made};
 use mesa_key::KeyBytes;

@@ -13,6 +13,6 @@ mod restating;
 mod trash;
 
 pub use commit::commit_turn;
-pub use restating::restate;
 pub use holding::{holds_tell_files, turns_keep_files};
+pub use restating::restate;
 pub use trash::{Dropped, Hold, freed, is_held, keep_held};

@@ -25,8 +25,8 @@ use mesa_delta::{FileError, Input};
 use mesa_disk::{Bench, FileReader, Made};
 use mesa_file::FileId;
 use mesa_merge::Merge;
-use mesa_schema::Schema;
 use mesa_open_files::{CompactError, MadeFile};
+use mesa_schema::Schema;
 use std::alloc::Global;
 use std::mem;
 

@@ -9,8 +9,8 @@ ghost use Rattle.mesa_compact.specs.Writing.{HasCauses};
 use mesa_delta::{DeltaWriter, FileError};
 use mesa_disk::{Bench, DraftError, Made};
 use mesa_file::FileId;
-use mesa_schema::Schema;
 use mesa_open_files::{CompactError, MadeFile};
+use mesa_schema::Schema;
 use std::alloc::Global;
 
 /// A file of no rows yet, through a new draft under this id.

@@ -10,8 +10,8 @@ ghost use Rattle.mesa_compact.specs.Sources.{ArePlaces, AreSeen, AreSources, Has
 
 use mesa_answer::{Groups, Regrouping};
 use mesa_disk::FileReader;
-use mesa_schema::{Evolving, Schema};
 use mesa_open_files::TaskView;
+use mesa_schema::{Evolving, Schema};
 use std::alloc::{AllocError, Global};
 
 /// The places of each view's columns among its table's.

@@ -21,8 +21,8 @@ use mesa_answer::Groups;
 use mesa_delta::{DeltaWriter, FileError};
 use mesa_disk::{Bench, Draft, Made};
 use mesa_file::FileId;
-use mesa_schema::{Row, Schema, groups_rise};
 use mesa_open_files::{CompactError, MadeFile};
+use mesa_schema::{Row, Schema, groups_rise};
 use std::alloc::Global;
 
 // The file of a view's groups, through a new draft under this id.

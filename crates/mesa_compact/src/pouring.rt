@@ -20,13 +20,13 @@ ghost use Rattle.mesa_compact.specs.Writing.{HasCauses, damaged_by};
 
 use crate::grouping::put_all;
 use mesa_answer::Groups;
+use mesa_batch::folds_totals;
 use mesa_delta::{DeltaWriter, FileError};
 use mesa_disk::{Damage, Draft, FileReader, Made, Seen};
 use mesa_file::FileId;
-use mesa_batch::folds_totals;
 use mesa_merge::Merge;
-use mesa_schema::folds_by_key;
 use mesa_open_files::CompactError;
+use mesa_schema::folds_by_key;
 
 // Gives a writer all rows of a merge, and puts them into the groups. A total that leaves its type is told of the newest file that holds the key with which it leaves. A file has fewer rows than a number of 64 bits can count.
 pub(crate) fn pour<M: Made, T: Draft<M>, R: FileReader>(

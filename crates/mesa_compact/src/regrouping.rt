@@ -31,8 +31,8 @@ use mesa_delta::{FileError, Input};
 use mesa_disk::{Bench, FileReader, Made};
 use mesa_file::FileId;
 use mesa_merge::Merge;
-use mesa_schema::{Row, RowList, Schema, Totals, folds_by_key, groups_rise};
 use mesa_open_files::{CompactError, MadeFile};
+use mesa_schema::{Row, RowList, Schema, Totals, folds_by_key, groups_rise};
 use mesa_view::put_row;
 use std::alloc::Global;
 

@@ -19,8 +19,8 @@ use crate::gatherers::{gatherers_of, regroupings};
 use crate::views::view_files;
 use mesa_delta::{FileError, Input};
 use mesa_disk::{Bench, FileReader, Made};
-use mesa_schema::Evolving;
 use mesa_open_files::{CompactError, MadeFiles, NewDelta, Serials, Task, TaskView};
+use mesa_schema::Evolving;
 use std::alloc::Global;
 
 /// Merges a task's range into one delta, through new drafts. A view whose own files are there is merged of them; any other is grouped from the table's rows as they are merged.

@@ -28,8 +28,8 @@ use mesa_answer::Groups;
 use mesa_delta::FileError;
 use mesa_disk::{Bench, FileReader, Made};
 use mesa_file::FileId;
-use mesa_schema::{Evolving, Schema};
 use mesa_open_files::{CompactError, MadeFile, MadeView, Serials, TaskView};
+use mesa_schema::{Evolving, Schema};
 use std::alloc::Global;
 use std::collections::VecDeque;
 

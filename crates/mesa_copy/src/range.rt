@@ -27,8 +27,8 @@ use mesa_compact::regroup_range;
 use mesa_delta::{FileError, Input};
 use mesa_disk::{Bench, FileReader, Made};
 use mesa_file::FileId;
-use mesa_schema::Totals;
 use mesa_open_files::{CompactError, MadeFile, RecastRange, RecastedRange, Serials};
+use mesa_schema::Totals;
 use std::alloc::Global;
 use std::mem;
 

@@ -7,8 +7,8 @@ ghost use Rattle.mesa_copy.specs.Renewals.{IsRenewal};
 use mesa_disk::FileReader;
 use mesa_filter::chosen_places;
 use mesa_list::TryCopy;
-use mesa_schema::Evolving;
 use mesa_open_files::Recast;
+use mesa_schema::Evolving;
 use std::alloc::{AllocError, Global};
 use std::sync::Arc;
 

@@ -22,11 +22,11 @@ mod vault;
 mod works;
 
 pub use mesa_engine::Who;
+pub use passes::{passes_are_divided, sessions_end, turns_go_on};
 pub use room::turns_of;
-pub use vault::Vault;
+pub use service::sights_last;
 pub use tasks_known::{
     bounds_are_known, grants_are_known, leases_hold, merges_are_known, ranges_are_known,
     ranges_go_on, recasts_are_known, recasts_go_on, tables_go_on,
 };
-pub use passes::{passes_are_divided, sessions_end, turns_go_on};
-pub use service::sights_last;
+pub use vault::Vault;

@@ -20,8 +20,8 @@ use mesa_batch::Glance;
 use mesa_disk::{Disk, Made};
 use mesa_engine::{Naming, Who};
 use mesa_io::Sink;
-use mesa_recast_turns::{look, publish};
 use mesa_open_files::{LoadError, Prepared};
+use mesa_recast_turns::{look, publish};
 use std::alloc::AllocError;
 
 impl<'s, N: Naming, M: Made, D: Disk<M>, K: Sink> Vault<'s, N, M, D, K> {

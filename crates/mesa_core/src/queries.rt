@@ -20,9 +20,9 @@ use mesa_delta::FileError;
 use mesa_disk::{Disk, Made};
 use mesa_engine::{Naming, Who};
 use mesa_io::Sink;
+use mesa_open_files::Pinned;
 use mesa_recast_turns::{close_query, pin_query};
 use mesa_script::Rendered;
-use mesa_open_files::Pinned;
 
 impl<'s, N: Naming, M: Made, D: Disk<M>, K: Sink> Vault<'s, N, M, D, K> {
     /// A query's deciding turn: the files that answer it. They have to come back by `close_query`.

@@ -22,15 +22,15 @@ ghost use Rattle.mesa_recast_turns.specs.mesa_invariant_spec.Turns.{AnswersDisk,
 ghost use Rattle.mesa_recast_turns.specs.mesa_invariant_spec.Invariant.{run_at};
 ghost use Rattle.mesa_recast_turns.specs.mesa_invariant_spec.Works.{closing_stage, stage_if};
 
-use crate::{Vault, recasts_are_known, recasts_go_on, tables_go_on};
 use crate::asked::recast_of;
 use crate::standing::{allocator, catalogue};
+use crate::{Vault, recasts_are_known, recasts_go_on, tables_go_on};
 use mesa_delta::FileError;
 use mesa_disk::{Disk, Made};
 use mesa_engine::{Engine, Naming, Who};
 use mesa_io::Sink;
-use mesa_recast_turns::{grant_recast, recast, renew_recast, rest, tables_become};
 use mesa_open_files::{CompactError, Recast, Recasted};
+use mesa_recast_turns::{grant_recast, recast, renew_recast, rest, tables_become};
 
 // What holds of a recast's files between turns, by what was so at its grant.
 fn held<N: Naming, M: Made, D: Disk<M>, K: Sink>(

@@ -16,14 +16,14 @@ ghost use Rattle.mesa_recast_turns.specs.mesa_invariant_spec.Turns.{AnswersDisk,
 ghost use Rattle.mesa_recast_turns.specs.mesa_invariant_spec.Invariant.{run_at};
 ghost use Rattle.mesa_recast_turns.specs.mesa_invariant_spec.Works.{closing_stage, stage_if};
 
-use crate::{Vault, bounds_are_known, leases_hold, merges_are_known, ranges_go_on, tables_go_on};
 use crate::asked::work_of;
 use crate::standing::{allocator, catalogue, claims};
+use crate::{Vault, bounds_are_known, leases_hold, merges_are_known, ranges_go_on, tables_go_on};
 use mesa_disk::{Disk, Made};
 use mesa_engine::{Naming, Who};
 use mesa_io::Sink;
-use mesa_recast_turns::{complete, give_up, grant, renew, tables_become};
 use mesa_open_files::{CompactError, NewDelta, Task};
+use mesa_recast_turns::{complete, give_up, grant, renew, tables_become};
 
 impl<'s, N: Naming, M: Made, D: Disk<M>, K: Sink> Vault<'s, N, M, D, K> {
     /// A work's first turn: the files that are to be merged. They have to come back by `renew` or `complete`.

@@ -25,9 +25,9 @@ mod who;
 
 pub use engine::Engine;
 pub use failure::Failure;
-pub use log::Log;
-pub use who::Who;
 pub use holders::Pin;
+pub use log::Log;
 pub use mesa_catalog::{Begun, Catalog};
 pub use metadata::Metadata;
 pub use naming::Naming;
+pub use who::Who;

@@ -9,10 +9,10 @@ ghost use Rattle.mesa_engine.specs.Memory.{opened_state};
 
 use crate::holders::{Holders, Pin};
 use mesa_catalog::Catalog;
+use mesa_commit::{Dropped, Hold};
 use mesa_disk::Area;
 use mesa_file::FileId;
 use mesa_lease::{Leases, TABLES};
-use mesa_commit::{Dropped, Hold};
 use std::alloc::Global;
 use std::marker::Model;
 

@@ -4,8 +4,8 @@ ghost use Rattle.mesa_commit.specs.Holding.{dropped_at, freed, ids_of, kept};
 ghost use Rattle.mesa_engine.specs.Meaning.{AreIndexed, holds_by};
 
 use crate::holders::Holders;
-use mesa_file::FileId;
 use mesa_commit::Dropped;
+use mesa_file::FileId;
 use std::alloc::AllocError;
 
 // Adds the ids of the files of the trash that no hold is on.

@@ -8,8 +8,8 @@ use mesa_catalog::Catalog;
 use mesa_disk::{Adoption, Made};
 use mesa_file::{FileId, FileRef};
 use mesa_list::Items;
-use mesa_record::{Files, Part, ViewRef};
 use mesa_open_files::{MadeFile, MadeFiles, MadeView, PreparedPart};
+use mesa_record::{Files, Part, ViewRef};
 use std::alloc::{AllocError, Global};
 use std::collections::VecDeque;
 

@@ -15,8 +15,8 @@ use mesa_catalog::Catalog;
 use mesa_disk::Made;
 use mesa_list::TryCopy;
 use mesa_model::Refusal;
-use mesa_schema::{Name, Schema, Totals};
 use mesa_open_files::PreparedPart;
+use mesa_schema::{Name, Schema, Totals};
 use mesa_value::Agg;
 
 // Refuses a batch with which a sum column would pass its bound: the first, by the tables' numbers.

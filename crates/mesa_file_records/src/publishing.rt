@@ -21,11 +21,11 @@ use crate::adopting::Adopting;
 use crate::bounds::check_bounds;
 use mesa_catalog::Catalog;
 use mesa_disk::{Adoption, Made};
-use mesa_file::FileId;
 use mesa_engine::Metadata;
+use mesa_file::FileId;
 use mesa_model::Refusal;
-use mesa_record::Record;
 use mesa_open_files::Prepared;
+use mesa_record::Record;
 use std::alloc::Global;
 
 // How many versions there may be.

@@ -17,14 +17,14 @@ ghost use Rattle.mesa_file_records.specs.Grown.{HasSameColumns};
 ghost use Rattle.mesa_file_records.specs.Recasts.{AreSinglesRewritten, AreTaken, HasFile, HasFileAt, IsBaseRewritten, IsRecastIn, IsTaken, Took, files_taken, rewritten_under, singles_in, meta_of_recast, with_file};
 
 use crate::{Adopting, Swapped};
+use mesa_catalog_table::{Base, Loaded};
 use mesa_disk::{FileReader, Made};
+use mesa_engine::Metadata;
 use mesa_file::FileId;
 use mesa_list::{Items, TryCopy};
-use mesa_engine::Metadata;
-use mesa_record::{Files, RecastBase, Recasting, Record, CheckpointSingle};
-use mesa_schema::Totals;
-use mesa_catalog_table::{Base, Loaded};
 use mesa_open_files::{MadeFile, Recast, Recasted, RecastedRange};
+use mesa_record::{CheckpointSingle, Files, RecastBase, Recasting, Record};
+use mesa_schema::Totals;
 use std::alloc::{AllocError, Global};
 use std::collections::VecDeque;
 

@@ -15,11 +15,11 @@ ghost use Rattle.mesa_file_records.specs.Swapped.{IsSwapped, files_under_if_any,
 
 use crate::Adopting;
 use mesa_disk::{Adoption, FileReader, Made};
-use mesa_file::FileId;
 use mesa_engine::Metadata;
+use mesa_file::FileId;
+use mesa_open_files::{MadeFiles, NewDelta, Task};
 use mesa_record::{Files, Record};
 use mesa_span::Work;
-use mesa_open_files::{MadeFiles, NewDelta, Task};
 use std::alloc::{AllocError, Global};
 
 /// What may take the place of a table's files: the record that does it, the files that it brings with their ids, and how many files the run has adopted with them.

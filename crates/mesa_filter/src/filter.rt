@@ -16,8 +16,8 @@ use crate::matching::{columns_may_meet, columns_meet, last_named};
 use crate::parsing::terms;
 use crate::query::kinds_at;
 use crate::{FilterError, Term};
-use mesa_schema::{KeyType, Schema};
 use mesa_list::{Items, TryCopy};
+use mesa_schema::{KeyType, Schema};
 use std::alloc::{AllocError, Global};
 use std::marker::Model;
 

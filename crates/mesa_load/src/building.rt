@@ -18,8 +18,8 @@ use mesa_batch::Batch;
 use mesa_delta::WriteError;
 use mesa_disk::{Draft, Made};
 use mesa_file::FileId;
-use mesa_schema::{Evolving, RowList, Schema, groups_rise};
 use mesa_open_files::MadeFile;
+use mesa_schema::{Evolving, RowList, Schema, groups_rise};
 use std::alloc::{AllocError, Global};
 use std::thread::Threads;
 use std::{mem, thread};
@@ -118,7 +118,11 @@ fn write_draft<M: Made, T: Draft<M>>(
 }
 
 // Writes the file of a job.
-fn write_job<M: Made, T: Draft<M>>(alloc: Global, job: &FileToWrite, progress: &mut WriteState<M, T>)
+fn write_job<M: Made, T: Draft<M>>(
+    alloc: Global,
+    job: &FileToWrite,
+    progress: &mut WriteState<M, T>,
+)
     requires { IsReady T.bytes T.id_of job.now progress.old }
     ensures { HasFiled M.bytes M.id_of T.faults job.now progress.old progress.new }
 {
@@ -128,7 +132,9 @@ fn write_job<M: Made, T: Draft<M>>(alloc: Global, job: &FileToWrite, progress: &
     };
     let after = write_draft(alloc, job, id, draft);
     let lent = mem::replace(progress, after);
-    let WriteState::Lent = lent else { unreachable!() };
+    let WriteState::Lent = lent else {
+        unreachable!()
+    };
 }
 
 /// Writes the files of all jobs through these drafts, in a few threads.

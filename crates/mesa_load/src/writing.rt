@@ -12,8 +12,8 @@ use crate::file_rows::FileRows;
 use mesa_delta::{DeltaWriter, WriteError};
 use mesa_disk::{Draft, Made};
 use mesa_file::FileId;
-use mesa_schema::Schema;
 use mesa_open_files::MadeFile;
+use mesa_schema::Schema;
 use std::alloc::Global;
 
 /// Writes the file of these rows through an empty draft.

@@ -21,10 +21,10 @@ use crate::heads::combine_head;
 use crate::matches::{Tree, least};
 use crate::streams::advance;
 use crate::sums::{file_at, is_same, newest_with, sum_fault};
-use mesa_scan::Cursor;
+use mesa_batch::folds_totals;
 use mesa_delta::{FileError, Input};
 use mesa_disk::FileReader;
-use mesa_batch::folds_totals;
+use mesa_scan::Cursor;
 use mesa_schema::{Row, folds_go_on};
 use mesa_value::Agg;
 

@@ -5,8 +5,8 @@ ghost use Rattle.mesa_schema.specs.declared.rows.Row.{Row as AnyRow};
 ghost use Rattle.mesa_schema.specs.Folded.{AllCombine, row_combined};
 ghost use Rattle.mesa_scan.specs.Cursors.{at_hand};
 
-use mesa_scan::Cursor;
 use mesa_batch::{combine_into, combines_all};
+use mesa_scan::Cursor;
 use mesa_schema::Row;
 use mesa_value::Agg;
 use std::alloc::AllocError;

@@ -11,10 +11,10 @@ ghost use Rattle.mesa_merge.specs.Merged.{nothing_given};
 ghost use Rattle.mesa_merge.specs.Merging.{HasGivens};
 
 use crate::matches::{Tree, first_tree};
-use mesa_scan::Cursor;
 use mesa_delta::Input;
 use mesa_disk::FileReader;
 use mesa_key::KeyBytes;
+use mesa_scan::Cursor;
 use mesa_schema::Evolving;
 use mesa_value::Agg;
 use std::alloc::{AllocError, Global};

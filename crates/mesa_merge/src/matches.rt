@@ -5,8 +5,8 @@ ghost use Rattle.mesa_merge.specs.Fronts.{AreFronts, HasFront, IsFront};
 ghost use Rattle.mesa_merge.specs.Hands.{IsBefore, IsLeastAt, hands_of};
 ghost use Rattle.mesa_merge.specs.Matches.{AreWinners, AreWon, IsTree, IsTreeBut, above};
 
-use mesa_scan::Cursor;
 use mesa_key::{compare, short};
+use mesa_scan::Cursor;
 use std::alloc::{AllocError, Global};
 use std::cmp::Ordering;
 

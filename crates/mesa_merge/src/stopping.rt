@@ -6,8 +6,8 @@ ghost use Rattle.mesa_merge.specs.Hands.{IsLeastAt, IsPast, hands_of};
 ghost use Rattle.mesa_merge.specs.Matches.{IsTree};
 
 use crate::matches::{Tree, least};
-use mesa_scan::Cursor;
 use mesa_key::KeyBytes;
+use mesa_scan::Cursor;
 
 // The first of the inputs whose rows at hand have the least key, where that key is below the high end.
 pub(crate) fn least_below(tree: &Tree, cursors: &[Cursor], high: &Option<KeyBytes>) -> Option<usize>

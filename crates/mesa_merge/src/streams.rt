@@ -16,9 +16,9 @@ ghost use Rattle.mesa_merge.specs.Matches.{IsTree};
 ghost use Rattle.mesa_merge.specs.Merging.{AreReady, HasGivens};
 
 use crate::matches::{Tree, play};
-use mesa_scan::Cursor;
 use mesa_delta::{Ahead, FileError, Input};
 use mesa_disk::FileReader;
+use mesa_scan::Cursor;
 
 // Gives the row at hand of an input, if there is one, and reads its next block where then none is.
 pub(crate) fn advance<R: FileReader>(

@@ -7,9 +7,9 @@ ghost use Rattle.mesa_merge.specs.Hands.{hands_of};
 ghost use Rattle.mesa_merge.specs.Inputs.{Known as AnyKnown, knowns_of};
 ghost use Rattle.mesa_merge.specs.Sums.{HasHead, IsNewest, sum_damage};
 
-use mesa_scan::Cursor;
 use mesa_delta::{FileError, Input};
 use mesa_disk::{Damage, FileId, FileReader, Seen};
+use mesa_scan::Cursor;
 
 // Whether two keys are the same.
 pub(crate) fn is_same(a: &[u8], b: &[u8]) -> bool

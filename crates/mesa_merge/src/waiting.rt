@@ -8,9 +8,9 @@ ghost use Rattle.mesa_scan.specs.Moving.{moved_to, told_in};
 ghost use Rattle.mesa_merge.specs.Faults.{HaveFaultCause, faults_of};
 ghost use Rattle.mesa_merge.specs.Waiting.{AreWaiting};
 
-use mesa_scan::Cursor;
 use mesa_delta::{Ahead, FileError, Input};
 use mesa_disk::FileReader;
+use mesa_scan::Cursor;
 
 // Reads the block ahead that a cursor reads next, if there is one, and says whether more may be read. It isn't tested yet.
 fn wait_for<R: FileReader>(

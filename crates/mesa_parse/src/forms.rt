@@ -6,10 +6,10 @@ ghost use Rattle.mesa_parse.specs.Forms.{begins_hyphen, form_of, gen_of};
 ghost use Rattle.mesa_parse.specs.Found.{digest_found, form_found, gen_found};
 
 use crate::command::mesa_command;
+use crate::number_in;
 use clap::ArgMatches;
 use clap::error::ErrorKind;
 use mesa_list::Items;
-use crate::number_in;
 use mesa_schema::Words;
 use std::alloc::{AllocError, Global};
 

@@ -14,6 +14,6 @@ mod records;
 mod scripts;
 mod versions;
 
+pub use forms::{Form, read_form};
 pub use numbers::number_in;
 pub use scripts::parse;
-pub use forms::{Form, read_form};

@@ -7,9 +7,9 @@ ghost use Rattle.mesa_open_files.specs.Opening.{HasEpoch};
 ghost use Rattle.mesa_pick_files.specs.Lent.{AreOfEpochs, lent_if_any, lent_in, single_delta};
 
 use crate::Deltas;
-use mesa_schema::Evolving;
 use mesa_catalog_table::{Delta, Loaded};
 use mesa_open_files::Wanted;
+use mesa_schema::Evolving;
 use std::alloc::{AllocError, Global};
 use std::sync::Arc;
 

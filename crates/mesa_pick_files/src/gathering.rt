@@ -16,10 +16,10 @@ ghost use Rattle.mesa_pick_files.specs.Gathered.{IsGathered, is_fault_among, unr
 use crate::folding::folded;
 use crate::parts::{Part, Parts, open_parts};
 use crate::{Deltas, table_files};
-use mesa_disk::{Disk, Made};
-use mesa_span::Work;
 use mesa_catalog_table::Table;
+use mesa_disk::{Disk, Made};
 use mesa_open_files::{Spare, Task, Unopened};
+use mesa_span::Work;
 use std::alloc::Global;
 
 /// The task of a work on the table of a number, which has no lease yet: the table's files of what it folds are open. They are opened once for each part of the merge, and at least once. The first file that isn't the recorded one ends the opening, and is told in the task. Each view's rows are to be derived from the table's.

@@ -16,11 +16,11 @@ ghost use Rattle.mesa_open_files.specs.Opening.{Counted, HasEpoch, HaveOpened, i
 
 use crate::joining::join;
 use crate::{Deltas, Sources, Viewed, own_columns, planned, table_files, view_files};
+use mesa_catalog_table::Table;
 use mesa_delta::FileError;
 use mesa_disk::{Disk, Made};
-use mesa_validate::Found;
-use mesa_catalog_table::Table;
 use mesa_open_files::{Opened, Pinned, PinnedInput, Unopened, open_all, retire_all};
+use mesa_validate::Found;
 use std::alloc::Global;
 
 /// The files that answer a query of a table, or of a view of it, at its version, for a reply at a position: those of the plan are open. Where one isn't the recorded file, or can't be read, or memory is wanting, those that were opened are given back.

@@ -12,12 +12,12 @@ ghost use Rattle.mesa_pick_files.specs.Gathered.{is_fault_among};
 ghost use Rattle.mesa_pick_files.specs.Ranges.{HasInput, HasMore, HoldsAll, HoldsAt, HoldsEach, IsDamagedAs, IsDamagedRange, IsOfRange, base_ranged, first_ranged, singles_ranged};
 ghost use Rattle.mesa_pick_files.specs.Ranging.{HasMoreAs, of_table};
 
+use mesa_catalog_table::{Delta, Table};
 use mesa_disk::{Disk, Made};
 use mesa_file::Damage;
 use mesa_list::Items;
-use mesa_schema::Name;
-use mesa_catalog_table::{Delta, Table};
 use mesa_open_files::{Met, Recast, RecastRange, Unopened, Wanted, open_one, retire_ranges};
+use mesa_schema::Name;
 use std::alloc::{AllocError, Global};
 use std::sync::Arc;
 

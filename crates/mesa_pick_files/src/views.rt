@@ -7,10 +7,10 @@ ghost use Rattle.mesa_pick_files.specs.Files.{AreSources, Seen, own_lineage, vie
 ghost use Rattle.mesa_pick_files.specs.Lent.{AreOfEpochs, lent_if_any, lent_in, now_if_any, single_delta};
 
 use crate::Deltas;
-use mesa_record::ViewRef;
-use mesa_schema::Evolving;
 use mesa_catalog_table::{Delta, Loaded};
 use mesa_open_files::Wanted;
+use mesa_record::ViewRef;
+use mesa_schema::Evolving;
 use std::alloc::{AllocError, Global};
 use std::sync::Arc;
 

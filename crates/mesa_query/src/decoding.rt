@@ -8,8 +8,8 @@ ghost use Rattle.mesa_query.specs.Pieces.{AreDecodingsOf, AreLiftsOf};
 
 use mesa_delta::Index;
 use mesa_disk::FileReader;
-use mesa_schema::Lift;
 use mesa_open_files::PinnedInput;
+use mesa_schema::Lift;
 use std::alloc::{AllocError, Global};
 
 /// How a file's blocks are decoded. It doesn't read the file.

@@ -18,8 +18,8 @@ ghost use Rattle.mesa_query.specs.Relation.{parts_ungrouped};
 use mesa_delta::Input;
 use mesa_disk::FileReader;
 use mesa_filter::Filter;
-use mesa_scan::allows;
 use mesa_open_files::PinnedInput;
+use mesa_scan::allows;
 use std::alloc::{AllocError, Global};
 
 /// A block of a file, which is known by its place among those that are read.

@@ -7,8 +7,8 @@ ghost use Rattle.mesa_open_files.specs.Pins.{IsOfRelation};
 
 use mesa_disk::FileReader;
 use mesa_list::TryCopy;
-use mesa_schema::Schema;
 use mesa_open_files::PinnedInput;
+use mesa_schema::Schema;
 use std::alloc::AllocError;
 
 // The columns of the relation of this file: its own, or those of its table's view of this number.

@@ -24,8 +24,8 @@ use mesa_delta::FileError;
 use mesa_disk::FileReader;
 use mesa_filter::Query;
 use mesa_list::Items;
-use mesa_schema::RowList;
 use mesa_open_files::{Pinned, PinnedInput};
+use mesa_schema::RowList;
 use std::alloc::Global;
 
 /// All rows of the answer to a pinned query, without a page's cut, from its files in the order of their versions.

@@ -16,12 +16,12 @@ ghost use Rattle.mesa_query.specs.Sums.{IsSumIn};
 ghost use Rattle.mesa_open_files.specs.Pins.{IsPinned};
 ghost use Rattle.mesa_query.specs.Same.{IsSamePin};
 
+use crate::answer;
 use crate::caching::{cool_all, warm_all};
 use mesa_cache::Cached;
 use mesa_delta::FileError;
 use mesa_disk::FileReader;
 use mesa_model::Page;
-use crate::answer;
 use mesa_open_files::{Pinned, PinnedInput};
 use std::alloc::{AllocError, Global};
 use std::marker::Model;

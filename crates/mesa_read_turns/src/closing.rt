@@ -24,8 +24,8 @@ use mesa_disk::{Disk, Made};
 use mesa_engine::{Engine, Failure, Log, Naming, Who};
 use mesa_io::Sink;
 use mesa_model::{Kind, Outcome};
-use mesa_script::Rendered;
 use mesa_open_files::{Pinned, retire_pinned};
+use mesa_script::Rendered;
 
 // Why a query has no answer.
 pub(crate) fn failed(error: FileError) -> Failure

@@ -16,13 +16,13 @@ mod releasing;
 mod seeing;
 mod spans;
 
-pub use explaining::explain;
-pub use looking::look;
-pub use pinning::pin;
-pub use releasing::release;
 pub use asking::{Asked, ask};
 pub use closing::close_query;
 pub use damages::can_be_told;
+pub use explaining::explain;
 pub use giving_back::give_back;
+pub use looking::look;
+pub use pinning::pin;
 pub use query_pinning::pin_query;
+pub use releasing::release;
 pub use seeing::{Seen, seen_by};

@@ -28,9 +28,9 @@ use mesa_delta::FileError;
 use mesa_disk::{Disk, Made};
 use mesa_engine::{Catalog, Failure, Metadata};
 use mesa_filter::QueryWords;
+use mesa_open_files::Pinned;
 use mesa_pick_files::open_files;
 use mesa_validate::{Found, ordered};
-use mesa_open_files::Pinned;
 use std::alloc::{AllocError, Global};
 
 // The files that answer a session's query, for a reply at a position, or why it isn't answered.

@@ -8,11 +8,11 @@ ghost use Rattle.mesa_open_files.specs.Recasts.{claim_of_recast, recast_in};
 ghost use Rattle.mesa_recast_turns.specs.Unfit.{HasNotRecast, unfit_of};
 
 use mesa_binding::{Failure, recast_failure};
-use mesa_work_turns::check;
 use mesa_engine::Metadata;
 use mesa_lease::TABLES;
 use mesa_model::Refusal;
 use mesa_open_files::Recast;
+use mesa_work_turns::check;
 
 // Why a table isn't recast, before the disk is called.
 #[derive(Drop)]

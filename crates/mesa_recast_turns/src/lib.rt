@@ -7,6 +7,9 @@ mod recasting;
 mod resting;
 mod unmade;
 
-pub use mesa_work_turns::{alter, close_query, complete, expire, explain, give_up, grant, grant_recast, look, pin, pin_query, publish, release, renew, renew_recast, table, tables_become, view};
+pub use mesa_work_turns::{
+    alter, close_query, complete, expire, explain, give_up, grant, grant_recast, look, pin,
+    pin_query, publish, release, renew, renew_recast, table, tables_become, view,
+};
 pub use recasting::recast;
 pub use resting::rest;

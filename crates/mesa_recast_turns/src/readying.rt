@@ -18,7 +18,6 @@ ghost use Rattle.mesa_work_turns.specs.mesa_file_records.Recasts.{IsRecastIn, me
 ghost use Rattle.mesa_open_files.specs.Recasts.{IsRecastTask, IsRecasted, recast_in, recast_table};
 ghost use Rattle.mesa_engine.specs.mesa_commit.Holding.{Among};
 
-use mesa_work_turns::{Swapped, make_room, recast as record_of};
 use mesa_disk::{FileReader, Made};
 use mesa_engine::Metadata;
 use mesa_file::FileId;
@@ -26,6 +25,7 @@ use mesa_journal::Framed;
 use mesa_list::TryCopy;
 use mesa_model::Reply;
 use mesa_open_files::{Recast, Recasted};
+use mesa_work_turns::{Swapped, make_room, recast as record_of};
 use std::alloc::{AllocError, Global};
 
 // What a table is to be recast with: the record with its files, its frame, the files that it lets go, those that the turn removes, and the reply.

@@ -33,14 +33,14 @@ ghost use Rattle.mesa_recast_turns.specs.Unfit.{HasNotRecast, cause_met, unfit_s
 use crate::checking::{Unfit, check_recast};
 use crate::readying::{Ready, prepare};
 use crate::unmade::abandon;
-use mesa_work_turns::{Swapped, give_back_recast};
 use mesa_disk::{Disk, Made};
 use mesa_engine::{Engine, Failure, Metadata, Naming, Who};
 use mesa_io::Sink;
 use mesa_lease::TABLES;
 use mesa_model::{Kind, Outcome, RecastWords};
-use mesa_store::write_record;
 use mesa_open_files::{CompactError, Recast, Recasted};
+use mesa_store::write_record;
+use mesa_work_turns::{Swapped, give_back_recast};
 use std::alloc::{AllocError, Global};
 
 // Why a table isn't recast. Unless its claim doesn't hold, the lease ends.

@@ -19,8 +19,8 @@ use mesa_delta::FileError;
 use mesa_disk::{Damage, Disk, Made};
 use mesa_engine::{Engine, Metadata, Naming};
 use mesa_io::Sink;
-use mesa_pick_files::gather_more;
 use mesa_open_files::{Recast, RecastRange, Unopened};
+use mesa_pick_files::gather_more;
 
 // Whether further ranges are opened: the vault is open, no file of the recast was damaged, and its table has still the epoch in which it was granted.
 fn may_rest<R>(metadata: &Metadata, task: &Recast<R>) -> bool

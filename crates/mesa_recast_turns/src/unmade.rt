@@ -21,13 +21,13 @@ ghost use Rattle.mesa_work_turns.specs.mesa_invariant_spec.Works.{closing_stage}
 ghost use Rattle.mesa_work_turns.specs.Unmerged.{MergeDiffered, cause_of, closing_cause, closing_state};
 ghost use Rattle.mesa_recast_turns.specs.Rested.{HasUnpaid};
 
-use mesa_work_turns::{fall, may_be_told};
 use mesa_disk::{Disk, Made};
 use mesa_engine::{Engine, Naming, Who};
 use mesa_io::Sink;
 use mesa_lease::TABLES;
 use mesa_model::Kind;
 use mesa_open_files::{CompactError, Recast, retire_recast};
+use mesa_work_turns::{fall, may_be_told};
 
 // The turn that closes a recast whose ranges weren't all rewritten, while the sink hasn't failed: its lease ends, unless the vault has closed. All that it was handed is given back. Takes no memory.
 pub(crate) fn abandon<N: Naming, M: Made, D: Disk<M>, K: Sink>(

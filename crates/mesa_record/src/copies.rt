@@ -5,8 +5,8 @@ ghost use Rattle.mesa_record.specs.Reading.{columns_in, deltas_in};
 
 use crate::checkpoint::{StatedColumns, StatedDeltas, table_of};
 use crate::{
-    Checkpoint, Files, Part, RecastBase, Recasting, Record, CheckpointRange, CheckpointSingle, CheckpointTable,
-    ViewRef,
+    Checkpoint, CheckpointRange, CheckpointSingle, CheckpointTable, Files, Part, RecastBase,
+    Recasting, Record, ViewRef,
 };
 use mesa_list::{Items, TryCopy};
 use mesa_schema::{KeyColumn, Name, ValueColumn};

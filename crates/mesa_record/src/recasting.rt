@@ -9,7 +9,7 @@ use crate::field::{put_half, put_word, write_counted};
 use crate::files::{read_files_if_any, write_files_if_any};
 use crate::reading::names;
 use crate::stated::{read_long, write_long};
-use crate::{Edition, Files, RecordError, CheckpointSingle};
+use crate::{CheckpointSingle, Edition, Files, RecordError};
 use mesa_list::Items;
 use mesa_schema::Name;
 use std::alloc::{AllocError, Global};

@@ -12,7 +12,7 @@ use crate::field::{Field, put_half, put_word, write_counted};
 use crate::files::{read_files, read_files_if_any, read_totals, write_files, write_files_if_any};
 use crate::reading::{change, key_columns, names, value_columns};
 use crate::writing::write_change;
-use crate::{Checkpoint, Edition, RecordError, CheckpointRange, CheckpointSingle, CheckpointTable};
+use crate::{Checkpoint, CheckpointRange, CheckpointSingle, CheckpointTable, Edition, RecordError};
 use mesa_list::Items;
 use mesa_schema::{Change, View};
 use std::alloc::{AllocError, Global};

@@ -26,9 +26,9 @@ use crate::opened::LiveArea;
 use crate::{OpenError, Opened, find_strays, frame, write_run};
 use mesa_catalog::{Begun, Catalog};
 use mesa_disk::{Area, Disk, FileId, Made};
-use mesa_store_spec::catalogs_own_ids;
 use mesa_journal::Framed;
 use mesa_record::Record;
+use mesa_store_spec::catalogs_own_ids;
 use std::alloc::Global;
 
 // The number of the last run that there may be.

@@ -13,8 +13,8 @@ mod whole;
 
 pub use ahead::read_ahead;
 pub use allowing::allows;
+pub use cursor::Cursor;
+pub use laws::cuts_join;
 pub use matching::MatchingRows;
 pub use scanning::Scan;
 pub use whole::{ScanCount, scan};
-pub use cursor::Cursor;
-pub use laws::cuts_join;

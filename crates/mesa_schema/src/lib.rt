@@ -19,7 +19,6 @@ mod rows;
 mod schema;
 mod views;
 
-pub use mesa_key::{Agg, Amount, Column, ColumnValue, Format, KeyBytes, KeyColumns, KeyText, KeyType, KeyValue, Values, combine, combines, compare, encode_int, encode_text, reads_back, reads_spellings, spells_key};
 pub use changes::{Change, ChangeError};
 pub use codes::{agg_byte, agg_of_byte, kind_byte, kind_of_byte};
 pub use columns::{KeyColumn, ValueColumn};
@@ -30,6 +29,11 @@ pub use laws::{
     views_outlive,
 };
 pub use lifting::Lift;
+pub use mesa_key::{
+    Agg, Amount, Column, ColumnValue, Format, KeyBytes, KeyColumns, KeyText, KeyType, KeyValue,
+    Values, combine, combines, compare, encode_int, encode_text, reads_back, reads_spellings,
+    spells_key,
+};
 pub use named::{Named, has_name, has_names, place_of, repeated_place};
 pub use names::{Name, NameError, is_name_byte};
 pub use numbers::{amount, key_value, signed};

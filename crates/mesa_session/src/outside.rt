@@ -29,11 +29,11 @@ use mesa_filter::Query;
 use mesa_io::Sink;
 use mesa_key::reads_back;
 use mesa_model::Page;
+use mesa_open_files::{CompactError, NewDelta, Pinned, Recast, Recasted, Serials, Task};
 use mesa_print::render;
 use mesa_query::{Warm, answer};
 use mesa_script::Rendered;
 use mesa_split::{merge_split, sample};
-use mesa_open_files::{CompactError, NewDelta, Pinned, Recast, Recasted, Serials, Task};
 use std::alloc::{AllocError, Global};
 use std::thread::Threads;
 

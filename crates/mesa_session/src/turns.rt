@@ -29,10 +29,10 @@ use mesa_delta::FileError;
 use mesa_disk::{Bench, Disk, Made};
 use mesa_engine::{Naming, Who};
 use mesa_io::Sink;
-use mesa_script::Rendered;
 use mesa_open_files::{
     CompactError, LoadError, NewDelta, Pinned, Prepared, Recast, Recasted, Serials, Task,
 };
+use mesa_script::Rendered;
 use mesa_turn::{Pass, TurnLock};
 use std::alloc::{AllocError, Global};
 use std::sync::Wait;

@@ -9,9 +9,9 @@ ghost use Rattle.mesa_shell.specs.Ports.{ports};
 ghost use Rattle.mesa_shell.specs.Unopened.{HasSameCounts};
 ghost use Rattle.mesa_engine.specs.mesa_store_spec.Catalog.{Catalog};
 
+use crate::{Devices, Done, ended_checked, ended_opening};
 use mesa_check::{CheckError, Verdict, check};
 use mesa_disk::{Bench, Disk, Made};
-use crate::{Devices, Done, ended_checked, ended_opening};
 use mesa_io::Sink;
 use mesa_recover::{OpenError, Opened, read};
 use std::alloc::Global;

@@ -3,9 +3,9 @@ ghost use Rattle.mesa_shell.specs.Ending as spec;
 ghost use Rattle.mesa_shell.specs.Ports.{ports};
 
 use crate::checking::disk_of;
+use crate::{Devices, Done, ended, ended_digest, ended_opening, statuses};
 use mesa_delta::FileError;
 use mesa_disk::{Bench, Disk, Made};
-use crate::{Devices, Done, ended, ended_digest, ended_opening, statuses};
 use mesa_io::Sink;
 use mesa_recover::{OpenError, read};
 use mesa_store_digest::{LookError, look};

@@ -6,8 +6,8 @@ ghost use Rattle.mesa_shell.specs.Ports.{ports};
 ghost use Rattle.mesa_check.specs.Verdict.{fault_told};
 
 use crate::lines::{put_open_error, put_script_error};
-use crate::{Devices, Done, statuses};
 use crate::verdict_line::put_verdict;
+use crate::{Devices, Done, statuses};
 use mesa_check::Verdict;
 use mesa_disk::{Bench, Disk, Made};
 use mesa_io::Sink;

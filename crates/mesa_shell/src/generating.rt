@@ -11,10 +11,8 @@ ghost use Rattle.mesa_script.specs.Script.{script_of};
 
 use crate::opening::open;
 use crate::running::{Left, run_begun};
+use crate::{Devices, Done, ended_opening, lacks_memory, run_status, scripts_are_small, statuses};
 use mesa_disk::{Bench, Disk, Made};
-use crate::{
-    Devices, Done, ended_opening, lacks_memory, run_status, scripts_are_small, statuses,
-};
 use mesa_generate::{excerpt, generate};
 use mesa_io::{MemSink, Sink};
 use mesa_model::{Entry, Script};

@@ -17,14 +17,14 @@ mod standard;
 pub mod statuses;
 mod verdict_line;
 
+pub use digest_lines::ended_digest;
+pub use done::{Devices, Done};
+pub use ending::{ended, ended_checked, ended_opening, ended_refused, lacks_memory, run_status};
 pub use mesa_session::{Gate, OpenGate, Point};
 pub use shell::{MAX_INPUT, mesa};
-pub use standard::program;
-pub use digest_lines::ended_digest;
-pub use ending::{ended, ended_checked, ended_opening, ended_refused, lacks_memory, run_status};
-pub use done::{Devices, Done};
 pub use small_scripts::{
     calls_leave_sound_stores, contents_are_folds_of_all_batches, empty_stores_are_sound,
     lives_are_lists_of_runs, scripts_are_small, stores_start_alike, stores_start_well_formed,
     unfailed_runs_stand,
 };
+pub use standard::program;

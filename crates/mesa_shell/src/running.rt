@@ -17,9 +17,9 @@ ghost use Rattle.mesa_shell.specs.StoreStart.{AreTold};
 ghost use Rattle.mesa_shell.specs.Begun.{IsReadyToRun};
 ghost use Rattle.mesa_shell.specs.Ran.{HasNotRun, RanFrom};
 
+use crate::Devices;
 use mesa_disk::{Bench, Disk, Made};
 use mesa_engine::Naming;
-use crate::Devices;
 use mesa_io::Sink;
 use mesa_model::{Entry, Script};
 use mesa_recover::Begun;

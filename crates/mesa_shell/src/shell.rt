@@ -17,14 +17,14 @@ use crate::digesting::digest_relation;
 use crate::generating::run_generated;
 use crate::opening::open;
 use crate::running::{Left, run_begun};
-use mesa_parse::{Form, parse, read_form};
-use mesa_disk::{Bench, Disk, Made};
 use crate::{
     Devices, Done, ended, ended_opening, ended_refused, lacks_memory, run_status,
     scripts_are_small, statuses,
 };
+use mesa_disk::{Bench, Disk, Made};
 use mesa_io::{ReadError, Sink, Source, read_all};
 use mesa_model::Script;
+use mesa_parse::{Form, parse, read_form};
 use mesa_script::ScriptError;
 use mesa_session::Gate;
 use std::alloc::{AllocError, Global};

@@ -2,8 +2,8 @@
 ghost use Rattle.std.specs.Prelude.{◌≡◌, IfOk, length};
 
 use crate::shell::mesa;
-use mesa_dir::{DirBench, DirDisk, Host};
 use crate::{Done, statuses};
+use mesa_dir::{DirBench, DirDisk, Host};
 use mesa_io::{StdSink, StdSource};
 use mesa_session::OpenGate;
 use std::alloc::{AllocError, Global};

@@ -16,8 +16,8 @@ use mesa_compact::{begin_file, end_file, give_up};
 use mesa_delta::DeltaWriter;
 use mesa_disk::{Bench, Draft, FileReader, Made};
 use mesa_file::FileId;
-use mesa_schema::{KeyList, Schema};
 use mesa_open_files::{CompactError, MadeFile};
+use mesa_schema::{KeyList, Schema};
 use std::alloc::Global;
 use std::thread::Threads;
 

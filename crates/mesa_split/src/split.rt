@@ -19,8 +19,8 @@ use crate::table::table_file;
 use mesa_compact::{gatherers_of, newest_of, regroupings, view_files};
 use mesa_delta::FileError;
 use mesa_disk::{Bench, FileReader, Made};
-use mesa_schema::{Evolving, KeyList};
 use mesa_open_files::{CompactError, MadeFiles, NewDelta, Serials, Task};
+use mesa_schema::{Evolving, KeyList};
 use std::alloc::Global;
 use std::thread::Threads;
 

@@ -24,12 +24,12 @@ ghost use Rattle.mesa_split.specs.Split.{IsSpareDamage};
 use crate::files::range_file;
 use crate::lending::{give_back, lend};
 use mesa_answer::Groups;
+use mesa_batch::folds_totals;
 use mesa_delta::{FileError, Input};
 use mesa_disk::{Bench, FileReader, Made};
 use mesa_file::FileId;
-use mesa_batch::folds_totals;
-use mesa_schema::{Evolving, KeyList};
 use mesa_open_files::{CompactError, MadeFile, Spare};
+use mesa_schema::{Evolving, KeyList};
 use std::alloc::Global;
 use std::thread::Threads;
 

@@ -16,12 +16,12 @@ use crate::LookError;
 use mesa_catalog::{Catalog, Relation};
 use mesa_disk::{Disk, Made};
 use mesa_filter::{Query, QueryError, QueryWords, VersionWord};
-use mesa_store_spec::catalogs_are_shaped;
 use mesa_list::Items;
+use mesa_open_files::Pinned;
 use mesa_pick_files::open_files;
 use mesa_recover::Opened;
+use mesa_store_spec::catalogs_are_shaped;
 use mesa_validate::{Found, relation_asked, relation_schema};
-use mesa_open_files::Pinned;
 use std::alloc::{AllocError, Global};
 
 /// Opens the files of the relation of a name, a table or a view, for a query of all its rows at the newest version.

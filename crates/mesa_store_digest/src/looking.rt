@@ -21,10 +21,10 @@ use mesa_catalog::{Catalog, Relation};
 use mesa_delta::FileError;
 use mesa_digest::{DigestPair, digests};
 use mesa_disk::{Disk, FileReader, Made};
+use mesa_open_files::{Pinned, retire_pinned};
 use mesa_query::whole;
 use mesa_recover::Opened;
 use mesa_validate::{relation_asked, relation_schema};
-use mesa_open_files::{Pinned, retire_pinned};
 use std::alloc::Global;
 
 /// The newest version, and the digests of the rows that the relation of a name has then. Nothing of the store is

@@ -5,7 +5,6 @@ ghost use Rattle.std.specs.Prelude.{◌≡◌, ◌↔◌, IsTrue, ℤ};
 ghost use Rattle.mesa_value.specs.declared.Agg.{Agg as Aggs};
 ghost use Rattle.mesa_value.specs.Agg.{Combines, IsDefault, IsOrderless, combined};
 
-
 /// A value of a column.
 pub type Amount = i128;
 
@@ -62,4 +61,5 @@ pub fn commutes()
 pub fn keeps_defaults()
     ensures { (agg : Aggs) (value : ℤ) → IsDefault agg value → combined agg value value ≡ value }
 {}
+
 pub use mesa_list::{Items, TryCopy, place_of_byte};

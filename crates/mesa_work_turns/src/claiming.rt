@@ -15,8 +15,8 @@ ghost use Rattle.mesa_work_turns.specs.Claims.{claim_as};
 use mesa_engine::{Failure, Metadata};
 use mesa_lease::TABLES;
 use mesa_model::Refusal;
-use mesa_validate::table_number;
 use mesa_span::{Work, next_work};
+use mesa_validate::table_number;
 
 /// The table of a work, and the range that it makes.
 #[derive(Clone, Copy)]

@@ -22,6 +22,7 @@ ghost use Rattle.mesa_engine.specs.Written.{written_at};
 ghost use Rattle.mesa_work_turns.specs.Merged.{HasNotSwapped, cause_met, unswapped_state};
 ghost use Rattle.mesa_work_turns.specs.Swept.{ClaimHolds, HasStood, IsSwept};
 
+use crate::give_back;
 use crate::lease_checking::check;
 use crate::readying::{Ready, prepare};
 use mesa_disk::{Disk, Made};
@@ -29,11 +30,10 @@ use mesa_engine::{Engine, Failure, Metadata, Naming, Who};
 use mesa_io::Sink;
 use mesa_lease::TABLES;
 use mesa_model::{Kind, Outcome, Refusal, Reply, WorkWords};
-use mesa_write_turns::Swapped;
+use mesa_open_files::{NewDelta, Task};
 use mesa_span::Work;
 use mesa_store::write_record;
-use mesa_open_files::{NewDelta, Task};
-use crate::give_back;
+use mesa_write_turns::Swapped;
 use std::alloc::{AllocError, Global};
 
 // Why a range isn't swapped in, before the disk is called.

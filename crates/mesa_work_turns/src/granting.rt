@@ -32,8 +32,8 @@ use mesa_engine::{Engine, Failure, Metadata, Naming, Who};
 use mesa_io::Sink;
 use mesa_lease::TABLES;
 use mesa_model::{Kind, Outcome, WorkWords};
-use mesa_pick_files::gather;
 use mesa_open_files::{Task, Unopened};
+use mesa_pick_files::gather;
 
 /// The first turn of a work: its table has a lease from it on, and the files that it folds are open; unless the vault has closed, there is no such table, another work has the table, there is nothing to merge, or a file couldn't be opened.
 pub fn grant<N: Naming, M: Made, D: Disk<M>, K: Sink>(

@@ -20,10 +20,10 @@ use mesa_disk::{FileReader, Made};
 use mesa_engine::Metadata;
 use mesa_file::FileId;
 use mesa_journal::Framed;
-use mesa_write_turns::{Swapped, swap};
+use mesa_open_files::{NewDelta, Task};
 use mesa_record::Record;
 use mesa_recover::frame;
-use mesa_open_files::{NewDelta, Task};
+use mesa_write_turns::{Swapped, swap};
 use std::alloc::{AllocError, Global};
 
 // What is to be swapped in: the record with its files, its frame, the files that it lets go, and those that the turn removes.

@@ -31,9 +31,9 @@ use mesa_engine::{Engine, Naming, Who};
 use mesa_io::Sink;
 use mesa_lease::TABLES;
 use mesa_model::{Kind, Outcome, RecastWords};
+use mesa_open_files::Recast;
 use mesa_pick_files::gather_recast;
 use mesa_validate::Regrouping;
-use mesa_open_files::Recast;
 
 /// The first turn of a recast: its table has a lease from it on, and the files of all its ranges are open; unless the vault has closed, the rules of recasts don't allow it, a lease holds, the table has too many deltas, or a file couldn't be opened.
 pub fn grant_recast<N: Naming, M: Made, D: Disk<M>, K: Sink>(

@@ -19,15 +19,15 @@ ghost use Rattle.mesa_write_turns.specs.mesa_invariant_spec.Invariant.{run_at};
 ghost use Rattle.mesa_open_files.specs.Tasks.{claim_in};
 ghost use Rattle.mesa_work_turns.specs.Unmerged.{MergeDiffered, TellsDamage, cause_of, closing_cause, closing_state, unmerged_state};
 
+use crate::give_back;
 use mesa_delta::FileError;
 use mesa_disk::{Disk, Made};
 use mesa_engine::{Engine, Failure, Metadata, Naming, Who};
 use mesa_io::Sink;
 use mesa_lease::TABLES;
 use mesa_model::{Kind, Refusal, WorkWords};
-use mesa_read_turns::can_be_told;
 use mesa_open_files::{CompactError, Task, retire_task};
-use crate::give_back;
+use mesa_read_turns::can_be_told;
 
 // Why a merge failed.
 fn failed(error: &CompactError) -> Failure

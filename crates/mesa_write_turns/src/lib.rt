@@ -9,6 +9,6 @@ mod publishing;
 mod ruling;
 mod writing;
 
-pub use mesa_file_records::{Swapped, recast, swap, tables_become};
 pub use commands::{alter, expire, table, view};
+pub use mesa_file_records::{Swapped, recast, swap, tables_become};
 pub use publishing::publish;

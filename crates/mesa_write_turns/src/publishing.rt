@@ -28,9 +28,9 @@ use crate::writing::{Change, write};
 use mesa_batch::{BatchError, LoadRows};
 use mesa_disk::{Disk, Made};
 use mesa_engine::{Catalog, Engine, Failure, Metadata, Naming, Who};
+use mesa_file_records::{Published, Unpublished};
 use mesa_io::Sink;
 use mesa_model::{Kind, Refusal, Reply};
-use mesa_file_records::{Published, Unpublished};
 use mesa_open_files::{LoadError, Prepared};
 use std::alloc::Global;
 

@@ -7,8 +7,8 @@ ghost use Rattle.mesa_write_turns.specs.Ruling.{IsAllowed, IsRefused, told_as};
 
 use mesa_engine::{Failure, Metadata};
 use mesa_model::{AlterWords, Refusal, TableWords, ViewWords};
-use mesa_validate::Ruled;
 use mesa_schema::Words;
+use mesa_validate::Ruled;
 use std::alloc::Global;
 
 // Why a turn does nothing, where the rules say why.
@@ -95,7 +95,11 @@ pub(crate) fn rule_expire(
             Ok(ruled) => Ok(ruled),
             Err(refusal) => Err(Failure::Refused(refusal)),
         },
-        Some(name) => match mesa_validate::expire_table(metadata.catalog(), name.as_slice(), version) {
+        Some(name) => match mesa_validate::expire_table(
+            metadata.catalog(),
+            name.as_slice(),
+            version,
+        ) {
             Ok(ruled) => Ok(ruled),
             Err(why) => Err(told(why)),
         },

@@ -7,8 +7,8 @@ use crate::reference::replies::push_reply;
 use mesa_key::KeyType;
 use mesa_model::Command;
 use mesa_parse::parse;
-use mesa_test_oracle::PlainWarehouse;
 use mesa_script::Script;
+use mesa_test_oracle::PlainWarehouse;
 use std::alloc::Global;
 use std::process::Abort;
 

@@ -1,7 +1,7 @@
 // The words that the program is called with, and the script that a seed gives.
 use crate::expected::expect_same;
-use mesa_parse::{Form, read_form};
 use mesa_generate::generate;
+use mesa_parse::{Form, read_form};
 use std::str;
 
 // What words ask for.
