@@ -27,8 +27,9 @@ use crate::testing::{Test, test_ranges};
 use crate::totals::{add_up, are_at_most};
 use mesa_catalog_table::Table;
 use mesa_check_file::CheckError;
-use mesa_disk::{Disk, Made};
+use mesa_disk::Made;
 use mesa_key::KeyBytes;
+use mesa_open_files::DeltaDisk;
 use std::alloc::{AllocError, Global};
 
 /// A table's fault: its range of versions, and the key that shows it, if a single one does.
@@ -40,7 +41,7 @@ pub(crate) struct Shown {
 }
 
 /// The first fault of a table; None where it has none.
-pub(crate) fn table_fault<M: Made, D: Disk<M>>(
+pub(crate) fn table_fault<M: Made, D: DeltaDisk<M>>(
     alloc: Global,
     disk: &mut D,
     table: &Table,
@@ -89,7 +90,7 @@ fn is_true(one: &Test) -> bool
 }
 
 // The first fault of a table's ranges.
-fn first_fault<M: Made, D: Disk<M>>(
+fn first_fault<M: Made, D: DeltaDisk<M>>(
     alloc: Global,
     disk: &mut D,
     table: &Table,
@@ -167,7 +168,7 @@ fn is_range(told: Option<&Test>, range: &Held) -> bool
 }
 
 // The key of a range's first fault, if a single one shows it; None where the range has none.
-fn range_fault<M: Made, D: Disk<M>>(
+fn range_fault<M: Made, D: DeltaDisk<M>>(
     alloc: Global,
     disk: &mut D,
     table: &Table,
@@ -215,7 +216,7 @@ fn has_false_totals(one: &Test) -> bool
 }
 
 // The first key that shows a fault of a range: where a cumulative differs, and then where view files do.
-fn key_shown<M: Made, D: Disk<M>>(
+fn key_shown<M: Made, D: DeltaDisk<M>>(
     alloc: Global,
     disk: &mut D,
     table: &Table,

@@ -13,8 +13,8 @@ ghost use Rattle.mesa_check.specs.Tested.{AreSumsFound, HasRows, live_file_of};
 
 use mesa_check_file::{CheckError, Sums, examine};
 use mesa_delta::one_file;
-use mesa_disk::{Disk, FileRef, Made};
-use mesa_open_files::Wanted;
+use mesa_disk::{FileRef, Made};
+use mesa_open_files::{DeltaDisk, Wanted};
 use mesa_pick_files::own_columns;
 use mesa_record::ViewRef;
 use mesa_schema::Evolving;
@@ -22,7 +22,7 @@ use std::alloc::Global;
 use std::sync::Arc;
 
 /// What the absolute values of a file's rows add up to, where it is the recorded one.
-pub(crate) fn test_file<M: Made, D: Disk<M>>(
+pub(crate) fn test_file<M: Made, D: DeltaDisk<M>>(
     alloc: Global,
     disk: &mut D,
     wanted: &Wanted,
@@ -50,7 +50,7 @@ fn length_of(file: &FileRef) -> u64
 }
 
 /// Whether the files of views are the recorded ones, and of views that are there.
-pub(crate) fn are_views_found<M: Made, D: Disk<M>>(
+pub(crate) fn are_views_found<M: Made, D: DeltaDisk<M>>(
     alloc: Global,
     disk: &mut D,
     evolving: &Arc<Evolving>,
@@ -69,7 +69,7 @@ pub(crate) fn are_views_found<M: Made, D: Disk<M>>(
     Ok(true)
 }
 
-fn is_view_found<M: Made, D: Disk<M>>(
+fn is_view_found<M: Made, D: DeltaDisk<M>>(
     alloc: Global,
     disk: &mut D,
     evolving: &Arc<Evolving>,

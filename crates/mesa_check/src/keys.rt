@@ -25,9 +25,9 @@ use crate::testing::Test;
 use crate::totals::keep_bound;
 use mesa_catalog_table::Table;
 use mesa_check_file::{CheckError, cumulative_difference, view_difference};
-use mesa_disk::{Disk, Made};
+use mesa_disk::Made;
 use mesa_key::KeyBytes;
-use mesa_open_files::Wanted;
+use mesa_open_files::{DeltaDisk, Wanted};
 use mesa_pick_files::{own_columns, table_files};
 use mesa_record::{Files, ViewRef};
 use mesa_schema::Evolving;
@@ -35,7 +35,7 @@ use std::alloc::Global;
 use std::sync::Arc;
 
 /// The least key at which a cumulative differs from the fold of its range's singletons. A cumulative before it that agrees with its own stands for them, so that only what was loaded since then is read beside it.
-pub(crate) fn merged_key<M: Made, D: Disk<M>>(
+pub(crate) fn merged_key<M: Made, D: DeltaDisk<M>>(
     alloc: Global,
     disk: &mut D,
     table: &Table,
@@ -72,7 +72,7 @@ pub(crate) fn merged_key<M: Made, D: Disk<M>>(
 }
 
 /// The least key at which the first of a range's view files that differs from its table's rows, grouped, does.
-pub(crate) fn view_key<M: Made, D: Disk<M>>(
+pub(crate) fn view_key<M: Made, D: DeltaDisk<M>>(
     alloc: Global,
     disk: &mut D,
     evolving: &Arc<Evolving>,
@@ -93,7 +93,7 @@ pub(crate) fn view_key<M: Made, D: Disk<M>>(
 }
 
 // The same where the rows at present keep the bound.
-fn first_view_key<M: Made, D: Disk<M>>(
+fn first_view_key<M: Made, D: DeltaDisk<M>>(
     alloc: Global,
     disk: &mut D,
     evolving: &Arc<Evolving>,
@@ -121,7 +121,7 @@ fn first_view_key<M: Made, D: Disk<M>>(
 }
 
 // The least key at which a view's file differs from a table's rows, grouped, where the view is there.
-fn one_view_key<M: Made, D: Disk<M>>(
+fn one_view_key<M: Made, D: DeltaDisk<M>>(
     alloc: Global,
     disk: &mut D,
     table: &Wanted,

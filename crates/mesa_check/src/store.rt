@@ -20,14 +20,15 @@ use crate::{Verdict, sound_where_no_fault};
 use mesa_catalog::Catalog;
 use mesa_catalog_table::Table;
 use mesa_check_file::CheckError;
-use mesa_disk::{Disk, Made};
+use mesa_disk::Made;
 use mesa_list::TryCopy;
+use mesa_open_files::DeltaDisk;
 use mesa_recover::Opened;
 use mesa_store_spec::{catalogs_are_shaped, catalogs_own_ids};
 use std::alloc::{AllocError, Global};
 
 /// Whether a store that was read is sound, and else its first fault. Each file that the catalogue names is read once, and once more for each comparison that it is in: a singleton's with one cumulative, a cumulative's with its singletons and with the next cumulative, and a table's file with each of its views'. A block of each file that is open is held, and of a view's file the groups of its table's rows. Nothing is written.
-pub fn check<M: Made, D: Disk<M>>(
+pub fn check<M: Made, D: DeltaDisk<M>>(
     alloc: Global,
     opened: &mut Opened<D>,
 ) -> Result<Verdict, CheckError>
@@ -44,7 +45,7 @@ pub fn check<M: Made, D: Disk<M>>(
 }
 
 // Table by table, up to the first that has a fault.
-fn check_tables<M: Made, D: Disk<M>>(
+fn check_tables<M: Made, D: DeltaDisk<M>>(
     alloc: Global,
     disk: &mut D,
     catalog: &Catalog,

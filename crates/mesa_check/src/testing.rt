@@ -14,9 +14,9 @@ use crate::files::{are_views_found, test_file};
 use crate::range::Held;
 use crate::totals::{agree, no_sums};
 use mesa_check_file::CheckError;
-use mesa_disk::{Disk, Made};
+use mesa_disk::Made;
 use mesa_list::Items;
-use mesa_open_files::Wanted;
+use mesa_open_files::{DeltaDisk, Wanted};
 use mesa_record::Files;
 use mesa_schema::Evolving;
 use std::alloc::{AllocError, Global};
@@ -35,7 +35,7 @@ pub(crate) struct Test<'a> {
 }
 
 /// Reads the files of ranges.
-pub(crate) fn test_ranges<'a, M: Made, D: Disk<M>>(
+pub(crate) fn test_ranges<'a, M: Made, D: DeltaDisk<M>>(
     alloc: Global,
     disk: &mut D,
     evolving: &Arc<Evolving>,
@@ -56,7 +56,7 @@ pub(crate) fn test_ranges<'a, M: Made, D: Disk<M>>(
     Ok(tests)
 }
 
-fn test_range<'a, M: Made, D: Disk<M>>(
+fn test_range<'a, M: Made, D: DeltaDisk<M>>(
     alloc: Global,
     disk: &mut D,
     evolving: &Arc<Evolving>,
@@ -99,7 +99,7 @@ fn test_none<'a>(
     })
 }
 
-fn test_files<'a, M: Made, D: Disk<M>>(
+fn test_files<'a, M: Made, D: DeltaDisk<M>>(
     alloc: Global,
     disk: &mut D,
     evolving: &Arc<Evolving>,

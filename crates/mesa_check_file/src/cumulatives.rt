@@ -26,12 +26,12 @@ use mesa_disk::{Disk, Made};
 use mesa_key::KeyBytes;
 use mesa_merge::Merge;
 use mesa_open_files::{
-    Met, Opened, Unopened, Wanted, open_all, open_one, retire_all, retire_input,
+    DeltaDisk, Met, Opened, Unopened, Wanted, open_all, open_one, retire_all, retire_input,
 };
 use std::alloc::Global;
 
 /// The first key at which the rows of a cumulative's own file, or none where it has no file, differ from the fold of the files of its range's singletons, all at present. Each file is read once, and of each one block is held.
-pub fn cumulative_difference<M: Made, D: Disk<M>>(
+pub fn cumulative_difference<M: Made, D: DeltaDisk<M>>(
     alloc: Global,
     disk: &mut D,
     singles: &[Wanted],
@@ -64,7 +64,7 @@ pub fn cumulative_difference<M: Made, D: Disk<M>>(
 }
 
 // The first difference of the fold of inputs from a wanted file, or from no rows. All readers are given back.
-fn fold_difference<M: Made, D: Disk<M>>(
+fn fold_difference<M: Made, D: DeltaDisk<M>>(
     alloc: Global,
     disk: &mut D,
     inputs: Vec<Input<D::Reader>>,
@@ -110,7 +110,7 @@ fn against_none<M: Made, D: Disk<M>>(
 }
 
 // The first difference of a merge that has given nothing yet from a wanted file. The readers of both are given back.
-fn against_file<M: Made, D: Disk<M>>(
+fn against_file<M: Made, D: DeltaDisk<M>>(
     alloc: Global,
     disk: &mut D,
     merge: Merge<D::Reader>,

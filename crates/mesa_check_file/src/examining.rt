@@ -20,16 +20,16 @@ use crate::tally::Tally;
 use crate::totals::{Sums, sum_totals};
 use mesa_block::fits_alone;
 use mesa_delta::{FileError, Input};
-use mesa_disk::{Disk, FileReader, FileRef, Made};
+use mesa_disk::{FileReader, FileRef, Made};
 use mesa_list::TryCopy;
-use mesa_open_files::{Met, Wanted, open_one, retire_input};
+use mesa_open_files::{DeltaDisk, Met, Wanted, open_one, retire_input};
 use mesa_scan::Cursor;
 use mesa_schema::{Evolving, Lift, Row, Schema};
 use std::alloc::{AllocError, Global};
 use std::sync::Arc;
 
 /// Reads a file once: whether it is the recorded one, and what its rows add up to. One block of it is held.
-pub fn examine<M: Made, D: Disk<M>>(
+pub fn examine<M: Made, D: DeltaDisk<M>>(
     alloc: Global,
     disk: &mut D,
     wanted: &Wanted,

@@ -20,11 +20,11 @@ use crate::grouped::grouped_difference;
 use mesa_delta::Input;
 use mesa_disk::{Disk, Made};
 use mesa_key::KeyBytes;
-use mesa_open_files::{Met, Wanted, open_one, retire_input};
+use mesa_open_files::{DeltaDisk, Met, Wanted, open_one, retire_input};
 use std::alloc::Global;
 
 /// The first group key at which the rows of a view's own file differ from those of its table's file, at present and grouped by the view of this number. Both files are read once; beside the groups one block of each is held.
-pub fn view_difference<M: Made, D: Disk<M>>(
+pub fn view_difference<M: Made, D: DeltaDisk<M>>(
     alloc: Global,
     disk: &mut D,
     table: &Wanted,

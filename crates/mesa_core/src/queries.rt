@@ -20,11 +20,11 @@ use mesa_delta::FileError;
 use mesa_disk::{Disk, Made};
 use mesa_engine::{Naming, Who};
 use mesa_io::Sink;
-use mesa_open_files::Pinned;
+use mesa_open_files::{DeltaDisk, Pinned};
 use mesa_recast_turns::{close_query, pin_query};
 use mesa_script::Rendered;
 
-impl<'s, N: Naming, M: Made, D: Disk<M>, K: Sink> Vault<'s, N, M, D, K> {
+impl<'s, N: Naming, M: Made, D: DeltaDisk<M>, K: Sink> Vault<'s, N, M, D, K> {
     /// A query's deciding turn: the files that answer it. They have to come back by `close_query`.
     pub fn pin_query(&mut self, who: Who) -> Option<Pinned<D::Reader>>
         requires due { Asks N.script (run_at N.script (N.start no_rows) self.old.shown.history) who.session who.command First is_query }
@@ -37,7 +37,9 @@ impl<'s, N: Naming, M: Made, D: Disk<M>, K: Sink> Vault<'s, N, M, D, K> {
         let words = words_of(self.script, who);
         pin_query(&mut self.engine, who, words)
     }
+}
 
+impl<'s, N: Naming, M: Made, D: Disk<M>, K: Sink> Vault<'s, N, M, D, K> {
     /// A query's last turn, in which its answer is printed. Takes no memory.
     pub fn close_query(
         &mut self,

@@ -29,7 +29,7 @@ use mesa_delta::FileError;
 use mesa_disk::{Disk, Made};
 use mesa_engine::{Engine, Naming, Who};
 use mesa_io::Sink;
-use mesa_open_files::{CompactError, Recast, Recasted};
+use mesa_open_files::{CompactError, DeltaDisk, Recast, Recasted};
 use mesa_recast_turns::{grant_recast, recast, renew_recast, rest, tables_become};
 
 // What holds of a recast's files between turns, by what was so at its grant.
@@ -48,7 +48,7 @@ fn held<N: Naming, M: Made, D: Disk<M>, K: Sink>(
     tables_become();
 }
 
-impl<'s, N: Naming, M: Made, D: Disk<M>, K: Sink> Vault<'s, N, M, D, K> {
+impl<'s, N: Naming, M: Made, D: DeltaDisk<M>, K: Sink> Vault<'s, N, M, D, K> {
     /// A recast's first turn: the files of its table's ranges. They have to come back by `renew_recast` or `recast`.
     pub fn grant_recast(&mut self, who: Who) -> Option<Recast<D::Reader>>
         requires due { Asks N.script (run_at N.script (N.start no_rows) self.old.shown.history) who.session who.command First is_recast }
@@ -68,7 +68,9 @@ impl<'s, N: Naming, M: Made, D: Disk<M>, K: Sink> Vault<'s, N, M, D, K> {
         recasts_are_known(&task);
         Some(task)
     }
+}
 
+impl<'s, N: Naming, M: Made, D: Disk<M>, K: Sink> Vault<'s, N, M, D, K> {
     /// A recast's turn once its ranges are rewritten: its lease holds anew.
     pub fn renew_recast(&mut self, who: Who, task: Recast<D::Reader>) -> Option<Recast<D::Reader>>
         requires due { Asks N.script (run_at N.script (N.start no_rows) self.old.shown.history) who.session who.command (Granted (claim_of_recast task)) is_recast }
@@ -82,7 +84,9 @@ impl<'s, N: Naming, M: Made, D: Disk<M>, K: Sink> Vault<'s, N, M, D, K> {
         let words = recast_of(self.script, who);
         renew_recast(&mut self.engine, who, words, task)
     }
+}
 
+impl<'s, N: Naming, M: Made, D: DeltaDisk<M>, K: Sink> Vault<'s, N, M, D, K> {
     /// What a recast does before its close, in the same turn: the files of the batches that came since its grant are opened, as long as its table is the one that was granted. It adds no entry. A call of the disk that failed is answered by the close behind it.
     pub fn rest(
         &mut self,
@@ -123,7 +127,9 @@ impl<'s, N: Naming, M: Made, D: Disk<M>, K: Sink> Vault<'s, N, M, D, K> {
         }
         Ok(task)
     }
+}
 
+impl<'s, N: Naming, M: Made, D: Disk<M>, K: Sink> Vault<'s, N, M, D, K> {
     /// A recast's last turn: what its ranges were rewritten to, once its lease was renewed, or why they weren't.
     pub fn recast(
         &mut self,

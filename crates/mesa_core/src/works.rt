@@ -22,10 +22,10 @@ use crate::{Vault, bounds_are_known, leases_hold, merges_are_known, ranges_go_on
 use mesa_disk::{Disk, Made};
 use mesa_engine::{Naming, Who};
 use mesa_io::Sink;
-use mesa_open_files::{CompactError, NewDelta, Task};
+use mesa_open_files::{CompactError, DeltaDisk, NewDelta, Task};
 use mesa_recast_turns::{complete, give_up, grant, renew, tables_become};
 
-impl<'s, N: Naming, M: Made, D: Disk<M>, K: Sink> Vault<'s, N, M, D, K> {
+impl<'s, N: Naming, M: Made, D: DeltaDisk<M>, K: Sink> Vault<'s, N, M, D, K> {
     /// A work's first turn: the files that are to be merged. They have to come back by `renew` or `complete`.
     pub fn grant(&mut self, who: Who) -> Option<Task<D::Reader>>
         requires due { Asks N.script (run_at N.script (N.start no_rows) self.old.shown.history) who.session who.command First is_merge }
@@ -42,7 +42,9 @@ impl<'s, N: Naming, M: Made, D: Disk<M>, K: Sink> Vault<'s, N, M, D, K> {
         claims(&self.engine);
         granted
     }
+}
 
+impl<'s, N: Naming, M: Made, D: Disk<M>, K: Sink> Vault<'s, N, M, D, K> {
     /// A work's turn once its files are merged: its lease holds anew.
     pub fn renew(&mut self, who: Who, task: Task<D::Reader>) -> Option<Task<D::Reader>>
         requires due { Asks N.script (run_at N.script (N.start no_rows) self.old.shown.history) who.session who.command (Granted (claim_in task)) is_merge }

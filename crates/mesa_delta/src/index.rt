@@ -18,10 +18,17 @@ use mesa_list::{Items, TryCopy};
 use mesa_schema::Schema;
 use std::alloc::{AllocError, Global};
 use std::marker::Model;
+use std::sync::Arc;
 
-/// A file as its tail and its reference tell it: where each block is, its length, its digest, the short key of its first key, and that of the file's last key.
+/// A file as its tail and its reference tell it: where each block is, its length, its digest, the short key of its first key, and that of the file's last key. It can be shared.
 #[derive(Drop)]
 pub struct Index {
+    held: Arc<Held>,
+}
+
+// What an index tells.
+#[derive(Drop)]
+struct Held {
     file: FileId,
     format: Format,
     schema: Schema,
@@ -37,9 +44,9 @@ impl Model for Index {
 
     ghost Value = { Indexed };
 
-    ghost view = { λ x. record { file = x.file; layout = record { format = x.format; columns = x.schema }; len = x.len; tail = x.tail; rows = x.rows; entries = x.entries; last = x.last } };
+    ghost view = { λ x. record { file = x.held.value.file; layout = record { format = x.held.value.format; columns = x.held.value.schema }; len = x.held.value.len; tail = x.held.value.tail; rows = x.held.value.rows; entries = x.held.value.entries; last = x.held.value.last } };
 
-    ghost invariant = { λ x. IsIndex (record { file = x.file; layout = record { format = x.format; columns = x.schema }; len = x.len; tail = x.tail; rows = x.rows; entries = x.entries; last = x.last }) };
+    ghost invariant = { λ x. IsIndex (record { file = x.held.value.file; layout = record { format = x.held.value.format; columns = x.held.value.schema }; len = x.held.value.len; tail = x.held.value.tail; rows = x.held.value.rows; entries = x.held.value.entries; last = x.held.value.last }) };
 }
 
 impl Index {
@@ -77,7 +84,7 @@ impl Index {
         if !never_fall(&entries) {
             return Ok(None);
         }
-        Ok(Some(Index {
+        let held = Held {
             file: file.id,
             format: file.format,
             schema: schema.copy()?,
@@ -86,42 +93,54 @@ impl Index {
             rows,
             entries: Items::from_vec(entries),
             last: short(file.last.as_slice()),
+        };
+        Ok(Some(Index {
+            held: Arc::new(alloc, held)?,
         }))
+    }
+
+    /// The same index once more. What it tells is shared.
+    pub fn share(&self) -> Result<Self, AllocError>
+        ensures { IfOk result (λ index. index ≡ self.now) }
+    {
+        Ok(Index {
+            held: self.held.clone()?,
+        })
     }
 
     /// The id of the file.
     pub fn file(&self) -> FileId
         ensures { result ≡ self.now.file }
     {
-        self.file
+        self.held.file
     }
 
     /// How the file's blocks spell values.
     pub fn format(&self) -> Format
         ensures { result ≡ self.now.layout.format }
     {
-        self.format
+        self.held.format
     }
 
     /// The columns of the file's rows.
     pub fn schema(&self) -> &Schema
         ensures { result.now ≡ self.now.layout.columns }
     {
-        &self.schema
+        &self.held.schema
     }
 
     /// How many bytes the file has.
     pub fn len(&self) -> u64
         ensures { result ≡ self.now.len }
     {
-        self.len
+        self.held.len
     }
 
     /// How many rows the file has.
     pub fn rows(&self) -> u64
         ensures { result ≡ self.now.rows }
     {
-        self.rows
+        self.held.rows
     }
 
     /// How many blocks the file has.
@@ -129,7 +148,7 @@ impl Index {
         ensures blocks { result ≡ length self.now.entries }
         ensures index { IsIndex self.now }
     {
-        self.entries.len() as u32
+        self.held.entries.len() as u32
     }
 
     /// The short key of a block's first key.
@@ -137,14 +156,14 @@ impl Index {
         requires { i < length self.now.entries }
         ensures { result.now ≡ (entry_of self.now.entries i).short }
     {
-        &self.entries.as_slice()[i as usize].short
+        &self.held.entries.as_slice()[i as usize].short
     }
 
     /// The short key of the file's last key.
     pub fn last(&self) -> &[u8; 16]
         ensures { result.now ≡ self.now.last }
     {
-        &self.last
+        &self.held.last
     }
 
     /// Where a block begins in the file.
@@ -162,19 +181,19 @@ impl Index {
         ensures index { IsIndex self.now }
         ensures within { result.offset + result.len ≤ self.now.len }
     {
-        self.entries.as_slice()[i as usize]
+        self.held.entries.as_slice()[i as usize]
     }
 
     /// The block at which to begin to look for a key.
     pub fn seek(&self, key: &[u8]) -> u32
         ensures { result ≡ seek_in (short_key key.now) (shorts_of self.now.entries) }
     {
-        seek(self.entries.as_slice(), key) as u32
+        seek(self.held.entries.as_slice(), key) as u32
     }
 
     /// The allocator that the index came from.
     pub(crate) fn allocator(&self) -> Global {
-        self.entries.allocator()
+        self.held.entries.allocator()
     }
 }
 

@@ -1,3 +1,4 @@
+mod Attaching
 pub mod Counts
 pub mod Retired
 pub mod Openings

@@ -14,8 +14,8 @@ use Rattle.mesa_delta.specs.mesa_block.Layout.{Layout}
 use Rattle.mesa_delta.specs.declared.error.FileError.{FileError}
 use Rattle.mesa_delta.specs.declared.error.FileError.TheVariants as file_error
 use Rattle.mesa_delta.specs.File.{IsFile}
-use Rattle.mesa_delta.specs.Indexed.{IsIndexOf}
-use Rattle.mesa_delta.specs.Reading.{IsTailDamage, index_of}
+use Rattle.mesa_delta.specs.Indexed.{Indexed, IsIndexOf}
+use Rattle.mesa_delta.specs.Reading.{IsOver, IsTailDamage, index_of}
 use Rattle.mesa_delta.specs.Summary.{IsReferenceOf, file_layout}
 use Rattle.mesa_delta.specs.declared.input.Input.{Input}
 use Rattle.mesa_scan.specs.Cursors.{IsInput, reader_in}
@@ -81,6 +81,10 @@ HasBytes bytes told id reader = (i : Image) → told ≡ Some i → (b : List �
 -- Where a read of the disk isn't told, a reader tells no bytes.
 abbrev pub IsUntold : {R : Type 0} → (R → Option (List ℕ)) → Option Image → R → Type 0
 IsUntold bytes told reader = told ≡ None → bytes reader ≡ None
+
+-- An index is true of the file of an id: what a read of the disk gives has the file, and its bytes end with the tail of the index.
+abbrev pub IsTrueOf : Option Image → ℕ → Indexed → Type 0
+IsTrueOf told id x = (i : Image) → told ≡ Some i → (b : List ℕ) × (file_of i id ≡ Some b) × IsOver x b
 
 -- An index is what a tail with the recorded digest tells.
 abbrev pub IsRecordedIndex : {R : Type 0} → Wanted → Input R → Type 0

@@ -1,6 +1,7 @@
 //! What is handed out of turns and comes back to them: the files of a batch, of a merged range or of a recast table, and the inputs of a merge, a recast or a query; and how files are opened and given back.
 #![tactic(auto)]
 
+mod delta_disk;
 mod giving_back;
 mod made;
 mod merging;
@@ -10,6 +11,7 @@ mod querying;
 mod recasting;
 mod serials;
 
+pub use delta_disk::DeltaDisk;
 pub use giving_back::{
     retire_all, retire_input, retire_pinned, retire_ranges, retire_recast, retire_spare,
     retire_spares, retire_task,

@@ -10,9 +10,9 @@ ghost use Rattle.mesa_delta.specs.Summary.{file_layout};
 ghost use Rattle.mesa_delta.specs.declared.error.FileError.TheVariants as file_error;
 ghost use Rattle.mesa_open_files.specs.Opening.{Counted, HasBytes, HasEpoch, HasMet, HaveOpened, IsDamageOf, IsUntold, is_fault_in, is_fault_met, is_read_fault, wanted_columns};
 
-use crate::retire_all;
+use crate::{DeltaDisk, retire_all};
 use mesa_delta::{DeltaReader, FileError, Input};
-use mesa_disk::{Disk, Made, OpenFault};
+use mesa_disk::{FileReader, Made, OpenFault};
 use mesa_file::{Damage, FileRef, Seen};
 use mesa_schema::{Evolving, Schema};
 use std::alloc::{AllocError, Global};
@@ -50,8 +50,12 @@ pub enum Unopened {
     Memory,
 }
 
-/// Opens a file, and reads its tail.
-pub fn open_one<M: Made, D: Disk<M>>(alloc: Global, disk: &mut D, wanted: &Wanted) -> Met<D::Reader>
+/// Opens a file, and reads its tail where its index isn't kept.
+pub fn open_one<M: Made, D: DeltaDisk<M>>(
+    alloc: Global,
+    disk: &mut D,
+    wanted: &Wanted,
+) -> Met<D::Reader>
     requires { HasEpoch wanted.now }
     ensures unmoved { Unmoved (D.story disk.old) (D.story disk.new) }
     ensures counted { Counted (D.story disk.old) (D.story disk.new) (is_fault_met result) }
@@ -82,8 +86,8 @@ fn shared(wanted: &Wanted) -> Result<(Arc<Evolving>, Schema), AllocError>
     Ok((wanted.evolving.clone()?, schema))
 }
 
-// The reader of a file with these columns. A fault is counted, be it the disk's or the reader's.
-fn attach<M: Made, D: Disk<M>>(
+// The reader of a file with these columns. Its tail is read where its index isn't kept, or where the file isn't as long as it was. A fault is counted, be it the disk's or the reader's.
+fn attach<M: Made, D: DeltaDisk<M>>(
     alloc: Global,
     disk: &mut D,
     file: &FileRef,
@@ -105,8 +109,16 @@ fn attach<M: Made, D: Disk<M>>(
         Err(OpenFault::Memory) => return Err(FileError::Memory),
         Err(OpenFault::Absent) => return Err(FileError::Damaged(absence(file))),
     };
+    if reader.len() == file.len {
+        if let Some(index) = disk.find_index(file, schema) {
+            return Ok(DeltaReader::whole(reader, index));
+        }
+    }
     match DeltaReader::attach(alloc, reader, file, schema) {
-        Ok(opened) => Ok(opened),
+        Ok(opened) => {
+            disk.keep_index(opened.index(), &file.digest);
+            Ok(opened)
+        }
         Err((error, reader)) => {
             disk.retire(reader);
             Err(error)
@@ -128,7 +140,7 @@ fn absence(file: &FileRef) -> Damage
 
 /// Opens files in order. Where a call fails or memory is wanting, those that were opened are given back. The first file
 /// that isn't the recorded one ends the opening, and its damage is told beside those before it.
-pub fn open_all<M: Made, D: Disk<M>>(
+pub fn open_all<M: Made, D: DeltaDisk<M>>(
     alloc: Global,
     disk: &mut D,
     wanted: &[Wanted],

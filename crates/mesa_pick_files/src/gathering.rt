@@ -17,13 +17,13 @@ use crate::folding::folded;
 use crate::parts::{Part, Parts, open_parts};
 use crate::{Deltas, table_files};
 use mesa_catalog_table::Table;
-use mesa_disk::{Disk, Made};
-use mesa_open_files::{Spare, Task, Unopened};
+use mesa_disk::Made;
+use mesa_open_files::{DeltaDisk, Spare, Task, Unopened};
 use mesa_span::Work;
 use std::alloc::Global;
 
 /// The task of a work on the table of a number, which has no lease yet: the table's files of what it folds are open. They are opened once for each part of the merge, and at least once. The first file that isn't the recorded one ends the opening, and is told in the task. Each view's rows are to be derived from the table's.
-pub fn gather<M: Made, D: Disk<M>>(
+pub fn gather<M: Made, D: DeltaDisk<M>>(
     alloc: Global,
     disk: &mut D,
     table: &Table,

@@ -18,13 +18,13 @@ use crate::joining::join;
 use crate::{Deltas, Sources, Viewed, own_columns, planned, table_files, view_files};
 use mesa_catalog_table::Table;
 use mesa_delta::FileError;
-use mesa_disk::{Disk, Made};
-use mesa_open_files::{Opened, Pinned, PinnedInput, Unopened, open_all, retire_all};
+use mesa_disk::Made;
+use mesa_open_files::{DeltaDisk, Opened, Pinned, PinnedInput, Unopened, open_all, retire_all};
 use mesa_validate::Found;
 use std::alloc::Global;
 
 /// The files that answer a query of a table, or of a view of it, at its version, for a reply at a position: those of the plan are open. Where one isn't the recorded file, or can't be read, or memory is wanting, those that were opened are given back.
-pub fn open_files<M: Made, D: Disk<M>>(
+pub fn open_files<M: Made, D: DeltaDisk<M>>(
     alloc: Global,
     disk: &mut D,
     table: &Table,
@@ -58,7 +58,7 @@ pub fn open_files<M: Made, D: Disk<M>>(
 }
 
 // The files of deltas by which a table is read, or the view of a number, open.
-fn open_relation<'a, M: Made, D: Disk<M>>(
+fn open_relation<'a, M: Made, D: DeltaDisk<M>>(
     alloc: Global,
     disk: &mut D,
     table: &'a Table,
@@ -80,7 +80,7 @@ fn open_relation<'a, M: Made, D: Disk<M>>(
 }
 
 // A table's own files of deltas, open.
-fn open_table<'a, M: Made, D: Disk<M>>(
+fn open_table<'a, M: Made, D: DeltaDisk<M>>(
     alloc: Global,
     disk: &mut D,
     table: &'a Table,
@@ -103,7 +103,7 @@ fn open_table<'a, M: Made, D: Disk<M>>(
 }
 
 // The files of deltas by which a view of a table is read, open.
-fn open_view<'a, M: Made, D: Disk<M>>(
+fn open_view<'a, M: Made, D: DeltaDisk<M>>(
     alloc: Global,
     disk: &mut D,
     table: &'a Table,
@@ -133,7 +133,7 @@ fn open_view<'a, M: Made, D: Disk<M>>(
 }
 
 // Files that are wanted, open, each with whether it is the relation's own.
-fn open_sources<M: Made, D: Disk<M>>(
+fn open_sources<M: Made, D: DeltaDisk<M>>(
     alloc: Global,
     disk: &mut D,
     sources: &Sources,

@@ -10,7 +10,7 @@ ghost use Rattle.mesa_pick_files.specs.Parts.{ArePartsOf, AreReaders, IsPartOf};
 use mesa_disk::{Disk, Made};
 use mesa_file::Damage;
 use mesa_open_files::{
-    Opened, Spare, TaskView, Unopened, Wanted, open_all, retire_spare, retire_spares,
+    DeltaDisk, Opened, Spare, TaskView, Unopened, Wanted, open_all, retire_spare, retire_spares,
 };
 use std::alloc::Global;
 
@@ -28,7 +28,7 @@ pub(crate) struct Parts<R> {
 
 /// Opens files once for each part, at least once, and one part after the other. A file that isn't the recorded one at
 /// a later opening ends all: its damage is told beside the files of that opening alone.
-pub(crate) fn open_parts<M: Made, D: Disk<M>>(
+pub(crate) fn open_parts<M: Made, D: DeltaDisk<M>>(
     alloc: Global,
     disk: &mut D,
     wanted: &[Wanted],
@@ -54,7 +54,7 @@ pub(crate) fn open_parts<M: Made, D: Disk<M>>(
 }
 
 // Opens files so many times more, all of which the first opening found whole.
-fn open_further<M: Made, D: Disk<M>>(
+fn open_further<M: Made, D: DeltaDisk<M>>(
     alloc: Global,
     disk: &mut D,
     wanted: &[Wanted],
@@ -116,7 +116,7 @@ fn retire_both<M: Made, D: Disk<M>>(
 }
 
 // Opens files for one part. The rows of each view are to be derived from the table's.
-fn open_part<M: Made, D: Disk<M>>(
+fn open_part<M: Made, D: DeltaDisk<M>>(
     alloc: Global,
     disk: &mut D,
     wanted: &[Wanted],

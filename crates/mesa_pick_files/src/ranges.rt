@@ -13,16 +13,18 @@ ghost use Rattle.mesa_pick_files.specs.Ranges.{HasInput, HasMore, HoldsAll, Hold
 ghost use Rattle.mesa_pick_files.specs.Ranging.{HasMoreAs, of_table};
 
 use mesa_catalog_table::{Delta, Table};
-use mesa_disk::{Disk, Made};
+use mesa_disk::Made;
 use mesa_file::Damage;
 use mesa_list::Items;
-use mesa_open_files::{Met, Recast, RecastRange, Unopened, Wanted, open_one, retire_ranges};
+use mesa_open_files::{
+    DeltaDisk, Met, Recast, RecastRange, Unopened, Wanted, open_one, retire_ranges,
+};
 use mesa_schema::Name;
 use std::alloc::{AllocError, Global};
 use std::sync::Arc;
 
 /// The task of a recast of the table of a number to these columns, which has no lease yet: the file of each of the table's ranges is open. The first one that isn't the recorded one ends the opening, and is told in the task. A base has its range where it has no rows too.
-pub fn gather_recast<M: Made, D: Disk<M>>(
+pub fn gather_recast<M: Made, D: DeltaDisk<M>>(
     alloc: Global,
     disk: &mut D,
     table: &Table,
@@ -67,7 +69,7 @@ pub fn gather_recast<M: Made, D: Disk<M>>(
 }
 
 /// Opens the file of each range with rows that a table has and that isn't among these ranges yet, and adds it to them. The first file that isn't the recorded one ends the opening. The ranges that were there stay, also where a call fails or memory is wanting.
-pub fn gather_more<M: Made, D: Disk<M>>(
+pub fn gather_more<M: Made, D: DeltaDisk<M>>(
     alloc: Global,
     disk: &mut D,
     table: &Table,
@@ -88,7 +90,7 @@ pub fn gather_more<M: Made, D: Disk<M>>(
 }
 
 // The file of a base, which is the first of a task's ranges.
-fn gather_base<M: Made, D: Disk<M>>(
+fn gather_base<M: Made, D: DeltaDisk<M>>(
     alloc: Global,
     disk: &mut D,
     table: &Table,
@@ -117,7 +119,7 @@ fn gather_base<M: Made, D: Disk<M>>(
 }
 
 // The files of singletons. Both they and a task's ranges rise, so a place among these is gone on from.
-fn gather_singles<M: Made, D: Disk<M>>(
+fn gather_singles<M: Made, D: DeltaDisk<M>>(
     alloc: Global,
     disk: &mut D,
     table: &Table,
@@ -202,7 +204,7 @@ struct TableRange<'a> {
 }
 
 // Opens the file of a range, unless it is there already, at a place.
-fn hold_range<'a, M: Made, D: Disk<M>>(
+fn hold_range<'a, M: Made, D: DeltaDisk<M>>(
     alloc: Global,
     disk: &mut D,
     table: &'a Table,
@@ -235,7 +237,7 @@ fn is_held<R>(ranges: &[RecastRange<R>], place: usize, from: u32, to: u32) -> bo
 }
 
 // Opens the file of a range, if it has one.
-fn open_range<'a, M: Made, D: Disk<M>>(
+fn open_range<'a, M: Made, D: DeltaDisk<M>>(
     alloc: Global,
     disk: &mut D,
     table: &'a Table,

@@ -15,14 +15,14 @@ ghost use Rattle.mesa_engine.specs.mesa_invariant_spec.Queries.{HasNoAnswer};
 ghost use Rattle.mesa_engine.specs.mesa_invariant_spec.Invariant.{Counts};
 
 use crate::opening::files_asked;
-use mesa_disk::{Disk, Made};
+use mesa_disk::Made;
 use mesa_engine::{Failure, Metadata};
 use mesa_filter::{QueryWords, VersionWord};
-use mesa_open_files::{Pinned, retire_pinned};
+use mesa_open_files::{DeltaDisk, Pinned, retire_pinned};
 use std::alloc::{AllocError, Global};
 
 // The files that answer a session's query, for a reply at the position of this turn, held until it is closed; or why it isn't answered.
-pub(crate) fn hold_files<M: Made, D: Disk<M>>(
+pub(crate) fn hold_files<M: Made, D: DeltaDisk<M>>(
     alloc: Global,
     disk: &mut D,
     metadata: &mut Metadata,

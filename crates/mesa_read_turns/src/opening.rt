@@ -25,16 +25,16 @@ ghost use Rattle.mesa_engine.specs.mesa_invariant_spec.Queries.{HasNoAnswer, IsU
 use crate::closing::failed;
 use crate::{Asked, ask, can_be_told};
 use mesa_delta::FileError;
-use mesa_disk::{Disk, Made};
+use mesa_disk::Made;
 use mesa_engine::{Catalog, Failure, Metadata};
 use mesa_filter::QueryWords;
-use mesa_open_files::Pinned;
+use mesa_open_files::{DeltaDisk, Pinned};
 use mesa_pick_files::open_files;
 use mesa_validate::{Found, ordered};
 use std::alloc::{AllocError, Global};
 
 // The files that answer a session's query, for a reply at a position, or why it isn't answered.
-pub(crate) fn files_asked<M: Made, D: Disk<M>>(
+pub(crate) fn files_asked<M: Made, D: DeltaDisk<M>>(
     alloc: Global,
     disk: &mut D,
     metadata: &Metadata,
@@ -65,7 +65,7 @@ pub(crate) fn files_asked<M: Made, D: Disk<M>>(
 }
 
 // The files of what a query finds in a catalogue, by the order that is chosen for it.
-fn open_found<M: Made, D: Disk<M>>(
+fn open_found<M: Made, D: DeltaDisk<M>>(
     alloc: Global,
     disk: &mut D,
     catalog: &Catalog,

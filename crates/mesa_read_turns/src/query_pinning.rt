@@ -14,15 +14,15 @@ ghost use Rattle.mesa_engine.specs.mesa_invariant_spec.Turns.{AnswersDisk, IsSee
 ghost use Rattle.mesa_engine.specs.mesa_invariant_spec.Invariant.{run_at};
 
 use crate::holding::hold_files;
-use mesa_disk::{Disk, Made};
+use mesa_disk::Made;
 use mesa_engine::{Engine, Naming, Who};
 use mesa_filter::QueryWords;
 use mesa_io::Sink;
 use mesa_model::{Kind, Outcome};
-use mesa_open_files::Pinned;
+use mesa_open_files::{DeltaDisk, Pinned};
 
 /// The turn that opens a query: the files that answer it, which are held until it is closed, unless the rules answer none, or a file couldn't be opened.
-pub fn pin_query<N: Naming, M: Made, D: Disk<M>, K: Sink>(
+pub fn pin_query<N: Naming, M: Made, D: DeltaDisk<M>, K: Sink>(
     engine: &mut Engine<N, M, D, K>,
     who: Who,
     words: &QueryWords,

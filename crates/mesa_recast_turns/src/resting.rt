@@ -16,10 +16,10 @@ ghost use Rattle.mesa_open_files.specs.declared.recasting.Recasted.{Recasted as 
 ghost use Rattle.mesa_recast_turns.specs.Rested.{HasFurther, HasUnpaid, IsLonger, MayRest};
 
 use mesa_delta::FileError;
-use mesa_disk::{Damage, Disk, Made};
+use mesa_disk::{Damage, Made};
 use mesa_engine::{Engine, Metadata, Naming};
 use mesa_io::Sink;
-use mesa_open_files::{Recast, RecastRange, Unopened};
+use mesa_open_files::{DeltaDisk, Recast, RecastRange, Unopened};
 use mesa_pick_files::gather_more;
 
 // Whether further ranges are opened: the vault is open, no file of the recast was damaged, and its table has still the epoch in which it was granted.
@@ -33,7 +33,7 @@ fn may_rest<R>(metadata: &Metadata, task: &Recast<R>) -> bool
 }
 
 // Opens the files of the ranges with rows that a table has and that aren't among these yet, up to the first that isn't the recorded one. Views may have come since the recast was granted, but its columns are the same.
-fn open_more<N: Naming, M: Made, D: Disk<M>, K: Sink>(
+fn open_more<N: Naming, M: Made, D: DeltaDisk<M>, K: Sink>(
     engine: &mut Engine<N, M, D, K>,
     number: u16,
     ranges: &mut Vec<RecastRange<D::Reader>>,
@@ -58,7 +58,7 @@ fn open_more<N: Naming, M: Made, D: Disk<M>, K: Sink>(
 }
 
 /// Opens the files of the ranges that a recast doesn't have yet: those of the batches that came since it was granted. While the table's epoch is the recast's, it then has each of the table's ranges with rows, unless a file isn't the recorded one: that is told in the recast. Where the table isn't to be recast any more, the recast stays as it is. It takes no turn; a call of the disk that fails is paid by the turn behind it.
-pub fn rest<N: Naming, M: Made, D: Disk<M>, K: Sink>(
+pub fn rest<N: Naming, M: Made, D: DeltaDisk<M>, K: Sink>(
     engine: &mut Engine<N, M, D, K>,
     task: &mut Recast<D::Reader>,
 ) -> Result<(), FileError>

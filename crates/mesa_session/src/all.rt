@@ -14,6 +14,7 @@ use mesa_disk::{Bench, Disk, Made};
 use mesa_engine::Naming;
 use mesa_io::Sink;
 use mesa_model::Script;
+use mesa_open_files::DeltaDisk;
 use mesa_turn::{Pass, TurnLock};
 use std::alloc::Global;
 use std::sync::Wait;
@@ -77,7 +78,7 @@ fn run_one<
     's,
     N: Naming + Send,
     M: Made,
-    D: Disk<M>,
+    D: DeltaDisk<M>,
     K: Sink + Send,
     R: Threads + Wait + Sync,
     B: Bench<M>,
@@ -114,7 +115,7 @@ fn run_rest<
     's,
     N: Naming + Send,
     M: Made,
-    D: Disk<M>,
+    D: DeltaDisk<M>,
     K: Sink + Send,
     R: Threads + Wait + Sync,
     B: Bench<M>,
@@ -188,7 +189,7 @@ pub fn run_all<
     's,
     N: Naming + Send,
     M: Made,
-    D: Disk<M>,
+    D: DeltaDisk<M>,
     K: Sink + Send,
     R: Threads + Wait + Sync,
     B: Bench<M>,

@@ -23,7 +23,7 @@ use mesa_disk::{Bench, Disk, Made};
 use mesa_engine::{Naming, Who};
 use mesa_io::Sink;
 use mesa_model::Command;
-use mesa_open_files::Serials;
+use mesa_open_files::{DeltaDisk, Serials};
 use mesa_turn::{Pass, TurnLock};
 use std::alloc::Global;
 use std::sync::Wait;
@@ -93,7 +93,7 @@ fn load<
 }
 
 // A query is decided, answered outside, and closes.
-fn query<'s, N: Naming + Send, M: Made, D: Disk<M>, K: Sink + Send, R: Threads + Wait + Sync>(
+fn query<'s, N: Naming + Send, M: Made, D: DeltaDisk<M>, K: Sink + Send, R: Threads + Wait + Sync>(
     rt: &R,
     alloc: Global,
     lock: &TurnLock<Vault<'s, N, M, D, K>>,
@@ -124,7 +124,7 @@ fn work<
     's,
     N: Naming + Send,
     M: Made,
-    D: Disk<M>,
+    D: DeltaDisk<M>,
     K: Sink + Send,
     R: Threads + Wait + Sync,
     B: Bench<M>,
@@ -177,7 +177,7 @@ fn recast<
     's,
     N: Naming + Send,
     M: Made,
-    D: Disk<M>,
+    D: DeltaDisk<M>,
     K: Sink + Send,
     R: Threads + Wait + Sync,
     B: Bench<M>,
@@ -238,7 +238,7 @@ pub(crate) fn run_command<
     's,
     N: Naming + Send,
     M: Made,
-    D: Disk<M>,
+    D: DeltaDisk<M>,
     K: Sink + Send,
     R: Threads + Wait + Sync,
     B: Bench<M>,

@@ -23,13 +23,13 @@ use mesa_compact::merge_task;
 use mesa_copy::{regroup_more, regroup_task};
 use mesa_core::Vault;
 use mesa_delta::FileError;
-use mesa_disk::{Bench, Disk, FileReader, Made};
+use mesa_disk::{Bench, FileReader, Made};
 use mesa_engine::Naming;
 use mesa_filter::Query;
 use mesa_io::Sink;
 use mesa_key::reads_back;
 use mesa_model::Page;
-use mesa_open_files::{CompactError, NewDelta, Pinned, Recast, Recasted, Serials, Task};
+use mesa_open_files::{CompactError, DeltaDisk, NewDelta, Pinned, Recast, Recasted, Serials, Task};
 use mesa_print::render;
 use mesa_query::{Warm, answer};
 use mesa_script::Rendered;
@@ -209,7 +209,14 @@ fn regrouped_more<M: Made, B: Bench<M>, R: FileReader>(
 }
 
 /// What a recast's ranges are rewritten to, in its closing turn: with those of the batches that came meanwhile. With it the recast, which may have got further ranges.
-pub(crate) fn regrouped_now<'s, N: Naming + Send, M: Made, D: Disk<M>, K: Sink + Send, B: Bench<M>>(
+pub(crate) fn regrouped_now<
+    's,
+    N: Naming + Send,
+    M: Made,
+    D: DeltaDisk<M>,
+    K: Sink + Send,
+    B: Bench<M>,
+>(
     alloc: Global,
     vault: &mut Vault<'s, N, M, D, K>,
     bench: &mut B,

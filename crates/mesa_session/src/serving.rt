@@ -8,10 +8,11 @@ ghost use Rattle.mesa_core.specs.Passes.{turns_of};
 
 use crate::all::run_all;
 use crate::{Gate, Vault};
-use mesa_disk::{Bench, Disk, Made};
+use mesa_disk::{Bench, Made};
 use mesa_engine::Naming;
 use mesa_io::Sink;
 use mesa_model::Script;
+use mesa_open_files::DeltaDisk;
 use mesa_turn::TurnLock;
 use std::alloc::Global;
 use std::sync::Wait;
@@ -23,7 +24,7 @@ pub fn serve<
     's,
     N: Naming + Send,
     M: Made,
-    D: Disk<M>,
+    D: DeltaDisk<M>,
     K: Sink + Send,
     R: Threads + Wait + Sync,
     B: Bench<M>,

@@ -8,11 +8,11 @@ ghost use Rattle.mesa_core.specs.Passes.{Gains, HasEnded, Mine, Took, at_stage};
 use crate::commands::run_command;
 use crate::gate::{Gate, Point};
 use mesa_core::Vault;
-use mesa_disk::{Bench, Disk, Made};
+use mesa_disk::{Bench, Made};
 use mesa_engine::{Naming, Who};
 use mesa_io::Sink;
 use mesa_model::{Command, Script};
-use mesa_open_files::Serials;
+use mesa_open_files::{DeltaDisk, Serials};
 use mesa_turn::{Pass, TurnLock};
 use std::alloc::Global;
 use std::sync::Wait;
@@ -32,7 +32,7 @@ pub fn run_session<
     's,
     N: Naming + Send,
     M: Made,
-    D: Disk<M>,
+    D: DeltaDisk<M>,
     K: Sink + Send,
     R: Threads + Wait + Sync,
     B: Bench<M>,

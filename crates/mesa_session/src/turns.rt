@@ -30,7 +30,7 @@ use mesa_disk::{Bench, Disk, Made};
 use mesa_engine::{Naming, Who};
 use mesa_io::Sink;
 use mesa_open_files::{
-    CompactError, LoadError, NewDelta, Pinned, Prepared, Recast, Recasted, Serials, Task,
+    CompactError, DeltaDisk, LoadError, NewDelta, Pinned, Prepared, Recast, Recasted, Serials, Task,
 };
 use mesa_script::Rendered;
 use mesa_turn::{Pass, TurnLock};
@@ -131,7 +131,7 @@ pub fn publish_turn<
 }
 
 /// A query's deciding turn.
-pub fn pin_turn<'s, N: Naming + Send, M: Made, D: Disk<M>, K: Sink + Send, R: Wait>(
+pub fn pin_turn<'s, N: Naming + Send, M: Made, D: DeltaDisk<M>, K: Sink + Send, R: Wait>(
     rt: &R,
     lock: &TurnLock<Vault<'s, N, M, D, K>>,
     pass: Pass,
@@ -182,7 +182,7 @@ pub fn close_turn<'s, N: Naming + Send, M: Made, D: Disk<M>, K: Sink + Send, R: 
 }
 
 /// A work's first turn.
-pub fn grant_turn<'s, N: Naming + Send, M: Made, D: Disk<M>, K: Sink + Send, R: Wait>(
+pub fn grant_turn<'s, N: Naming + Send, M: Made, D: DeltaDisk<M>, K: Sink + Send, R: Wait>(
     rt: &R,
     lock: &TurnLock<Vault<'s, N, M, D, K>>,
     pass: Pass,
@@ -266,7 +266,7 @@ pub fn complete_turn<'s, N: Naming + Send, M: Made, D: Disk<M>, K: Sink + Send, 
 }
 
 /// A recast's first turn.
-pub fn grant_recast_turn<'s, N: Naming + Send, M: Made, D: Disk<M>, K: Sink + Send, R: Wait>(
+pub fn grant_recast_turn<'s, N: Naming + Send, M: Made, D: DeltaDisk<M>, K: Sink + Send, R: Wait>(
     rt: &R,
     lock: &TurnLock<Vault<'s, N, M, D, K>>,
     pass: Pass,
@@ -323,7 +323,15 @@ pub fn renew_recast_turn<'s, N: Naming + Send, M: Made, D: Disk<M>, K: Sink + Se
 }
 
 /// A recast's last turn once its lease was renewed: the ranges of the batches that came meanwhile are rewritten too, and then its table is recast.
-pub fn recast_turn<'s, N: Naming + Send, M: Made, D: Disk<M>, K: Sink + Send, R: Wait, B: Bench<M>>(
+pub fn recast_turn<
+    's,
+    N: Naming + Send,
+    M: Made,
+    D: DeltaDisk<M>,
+    K: Sink + Send,
+    R: Wait,
+    B: Bench<M>,
+>(
     rt: &R,
     alloc: Global,
     lock: &TurnLock<Vault<'s, N, M, D, K>>,

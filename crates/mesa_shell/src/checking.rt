@@ -11,8 +11,9 @@ ghost use Rattle.mesa_engine.specs.mesa_store_spec.Catalog.{Catalog};
 
 use crate::{Devices, Done, ended_checked, ended_opening};
 use mesa_check::{CheckError, Verdict, check};
-use mesa_disk::{Bench, Disk, Made};
+use mesa_disk::{Bench, Made};
 use mesa_io::Sink;
+use mesa_open_files::DeltaDisk;
 use mesa_recover::{OpenError, Opened, read};
 use std::alloc::Global;
 
@@ -26,7 +27,7 @@ pub(crate) fn disk_of<D>(opened: Opened<D>) -> D
 }
 
 // The verdict on a store, or why it can't be read; and its disk, on which nothing moved, and on which no count rose but for a fault.
-fn verdict<M: Made, D: Disk<M>>(alloc: Global, disk: D) -> (Result<Verdict, OpenError>, D)
+fn verdict<M: Made, D: DeltaDisk<M>>(alloc: Global, disk: D) -> (Result<Verdict, OpenError>, D)
     ensures verdict { IfOk result.0 (λ v. (c : Catalog) × ReadsAs (D.story disk) c × IsFirstFault (D.story disk) c (fault_told v)) }
     ensures reason { IfErr result.0 (HasReason (D.story disk) (D.story result.1)) }
     ensures other { IfErr result.0 (λ e. e ≢ open_error.RunsFull) }
@@ -45,7 +46,7 @@ fn verdict<M: Made, D: Disk<M>>(alloc: Global, disk: D) -> (Result<Verdict, Open
 }
 
 /// Reads the store, and tells that it is sound, or its first fault.
-pub(crate) fn check_store<M: Made, D: Disk<M>, K: Sink, B: Bench<M>>(
+pub(crate) fn check_store<M: Made, D: DeltaDisk<M>, K: Sink, B: Bench<M>>(
     alloc: Global,
     given: Devices<K, D, B>,
 ) -> Done<K, D, B>

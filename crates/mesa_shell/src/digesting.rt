@@ -5,8 +5,9 @@ ghost use Rattle.mesa_shell.specs.Ports.{ports};
 use crate::checking::disk_of;
 use crate::{Devices, Done, ended, ended_digest, ended_opening, statuses};
 use mesa_delta::FileError;
-use mesa_disk::{Bench, Disk, Made};
+use mesa_disk::{Bench, Made};
 use mesa_io::Sink;
+use mesa_open_files::DeltaDisk;
 use mesa_recover::{OpenError, read};
 use mesa_store_digest::{LookError, look};
 use std::alloc::Global;
@@ -18,7 +19,7 @@ const NO_VERSION: &[u8] = b"digest refused future asked=latest newest=none\n";
 
 /// Reads the store, and prints the digests of the relation of a name at the newest version, or why
 /// there are none.
-pub(crate) fn digest_relation<M: Made, D: Disk<M>, K: Sink, B: Bench<M>>(
+pub(crate) fn digest_relation<M: Made, D: DeltaDisk<M>, K: Sink, B: Bench<M>>(
     alloc: Global,
     given: Devices<K, D, B>,
     relation: &[u8],

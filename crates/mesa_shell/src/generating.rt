@@ -16,6 +16,7 @@ use mesa_disk::{Bench, Disk, Made};
 use mesa_generate::{excerpt, generate};
 use mesa_io::{MemSink, Sink};
 use mesa_model::{Entry, Script};
+use mesa_open_files::DeltaDisk;
 use mesa_parse::parse;
 use mesa_print::Printer;
 use mesa_session::Gate;
@@ -105,7 +106,7 @@ fn show<M: Made, D: Disk<M>, K: Sink, B: Bench<M>>(
 }
 
 // Opens the store, runs the script of a seed over it on a sink in memory, and shows what it printed last.
-fn run_in_memory<M: Made, D: Disk<M>, K: Sink, B: Bench<M>, R: Threads + Wait + Sync, G: Gate>(
+fn run_in_memory<M: Made, D: DeltaDisk<M>, K: Sink, B: Bench<M>, R: Threads + Wait + Sync, G: Gate>(
     rt: &R,
     alloc: Global,
     seed: u32,
@@ -142,7 +143,7 @@ fn run_in_memory<M: Made, D: Disk<M>, K: Sink, B: Bench<M>, R: Threads + Wait + 
 /// can't be, memory was short.
 pub(crate) fn run_generated<
     M: Made,
-    D: Disk<M>,
+    D: DeltaDisk<M>,
     K: Sink,
     B: Bench<M>,
     R: Threads + Wait + Sync,

@@ -8,6 +8,7 @@ mod digesting;
 mod done;
 mod ending;
 mod generating;
+mod indexing;
 mod lines;
 mod opening;
 mod running;

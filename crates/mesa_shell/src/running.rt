@@ -18,10 +18,11 @@ ghost use Rattle.mesa_shell.specs.Begun.{IsReadyToRun};
 ghost use Rattle.mesa_shell.specs.Ran.{HasNotRun, RanFrom};
 
 use crate::Devices;
-use mesa_disk::{Bench, Disk, Made};
+use mesa_disk::{Bench, Made};
 use mesa_engine::Naming;
 use mesa_io::Sink;
 use mesa_model::{Entry, Script};
+use mesa_open_files::DeltaDisk;
 use mesa_recover::Begun;
 use mesa_session::{Gate, Vault, serve, turns_of};
 use std::alloc::{AllocError, Global};
@@ -55,7 +56,7 @@ fn disk_of<D>(begun: Begun<D>) -> D
 fn run_named<
     N: Naming + Send,
     M: Made,
-    D: Disk<M>,
+    D: DeltaDisk<M>,
     K: Sink + Send,
     B: Bench<M>,
     R: Threads + Wait + Sync,
@@ -128,7 +129,7 @@ fn run_named<
 /// Runs a script over a store on which its run has begun; or there was no memory for that.
 pub(crate) fn run_begun<
     M: Made,
-    D: Disk<M>,
+    D: DeltaDisk<M>,
     K: Sink + Send,
     B: Bench<M>,
     R: Threads + Wait + Sync,

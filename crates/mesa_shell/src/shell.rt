@@ -15,6 +15,7 @@ ghost use Rattle.mesa_parse.specs.declared.forms.Form.TheVariants as form;
 use crate::checking::check_store;
 use crate::digesting::digest_relation;
 use crate::generating::run_generated;
+use crate::indexing::{with_indexes, without_indexes};
 use crate::opening::open;
 use crate::running::{Left, run_begun};
 use crate::{
@@ -24,6 +25,7 @@ use crate::{
 use mesa_disk::{Bench, Disk, Made};
 use mesa_io::{ReadError, Sink, Source, read_all};
 use mesa_model::Script;
+use mesa_open_files::DeltaDisk;
 use mesa_parse::{Form, parse, read_form};
 use mesa_script::ScriptError;
 use mesa_session::Gate;
@@ -35,13 +37,14 @@ use std::thread::Threads;
 pub const MAX_INPUT: u64 = 67_108_864;
 
 // Opens the store, and runs a script over it.
-fn run_script<M: Made, D: Disk<M>, K: Sink + Send, B: Bench<M>, R: Threads + Wait + Sync, G: Gate>(
-    rt: &R,
-    alloc: Global,
-    script: &Script,
-    given: Devices<K, D, B>,
-    gate: &G,
-) -> Done<K, D, B>
+fn run_script<
+    M: Made,
+    D: DeltaDisk<M>,
+    K: Sink + Send,
+    B: Bench<M>,
+    R: Threads + Wait + Sync,
+    G: Gate,
+>(rt: &R, alloc: Global, script: &Script, given: Devices<K, D, B>, gate: &G) -> Done<K, D, B>
     requires small { IsSmall script.now }
     requires benches { 8 ≤ length given.benches.items }
     ensures { spec.EndsScript (ports K.held K.faults D.story M.bytes B.faults) given result script.now }
@@ -74,13 +77,14 @@ fn run_script<M: Made, D: Disk<M>, K: Sink + Send, B: Bench<M>, R: Threads + Wai
 }
 
 // Runs the script of a text.
-fn run_text<M: Made, D: Disk<M>, K: Sink + Send, B: Bench<M>, R: Threads + Wait + Sync, G: Gate>(
-    rt: &R,
-    alloc: Global,
-    bytes: Vec<u8>,
-    given: Devices<K, D, B>,
-    gate: &G,
-) -> Done<K, D, B>
+fn run_text<
+    M: Made,
+    D: DeltaDisk<M>,
+    K: Sink + Send,
+    B: Bench<M>,
+    R: Threads + Wait + Sync,
+    G: Gate,
+>(rt: &R, alloc: Global, bytes: Vec<u8>, given: Devices<K, D, B>, gate: &G) -> Done<K, D, B>
     requires benches { 8 ≤ length given.benches.items }
     ensures { spec.EndsText (ports K.held K.faults D.story M.bytes B.faults) given result bytes.items }
 {
@@ -96,7 +100,7 @@ fn run_text<M: Made, D: Disk<M>, K: Sink + Send, B: Bench<M>, R: Threads + Wait 
 fn run_source<
     S: Source,
     M: Made,
-    D: Disk<M>,
+    D: DeltaDisk<M>,
     K: Sink + Send,
     B: Bench<M>,
     R: Threads + Wait + Sync,
@@ -169,13 +173,21 @@ pub fn mesa<
 {
     let given = Devices { out, disk, benches };
     match read_form(alloc, words) {
-        Ok(Some(Form::Run)) => run_source(rt, alloc, src, given, gate),
-        Ok(Some(Form::Gen { seed, versions })) => {
-            run_generated(rt, alloc, seed, versions, given, gate)
+        Ok(Some(Form::Run)) => {
+            let given = with_indexes(alloc, given);
+            without_indexes(run_source(rt, alloc, src, given, gate))
         }
-        Ok(Some(Form::Check)) => check_store(alloc, given),
+        Ok(Some(Form::Gen { seed, versions })) => {
+            let given = with_indexes(alloc, given);
+            without_indexes(run_generated(rt, alloc, seed, versions, given, gate))
+        }
+        Ok(Some(Form::Check)) => {
+            let given = with_indexes(alloc, given);
+            without_indexes(check_store(alloc, given))
+        }
         Ok(Some(Form::Digest { relation })) => {
-            digest_relation(alloc, given, relation.as_slice())
+            let given = with_indexes(alloc, given);
+            without_indexes(digest_relation(alloc, given, relation.as_slice()))
         }
         Ok(None) => ended(alloc, given, statuses::USAGE, USAGE),
         Err(AllocError) => lacks_memory(alloc, given),

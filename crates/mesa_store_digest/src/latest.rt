@@ -14,10 +14,10 @@ ghost use Rattle.mesa_recover.specs.Opened.{IsOpened};
 
 use crate::LookError;
 use mesa_catalog::{Catalog, Relation};
-use mesa_disk::{Disk, Made};
+use mesa_disk::Made;
 use mesa_filter::{Query, QueryError, QueryWords, VersionWord};
 use mesa_list::Items;
-use mesa_open_files::Pinned;
+use mesa_open_files::{DeltaDisk, Pinned};
 use mesa_pick_files::open_files;
 use mesa_recover::Opened;
 use mesa_store_spec::catalogs_are_shaped;
@@ -27,7 +27,7 @@ use std::alloc::{AllocError, Global};
 /// Opens the files of the relation of a name, a table or a view, for a query of all its rows at the newest version.
 /// Where one isn't the recorded file, or can't be read, or memory is wanting, those that were opened are given back.
 /// Nothing of the store is changed.
-pub fn pin_latest<M: Made, D: Disk<M>>(
+pub fn pin_latest<M: Made, D: DeltaDisk<M>>(
     alloc: Global,
     opened: &mut Opened<D>,
     relation: &[u8],
@@ -48,7 +48,7 @@ pub fn pin_latest<M: Made, D: Disk<M>>(
 }
 
 // The same of the relation at a place, whatever its name is.
-pub(crate) fn pin_place<M: Made, D: Disk<M>>(
+pub(crate) fn pin_place<M: Made, D: DeltaDisk<M>>(
     alloc: Global,
     opened: &mut Opened<D>,
     place: Relation,

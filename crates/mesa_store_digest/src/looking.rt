@@ -20,8 +20,8 @@ use crate::latest::pin_place;
 use mesa_catalog::{Catalog, Relation};
 use mesa_delta::FileError;
 use mesa_digest::{DigestPair, digests};
-use mesa_disk::{Disk, FileReader, Made};
-use mesa_open_files::{Pinned, retire_pinned};
+use mesa_disk::{FileReader, Made};
+use mesa_open_files::{DeltaDisk, Pinned, retire_pinned};
 use mesa_query::whole;
 use mesa_recover::Opened;
 use mesa_validate::{relation_asked, relation_schema};
@@ -29,7 +29,7 @@ use std::alloc::Global;
 
 /// The newest version, and the digests of the rows that the relation of a name has then. Nothing of the store is
 /// changed, and each reader is given back.
-pub fn look<M: Made, D: Disk<M>>(
+pub fn look<M: Made, D: DeltaDisk<M>>(
     alloc: Global,
     opened: &mut Opened<D>,
     name: &[u8],

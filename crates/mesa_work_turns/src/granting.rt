@@ -27,16 +27,16 @@ ghost use Rattle.mesa_work_turns.specs.Claims.{cause_met, claim_as};
 ghost use Rattle.mesa_engine.specs.Written.{written_at};
 
 use crate::claiming::{Claimed, claim};
-use mesa_disk::{Disk, Made};
+use mesa_disk::Made;
 use mesa_engine::{Engine, Failure, Metadata, Naming, Who};
 use mesa_io::Sink;
 use mesa_lease::TABLES;
 use mesa_model::{Kind, Outcome, WorkWords};
-use mesa_open_files::{Task, Unopened};
+use mesa_open_files::{DeltaDisk, Task, Unopened};
 use mesa_pick_files::gather;
 
 /// The first turn of a work: its table has a lease from it on, and the files that it folds are open; unless the vault has closed, there is no such table, another work has the table, there is nothing to merge, or a file couldn't be opened.
-pub fn grant<N: Naming, M: Made, D: Disk<M>, K: Sink>(
+pub fn grant<N: Naming, M: Made, D: DeltaDisk<M>, K: Sink>(
     engine: &mut Engine<N, M, D, K>,
     who: Who,
     words: &WorkWords,
@@ -79,7 +79,7 @@ pub fn grant<N: Naming, M: Made, D: Disk<M>, K: Sink>(
 }
 
 // The turn of a work whose claim can be granted: the files that it folds are opened, and its table has a lease.
-fn take<N: Naming, M: Made, D: Disk<M>, K: Sink>(
+fn take<N: Naming, M: Made, D: DeltaDisk<M>, K: Sink>(
     engine: &mut Engine<N, M, D, K>,
     who: Who,
     claimed: Claimed,

@@ -26,17 +26,17 @@ ghost use Rattle.mesa_engine.specs.Written.{written_at};
 use crate::granting::{failure_of, lease};
 use crate::recast_claiming::claim_recast;
 use mesa_binding::RecastNames;
-use mesa_disk::{Disk, Made};
+use mesa_disk::Made;
 use mesa_engine::{Engine, Naming, Who};
 use mesa_io::Sink;
 use mesa_lease::TABLES;
 use mesa_model::{Kind, Outcome, RecastWords};
-use mesa_open_files::Recast;
+use mesa_open_files::{DeltaDisk, Recast};
 use mesa_pick_files::gather_recast;
 use mesa_validate::Regrouping;
 
 /// The first turn of a recast: its table has a lease from it on, and the files of all its ranges are open; unless the vault has closed, the rules of recasts don't allow it, a lease holds, the table has too many deltas, or a file couldn't be opened.
-pub fn grant_recast<N: Naming, M: Made, D: Disk<M>, K: Sink>(
+pub fn grant_recast<N: Naming, M: Made, D: DeltaDisk<M>, K: Sink>(
     engine: &mut Engine<N, M, D, K>,
     who: Who,
     words: &RecastWords,
@@ -81,7 +81,7 @@ pub fn grant_recast<N: Naming, M: Made, D: Disk<M>, K: Sink>(
 }
 
 // The turn of a recast whose claim can be granted: the files of its ranges are opened, and its table has a lease.
-fn take<N: Naming, M: Made, D: Disk<M>, K: Sink>(
+fn take<N: Naming, M: Made, D: DeltaDisk<M>, K: Sink>(
     engine: &mut Engine<N, M, D, K>,
     who: Who,
     claimed: Regrouping,

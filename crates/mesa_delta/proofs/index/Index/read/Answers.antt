@@ -4,8 +4,10 @@ use Rattle.std.proofs.lemmas.Bool.{false≢true}
 use Rattle.mesa_key.specs.Order.{short_key}
 use Rattle.mesa_schema.specs.Columns.{Columns}
 use Rattle.mesa_block.specs.Layout.{Layout}
+use Rattle.mesa_delta.specs.Indexed.{IsIndexOf}
 use Rattle.mesa_delta.specs.Places.{Follow, shorts_of}
 use Rattle.mesa_delta.specs.Seeking.{NeverFall}
+use Rattle.mesa_delta.specs.declared.index.Held.{Held}
 use Rattle.mesa_delta.proofs.Tailing.{tail_long, foot_is, found_is, spelled_so, index_of}
 use Rattle.mesa_delta.proofs.index.Index.read.Goals as goal
 
@@ -48,4 +50,5 @@ returns-clause-found c =
     let spelled = spelled_so s c.rows_at-rows.result c.args.file.now.blocks c.args.bytes.now c.split_at.result.0.now c.split_at.result.1.now es c.in_ok-entries.ensures.count c.split_at.ensures.front c.split_at.ensures.back c.in_ok-entries.ensures.spelled foot in
     let follow = subst (λ l. Follow 0 l place) c.deref.ensures.value (c.follow.ensures.0 c.if-not-follow.false) in
     let fall = subst (λ l. NeverFall (shorts_of l)) c.deref-2.ensures.value (c.never_fall.ensures.0 c.if-not-never_fall.false) in
-    index_of c.args.file.now s (record { format = c.args.file.now.format; columns = c.in_ok-copy.field-0 }) c.args.bytes.now place c.rows_at-rows.result es c.from_vec.result c.short.result (c.short.ensures ∙ ap short_key c.as_slice.ensures) (ap (λ (k : Columns). record { format = c.args.file.now.format; columns = k }) c.in_ok-copy.ensures) same c.in_ok-entries.ensures.count (omega (arith, c.if-count-eq0.false)) (omega (arith, c.requires)) (search rules) (search rules) (search rules) c.keys.ensures.sound spelled follow fall c.in_ok-entries.ensures.widths
+    subst (λ (k : Held). IsIndexOf c.args.file.now s c.args.bytes.now (record { file = k.file; layout = record { format = k.format; columns = k.schema }; len = k.len; tail = k.tail; rows = k.rows; entries = k.entries; last = k.last })) (sym c.in_ok-new.ensures.ok)
+    (index_of c.args.file.now s (record { format = c.args.file.now.format; columns = c.in_ok-copy.field-0 }) c.args.bytes.now place c.rows_at-rows.result es c.from_vec.result c.short.result (c.short.ensures ∙ ap short_key c.as_slice.ensures) (ap (λ (k : Columns). record { format = c.args.file.now.format; columns = k }) c.in_ok-copy.ensures) same c.in_ok-entries.ensures.count (omega (arith, c.if-count-eq0.false)) (omega (arith, c.requires)) (search rules) (search rules) (search rules) c.keys.ensures.sound spelled follow fall c.in_ok-entries.ensures.widths)
