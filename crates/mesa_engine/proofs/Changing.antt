@@ -29,7 +29,7 @@ use Rattle.mesa_catalog.specs.mesa_history_spec.Replay.{stepped}
 use Rattle.mesa_catalog.specs.mesa_history_spec.Run.{State}
 use Rattle.mesa_record.specs.declared.record.Part.{Part}
 use Rattle.mesa_record.specs.declared.record.Record.TheVariants as record_of
-use Rattle.mesa_record.specs.Rules.{IsTypedChange}
+use Rattle.mesa_record.specs.mesa_record_fields.Rules.{IsTypedChange}
 use Rattle.mesa_catalog.specs.mesa_span.Ranges.{new_ranges}
 use Rattle.mesa_catalog.specs.mesa_store_spec.Catalog.{Catalog, TableMeta, applied, new_meta, no_meta, ranges_of, meta_at, meta_changed, meta_from, meta_viewed, metas_loaded}
 use Rattle.mesa_catalog.specs.mesa_store_spec.Contents.{kept_of, table_of}

@@ -19,7 +19,7 @@ use Rattle.mesa_schema.specs.Columns.{Columns, kinds_of}
 use Rattle.mesa_schema.specs.Schema.{is_schema, max_columns}
 use Rattle.mesa_schema.specs.Rows.{IsRowOf}
 use Rattle.mesa_file.specs.declared.file_ref.FileRef.{FileRef}
-use Rattle.mesa_record.specs.Rules.{is_count_of_columns, is_file_ref, is_key_length}
+use Rattle.mesa_engine.specs.mesa_record_fields.Rules.{is_count_of_columns, is_file_ref, is_key_length}
 use Rattle.mesa_pick_files.specs.mesa_block.Layout.{Layout}
 use Rattle.mesa_pick_files.specs.mesa_block.Rows.{IsRow}
 use Rattle.mesa_pick_files.specs.mesa_delta.File.{IsFile}

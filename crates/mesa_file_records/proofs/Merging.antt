@@ -17,7 +17,8 @@ use Rattle.mesa_schema.proofs.ViewSchemas.{view_is_schema}
 use Rattle.mesa_pick_files.specs.mesa_block.Rows.{IsRow}
 use Rattle.mesa_pick_files.specs.mesa_delta.File.{file_bytes}
 use Rattle.mesa_pick_files.specs.mesa_delta.Summary.{file_layout, new_layout}
-use Rattle.mesa_record.specs.Rules.{are_files_if_any, is_file_ref, rise_from}
+use Rattle.mesa_engine.specs.mesa_record_fields.Rules.{is_file_ref, rise_from}
+use Rattle.mesa_record.specs.Rules.{are_files_if_any}
 use Rattle.mesa_record.specs.declared.record.ViewRef.{ViewRef}
 use Rattle.mesa_engine.specs.mesa_commit.Turn.{told_files}
 use Rattle.mesa_engine.specs.mesa_store_spec.Catalog.{Delta, merged_delta}

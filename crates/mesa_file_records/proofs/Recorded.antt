@@ -38,7 +38,8 @@ use Rattle.mesa_engine.specs.mesa_commit.Turn.{made_ids, told_files}
 use Rattle.mesa_pick_files.specs.mesa_delta.File.{file_bytes}
 use Rattle.mesa_pick_files.specs.mesa_delta.Summary.{file_layout}
 use Rattle.mesa_disk.specs.Files.{HasDistinctIds, files_of}
-use Rattle.mesa_record.specs.Rules.{is_file_ref, keeps_rules}
+use Rattle.mesa_engine.specs.mesa_record_fields.Rules.{is_file_ref}
+use Rattle.mesa_record.specs.Rules.{keeps_rules}
 use Rattle.mesa_record.specs.declared.record.Record.{Record}
 use Rattle.mesa_engine.specs.mesa_commit.Filed.{AreGiven}
 use Rattle.mesa_engine.specs.mesa_commit.Holding.{Among}

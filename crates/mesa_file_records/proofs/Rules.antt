@@ -32,7 +32,8 @@ use Rattle.mesa_batch.specs.Totals.{abs_totals, sum_places, sums_in}
 use Rattle.mesa_file.specs.declared.file_ref.FileRef.{FileRef}
 use Rattle.mesa_record.specs.declared.record.Part.{Part}
 use Rattle.mesa_record.specs.declared.record.ViewRef.{ViewRef}
-use Rattle.mesa_record.specs.Rules.{are_files, are_parts, is_count_of_columns, is_file_ref, is_key_length, is_part, rise_from}
+use Rattle.mesa_engine.specs.mesa_record_fields.Rules.{is_count_of_columns, is_file_ref, is_key_length, rise_from}
+use Rattle.mesa_record.specs.Rules.{are_files, are_parts, is_part}
 use Rattle.mesa_pick_files.specs.mesa_block.Layout.{Layout}
 use Rattle.mesa_pick_files.specs.mesa_block.Rows.{IsRow}
 use Rattle.mesa_pick_files.specs.mesa_delta.File.{IsFile}

@@ -9,7 +9,7 @@ use Rattle.mesa_schema.specs.Recasts.{Recast as Asked}
 use Rattle.mesa_schema.specs.Schema.{is_schema}
 use Rattle.mesa_pick_files.specs.mesa_delta.Summary.{file_layout}
 use Rattle.mesa_pick_files.specs.mesa_delta.declared.input.Input.{Input}
-use Rattle.mesa_record.specs.Rules.{is_file_ref}
+use Rattle.mesa_engine.specs.mesa_record_fields.Rules.{is_file_ref}
 use Rattle.mesa_engine.specs.mesa_store_spec.Contents.{Rows}
 use Rattle.mesa_engine.specs.mesa_store_spec.Fitting.{counts_columns}
 use Rattle.mesa_engine.specs.mesa_store_spec.Sound.{IsTold}

@@ -1,3 +1,4 @@
+pub use Rattle.mesa_engine.specs.mesa_history_spec as mesa_history_spec
 pub use Rattle.mesa_pick_files.specs.mesa_key as mesa_key
 pub use Rattle.mesa_list.specs as mesa_list
 pub mod Batches

@@ -41,5 +41,5 @@ pub mod Settled
 mod Undated
 mod Standing
 mod Walking
-mod Sessions
+mod OneSession
 pub mod OneText

@@ -86,7 +86,8 @@ fn shared(wanted: &Wanted) -> Result<(Arc<Evolving>, Schema), AllocError>
     Ok((wanted.evolving.clone()?, schema))
 }
 
-// The reader of a file with these columns. Its tail is read where its index isn't kept, or where the file isn't as long as it was. A fault is counted, be it the disk's or the reader's.
+// The reader of a file with these columns. Its tail is read where its index isn't kept, and where the file isn't as long
+// as the reference says, so that a wrong length is told at each opening. A fault is counted, be it the disk's or the reader's.
 fn attach<M: Made, D: DeltaDisk<M>>(
     alloc: Global,
     disk: &mut D,

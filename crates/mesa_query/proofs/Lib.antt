@@ -15,8 +15,8 @@ pub mod Decoded
 pub mod JobSteps
 pub mod ReadBlocks
 pub mod Joined
-mod Files
+mod CachedFiles
 mod Taking
 mod Cooling
-mod Answering
-mod Pins
+mod AnsweredCached
+mod CachedPins

@@ -1,9 +1,3 @@
-pub mod Series
-pub mod InTurn
-pub mod Both
-pub mod Numbers
-pub mod Texts
-pub mod ColumnsBoth
 pub mod FilesBoth
 pub mod StatedBoth
 pub mod RecastBoth

@@ -3,18 +3,22 @@ use Rattle.std.proofs.Common.{◌≡◌, ℕ, List, ◌++◌, length, refl, ap, 
 use Rattle.std.specs.Prelude.{IsTrue, ◌&&◌}
 use Rattle.std.specs.List.{AllByRecursion, list_all}
 use Rattle.mesa_list.proofs.Whole.{both}
-use Rattle.mesa_record.specs.declared.edition.Edition.TheVariants.{Fourth}
+use Rattle.mesa_record_fields.specs.declared.edition.Edition.TheVariants.{Fourth}
 use Rattle.mesa_record.specs.declared.checkpoint.CheckpointSingle.{CheckpointSingle}
 use Rattle.mesa_record.specs.declared.recasting.RecastBase.{RecastBase}
 use Rattle.mesa_record.specs.declared.recasting.Recasting.{Recasting}
-use Rattle.mesa_record.specs.Reading.{Left, files_if_any_at, flag_of, half_at, meaning, names_at, recast_base_at, recast_base_if, recast_base_if_any_at, recasting_at, sized_at, stated_single_at, word_at}
-use Rattle.mesa_record.specs.Rules.{FitsSingle, IsTypedRecastBase, IsTypedRecasting, IsTypedSingle, are_files_if_any, are_recast_columns, are_recast_deltas, is_count_of_columns, is_long, is_recast_base, is_recasting, is_stated_single}
-use Rattle.mesa_record.specs.Spelling.{counted, files_if_any, flag, half, recast_base, recast_base_if_any, recast_columns, recast_deltas, recasting_fields, sized, stated_single, text, word}
-use Rattle.mesa_record.proofs.Both.{Again, Begins, Found, begins_two, here, of_ok, ok_is, step_of}
-use Rattle.mesa_record.proofs.Numbers.{half_again, half_found, one, word_again, word_found}
-use Rattle.mesa_record.proofs.Texts.{meaning_again, meaning_found}
-use Rattle.mesa_record.proofs.ColumnsBoth.{flag_of_byte, made_again, names_again, names_found}
-use Rattle.mesa_record.proofs.FilesBoth.{all_true, files_if_any_again, files_if_any_found, files_if_any_keep, files_if_any_of}
+use Rattle.mesa_record_fields.specs.Reading.{Left, flag_of, half_at, meaning, names_at, sized_at, word_at}
+use Rattle.mesa_record.specs.Reading.{files_if_any_at, recast_base_at, recast_base_if, recast_base_if_any_at, recasting_at, stated_single_at}
+use Rattle.mesa_record_fields.specs.Rules.{is_count_of_columns, is_long}
+use Rattle.mesa_record.specs.Rules.{FitsSingle, IsTypedRecastBase, IsTypedRecasting, IsTypedSingle, are_files_if_any, are_recast_columns, are_recast_deltas, is_recast_base, is_recasting, is_stated_single}
+use Rattle.mesa_record_fields.specs.Spelling.{counted, flag, half, sized, text, word}
+use Rattle.mesa_record.specs.Spelling.{files_if_any, recast_base, recast_base_if_any, recast_columns, recast_deltas, recasting_fields, stated_single}
+use Rattle.mesa_record_fields.proofs.Both.{Again, Begins, Found, begins_two, here, of_ok, ok_is, step_of}
+use Rattle.mesa_record_fields.proofs.Numbers.{half_again, half_found, one, word_again, word_found}
+use Rattle.mesa_record_fields.proofs.Texts.{meaning_again, meaning_found}
+use Rattle.mesa_record_fields.proofs.ColumnsBoth.{flag_of_byte, made_again, names_again, names_found}
+use Rattle.mesa_record_fields.proofs.FileRefsBoth.{all_true}
+use Rattle.mesa_record.proofs.FilesBoth.{files_if_any_again, files_if_any_found, files_if_any_keep, files_if_any_of}
 use Rattle.mesa_record.proofs.Room.{all_of, files_if_any_fit, single_fits}
 use Rattle.mesa_record.proofs.StatedBoth.{in_four, in_four_again, in_four_found, single_again, single_found, sized_again, sized_found}
 

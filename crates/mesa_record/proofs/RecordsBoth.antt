@@ -4,26 +4,30 @@ use Rattle.std.specs.Prelude.{IsTrue, ◌&&◌, ◌==◌, flat_map, if◌then◌
 use Rattle.std.specs.List.{AllByRecursion, list_all}
 use Rattle.std.proofs.lemmas.Bool.{eqb-true, ltb-true, lt-ltb}
 use Rattle.mesa_list.proofs.Whole.{both}
-use Rattle.mesa_key.specs.Spelling.{AreBytes}
+use Rattle.mesa_record_fields.specs.mesa_key.Spelling.{AreBytes}
 use Rattle.mesa_schema.specs.declared.columns.KeyColumn.{KeyColumn}
 use Rattle.mesa_schema.specs.declared.columns.ValueColumn.{ValueColumn}
-use Rattle.mesa_record.specs.declared.edition.Edition.{Edition}
-use Rattle.mesa_record.specs.declared.edition.Edition.TheVariants.{First, Second, Third, Fourth}
-use Rattle.mesa_record.specs.declared.error.RecordError.{RecordError}
+use Rattle.mesa_record_fields.specs.declared.edition.Edition.{Edition}
+use Rattle.mesa_record_fields.specs.declared.edition.Edition.TheVariants.{First, Second, Third, Fourth}
+use Rattle.mesa_record_fields.specs.declared.error.RecordError.{RecordError}
 use Rattle.mesa_record.specs.declared.record.Record.{Record}
 use Rattle.mesa_record.specs.declared.record.Record.TheVariants as record_of
 use Rattle.mesa_record.specs.declared.record.Files.{Files}
 use Rattle.mesa_record.specs.declared.record.Part.{Part}
 use Rattle.mesa_record.specs.declared.checkpoint.Checkpoint.{Checkpoint}
 use Rattle.mesa_record.specs.Editions.{IsSpelled}
-use Rattle.mesa_record.specs.Reading.{Left, Read, alter_at, byte_at, change_at, checkpoint_at, ended, expire_at, expire_table_at, fields_of, file_ref_at, files_at, files_if_any_at, flag_of, half_at, key_columns_at, meaning, name_at, names_at, part_at, part_number, publish_at, recast_at, recasting_at, record_at, rising, run_at, stated_at, swap_at, table_at, value_columns_at, view_at, word_at}
-use Rattle.mesa_record.specs.Rules.{FitsIn, FitsPart, IsHalf, IsNamed, IsRecord, IsTypedPart, IsWord, are_files, is_count_of_columns, is_part, rise_from}
-use Rattle.mesa_record.specs.Spelling.{change, checkpoint_fields, checkpoint_kind, counted, files_if_any, flag, half, key_column, part, publish_kind, recasting_fields, spelled_in, swap_kind, text, value_column, word}
-use Rattle.mesa_record.proofs.Both.{Again, Begins, Bytes, Found, InOrder, all_bytes, begins_two, here, list_again, list_found, ok_is, step_of}
-use Rattle.mesa_record.proofs.Numbers.{byte_again, byte_found, half_again, half_found, one, word_again, word_found}
-use Rattle.mesa_record.proofs.Texts.{meaning_again, meaning_found}
-use Rattle.mesa_record.proofs.ColumnsBoth.{HasKeys, HasNames, HasValues, IsChange, change_again, change_found, either_way, flag_again, flag_of_byte, keys_again, keys_found, made_again, made_found, name_again, name_found, names_again, names_found, two_again, two_found, values_again, values_found}
-use Rattle.mesa_record.proofs.FilesBoth.{AreFilesIfAny, IsPart, all_true, files_if_any_again, files_if_any_found, files_if_any_keep, files_if_any_of, files_keep, files_of, part_again, part_found, totals_fit, totals_in, totals_wider}
+use Rattle.mesa_record_fields.specs.Reading.{Left, Read, byte_at, change_at, file_ref_at, flag_of, half_at, key_columns_at, meaning, name_at, names_at, rising, value_columns_at, word_at}
+use Rattle.mesa_record.specs.Reading.{alter_at, checkpoint_at, ended, expire_at, expire_table_at, fields_of, files_at, files_if_any_at, part_at, part_number, publish_at, recast_at, recasting_at, record_at, run_at, stated_at, swap_at, table_at, view_at}
+use Rattle.mesa_record_fields.specs.Rules.{IsHalf, IsNamed, IsWord, is_count_of_columns, rise_from}
+use Rattle.mesa_record.specs.Rules.{FitsIn, FitsPart, IsRecord, IsTypedPart, are_files, is_part}
+use Rattle.mesa_record_fields.specs.Spelling.{change, counted, flag, half, key_column, text, value_column, word}
+use Rattle.mesa_record.specs.Spelling.{checkpoint_fields, checkpoint_kind, files_if_any, part, publish_kind, recasting_fields, spelled_in, swap_kind}
+use Rattle.mesa_record_fields.proofs.Both.{Again, Begins, Bytes, Found, InOrder, all_bytes, begins_two, here, list_again, list_found, ok_is, step_of}
+use Rattle.mesa_record_fields.proofs.Numbers.{byte_again, byte_found, half_again, half_found, one, word_again, word_found}
+use Rattle.mesa_record_fields.proofs.Texts.{meaning_again, meaning_found}
+use Rattle.mesa_record_fields.proofs.ColumnsBoth.{HasKeys, HasNames, HasValues, IsChange, change_again, change_found, either_way, flag_again, flag_of_byte, keys_again, keys_found, made_again, made_found, name_again, name_found, names_again, names_found, two_again, two_found, values_again, values_found}
+use Rattle.mesa_record_fields.proofs.FileRefsBoth.{all_true, totals_fit, totals_in, totals_wider}
+use Rattle.mesa_record.proofs.FilesBoth.{AreFilesIfAny, IsPart, files_if_any_again, files_if_any_found, files_if_any_keep, files_if_any_of, files_keep, files_of, part_again, part_found}
 use Rattle.mesa_record.proofs.RecastBoth.{IsRecasting, recasting_again, recasting_found}
 use Rattle.mesa_record.proofs.StatedBoth.{IsStated, stated_again, stated_found}
 

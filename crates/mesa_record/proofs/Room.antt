@@ -1,7 +1,7 @@
 -- The fourth edition has room for every record.
 use Rattle.std.proofs.Common.{ℕ, List, [], ◌∷◌, Option, Some, None}
 use Rattle.std.specs.List.{AllByRecursion}
-use Rattle.mesa_record.specs.declared.edition.Edition.TheVariants.{Fourth}
+use Rattle.mesa_record_fields.specs.declared.edition.Edition.TheVariants.{Fourth}
 use Rattle.mesa_record.specs.declared.record.Record.{Record}
 use Rattle.mesa_record.specs.declared.record.Record.TheVariants as record_of
 use Rattle.mesa_record.specs.declared.record.ViewRef.{ViewRef}

@@ -6,22 +6,26 @@ use Rattle.std.proofs.lemmas.Bool.{ltb-true, lt-ltb}
 use Rattle.mesa_list.proofs.Whole.{both}
 use Rattle.mesa_schema.specs.declared.changes.Change.{Change}
 use Rattle.mesa_schema.specs.declared.views.View.{View}
-use Rattle.mesa_record.specs.declared.edition.Edition.{Edition}
-use Rattle.mesa_record.specs.declared.edition.Edition.TheVariants.{First, Second, Third, Fourth}
+use Rattle.mesa_record_fields.specs.declared.edition.Edition.{Edition}
+use Rattle.mesa_record_fields.specs.declared.edition.Edition.TheVariants.{First, Second, Third, Fourth}
 use Rattle.mesa_record.specs.declared.checkpoint.CheckpointRange.{CheckpointRange}
 use Rattle.mesa_record.specs.declared.checkpoint.CheckpointSingle.{CheckpointSingle}
 use Rattle.mesa_record.specs.declared.checkpoint.CheckpointTable.{CheckpointTable}
 use Rattle.mesa_record.specs.declared.checkpoint.StatedColumns.{StatedColumns}
 use Rattle.mesa_record.specs.declared.checkpoint.StatedDeltas.{StatedDeltas}
 use Rattle.mesa_record.specs.declared.checkpoint.Checkpoint.{Checkpoint}
-use Rattle.mesa_record.specs.Reading.{Left, Read, base_if, begins_at, base_if_any_at, byte_at, change_at, columns_in, count_at, deltas_in, files_at, files_if_any_at, flag_of, half_at, key_columns_at, meaning, name_at, names_at, oldest_at, sized_at, stated_at, stated_columns_at, stated_deltas_at, stated_of, stated_range_at, stated_single_at, stated_table_at, stated_view_at, stated_views_at, totals_at, value_columns_at, word_at}
-use Rattle.mesa_record.specs.Rules.{AreTypedColumns, AreTypedDeltas, FitsBase, FitsBegins, FitsOldest, FitsRange, FitsSingle, FitsTable, IsTypedBase, IsTypedChange, IsTypedCheckpoint, IsTypedRange, IsTypedSingle, IsTypedStatedView, IsTypedTable, IsWord, are_files, are_stated_columns, are_stated_deltas, is_base_if_any, is_change, is_checkpoint, is_count_of_columns, is_long, is_short, is_stated_range, is_stated_single, is_stated_table, is_stated_view}
-use Rattle.mesa_record.specs.Spelling.{base_if_any, begins_field, change, checkpoint_fields, counted, files, files_if_any, flag, half, key_column, oldest_field, sized, stated_columns, stated_deltas, stated_range, stated_single, stated_table, stated_view, text, total, value_column, word}
-use Rattle.mesa_record.proofs.Both.{Again, Begins, Found, begins_two, here, list_found, of_ok, ok_is, step_of}
-use Rattle.mesa_record.proofs.Numbers.{byte_again, byte_found, half_again, half_found, one, word_again, word_found}
-use Rattle.mesa_record.proofs.Texts.{meaning_again, meaning_found, ruled_again, ruled_found}
-use Rattle.mesa_record.proofs.ColumnsBoth.{HasKeys, HasValues, all_of_order, change_again, change_found, flag_of_byte, keys_again, keys_found, made_again, many_again, name_again, name_found, names_again, names_found, values_again, values_found}
-use Rattle.mesa_record.proofs.FilesBoth.{AreTotals, all_true, files_again, files_found, files_if_any_again, files_if_any_found, files_if_any_keep, files_if_any_of, files_keep, files_of, totals_again, totals_found}
+use Rattle.mesa_record_fields.specs.Reading.{Left, Read, byte_at, change_at, count_at, flag_of, half_at, key_columns_at, meaning, name_at, names_at, sized_at, totals_at, value_columns_at, word_at}
+use Rattle.mesa_record.specs.Reading.{base_if, begins_at, base_if_any_at, columns_in, deltas_in, files_at, files_if_any_at, oldest_at, stated_at, stated_columns_at, stated_deltas_at, stated_of, stated_range_at, stated_single_at, stated_table_at, stated_view_at, stated_views_at}
+use Rattle.mesa_record_fields.specs.Rules.{IsTypedChange, IsWord, is_change, is_count_of_columns, is_long, is_short}
+use Rattle.mesa_record.specs.Rules.{AreTypedColumns, AreTypedDeltas, FitsBase, FitsBegins, FitsOldest, FitsRange, FitsSingle, FitsTable, IsTypedBase, IsTypedCheckpoint, IsTypedRange, IsTypedSingle, IsTypedStatedView, IsTypedTable, are_files, are_stated_columns, are_stated_deltas, is_base_if_any, is_checkpoint, is_stated_range, is_stated_single, is_stated_table, is_stated_view}
+use Rattle.mesa_record_fields.specs.Spelling.{change, counted, flag, half, key_column, sized, text, total, value_column, word}
+use Rattle.mesa_record.specs.Spelling.{base_if_any, begins_field, checkpoint_fields, files, files_if_any, oldest_field, stated_columns, stated_deltas, stated_range, stated_single, stated_table, stated_view}
+use Rattle.mesa_record_fields.proofs.Both.{Again, Begins, Found, begins_two, here, list_found, of_ok, ok_is, step_of}
+use Rattle.mesa_record_fields.proofs.Numbers.{byte_again, byte_found, half_again, half_found, one, word_again, word_found}
+use Rattle.mesa_record_fields.proofs.Texts.{meaning_again, meaning_found, ruled_again, ruled_found}
+use Rattle.mesa_record_fields.proofs.ColumnsBoth.{HasKeys, HasValues, all_of_order, change_again, change_found, flag_of_byte, keys_again, keys_found, made_again, many_again, name_again, name_found, names_again, names_found, values_again, values_found}
+use Rattle.mesa_record_fields.proofs.FileRefsBoth.{AreTotals, all_true, totals_again, totals_found}
+use Rattle.mesa_record.proofs.FilesBoth.{files_again, files_found, files_if_any_again, files_if_any_found, files_if_any_keep, files_if_any_of, files_keep, files_of}
 
 -- ---- what is kept by a thing that is read, and by each of a list
 

@@ -1,6 +1,6 @@
 -- Records in the editions.
 use Rattle.std.specs.Prelude.{◌≡◌, ℕ, List}
-use Rattle.mesa_record.specs.declared.edition.Edition.{Edition}
+use Rattle.mesa_record_fields.specs.declared.edition.Edition.{Edition}
 use Rattle.mesa_record.specs.declared.record.Record.{Record}
 use Rattle.mesa_record.specs.Rules.{FitsIn}
 use Rattle.mesa_record.specs.Spelling.{spelled_in}

@@ -1,21 +1,11 @@
 -- Which records there are.
-use Rattle.std.specs.Prelude.{◌≡◌, ℕ, ◌+◌, ◌^◌, ◌<◌, List, [], ◌∷◌, length, map, IsTrue, Bool, true, ◌&&◌, nat_le, nat_lt, Option, None, Some}
+use Rattle.std.specs.Prelude.{◌≡◌, ℕ, ◌^◌, ◌<◌, List, length, map, IsTrue, Bool, true, ◌&&◌, nat_le, nat_lt, Option, None, Some}
 use Rattle.std.specs.List.{AllByRecursion, list_all}
-use Rattle.mesa_value.specs.Agg.{IsAmount, IsNarrow}
-use Rattle.mesa_key.specs.declared.KeyValue.{KeyValue}
-use Rattle.mesa_key.specs.declared.KeyValue.TheVariants as value
-use Rattle.mesa_key.specs.Text.{is_key_text}
 use Rattle.mesa_schema.specs.declared.columns.KeyColumn.{KeyColumn}
 use Rattle.mesa_schema.specs.declared.columns.ValueColumn.{ValueColumn}
-use Rattle.mesa_schema.specs.declared.changes.Change.{Change}
-use Rattle.mesa_schema.specs.declared.changes.Change.TheVariants.{AddValue, DropValue, AddKey}
-use Rattle.mesa_schema.specs.Changes.{is_of_kind}
-use Rattle.mesa_schema.specs.Names.{is_name}
 use Rattle.mesa_schema.specs.declared.views.View.{View}
-use Rattle.mesa_file.specs.declared.file_ref.FileRef.{FileRef}
-use Rattle.mesa_key.specs.declared.Format.TheVariants as format
-use Rattle.mesa_record.specs.declared.edition.Edition.{Edition}
-use Rattle.mesa_record.specs.declared.edition.Edition.TheVariants.{First, Second, Third, Fourth}
+use Rattle.mesa_record_fields.specs.declared.edition.Edition.{Edition}
+use Rattle.mesa_record_fields.specs.declared.edition.Edition.TheVariants.{First, Second, Third, Fourth}
 use Rattle.mesa_record.specs.declared.record.Record.{Record}
 use Rattle.mesa_record.specs.declared.record.Record.TheVariants as record_of
 use Rattle.mesa_record.specs.declared.record.ViewRef.{ViewRef}
@@ -27,25 +17,9 @@ use Rattle.mesa_record.specs.declared.checkpoint.CheckpointTable.{CheckpointTabl
 use Rattle.mesa_record.specs.declared.checkpoint.Checkpoint.{Checkpoint}
 use Rattle.mesa_record.specs.declared.recasting.RecastBase.{RecastBase}
 use Rattle.mesa_record.specs.declared.recasting.Recasting.{Recasting}
+use Rattle.mesa_record_fields.specs.Rules.{is_count_of_columns, is_file_ref, rise_from, is_change, is_short, is_long, IsHalf, IsWord, IsTotal, IsNamed, IsTypedChange, IsTypedRef, FitsRef, FitsTotals}
 
 -- ---- the rules that a record's fields keep
-
--- a table or a view has 1 to 16 columns of each sort
-abbrev pub is_count_of_columns : ℕ → Bool
-is_count_of_columns n = nat_le 1 n && nat_le n 16
-
--- a key's length stands in two bytes
-abbrev pub is_key_length : ℕ → Bool
-is_key_length n = nat_lt n (2 ^ 16)
-
--- a file has rows and blocks
-abbrev pub is_file_ref : FileRef → Bool
-is_file_ref f = nat_le 1 f.rows && nat_le 1 f.blocks && is_key_length (length f.first) && is_key_length (length f.last) && is_count_of_columns (length f.aggregates)
-
--- each number is at least the first one, and greater than the one before
-abbrev pub rise_from : ℕ → List ℕ → Bool
-rise_from least [] = true
-rise_from least (n ∷ ns) = nat_le least n && rise_from (n + 1) ns
 
 -- a table has at most 8 views
 abbrev pub are_view_refs : List ViewRef → Bool
@@ -60,22 +34,9 @@ is_part p = are_files p.files && nat_le (length p.totals) 16
 abbrev pub are_parts : List Part → Bool
 are_parts parts = nat_lt (length parts) (2 ^ 16) && rise_from 0 (map (λ (p : Part). p.table) parts) && list_all is_part parts
 
--- a new key column's default is of its type
-abbrev pub is_change : Change → Bool
-is_change (AddValue column default) = true
-is_change (DropValue name) = true
-is_change (AddKey column default) = is_of_kind column.kind default
-
 abbrev pub are_files_if_any : Option Files → Bool
 are_files_if_any None = true
 are_files_if_any (Some f) = are_files f
-
--- a list has room behind its number in two bytes, and in four
-abbrev pub is_short : {A : Type 0} → List A → Bool
-is_short xs = nat_lt (length xs) (2 ^ 16)
-
-abbrev pub is_long : {A : Type 0} → List A → Bool
-is_long xs = nat_lt (length xs) (2 ^ 32)
 
 abbrev pub is_stated_view : View → Bool
 is_stated_view v = is_count_of_columns (length v.keys) && is_count_of_columns (length v.values)
@@ -129,39 +90,6 @@ keeps_rules (record_of.Checkpoint k) = is_checkpoint k
 keeps_rules (record_of.Recast r) = is_recasting r
 
 -- ---- what the types of the fields say of them
-
-abbrev pub IsHalf : ℕ → Type 0
-IsHalf n = n < 2 ^ 16
-
-abbrev pub IsWord : ℕ → Type 0
-IsWord n = n < 2 ^ 32
-
-abbrev pub IsLong : ℕ → Type 0
-IsLong n = n < 2 ^ 64
-
--- a total of absolute values has 128 bits
-abbrev pub IsTotal : ℕ → Type 0
-IsTotal n = n < 2 ^ 128
-
-abbrev pub IsNamed : List ℕ → Type 0
-IsNamed name = IsTrue (is_name name)
-
-abbrev pub IsKeyValue : KeyValue → Type 0
-IsKeyValue (value.Int z) = IsNarrow z
-IsKeyValue (value.Text bytes) = IsTrue (is_key_text bytes)
-
-abbrev pub IsTypedChange : Change → Type 0
-IsTypedChange (AddValue column default) = IsNamed column.name × IsNarrow default
-IsTypedChange (DropValue name) = IsNamed name
-IsTypedChange (AddKey column default) = IsNamed column.name × IsKeyValue default
-
-pub record IsTypedRef (f : FileRef) : Type 0 where
-  pub id : IsLong f.id
-  pub len : IsLong f.len
-  pub rows : IsLong f.rows
-  pub blocks : IsWord f.blocks
-  pub aggregates : AllByRecursion IsAmount f.aggregates
-  pub digest : length f.digest ≡ 32
 
 pub record IsTypedView (v : ViewRef) : Type 0 where
   pub view : v.view < 2 ^ 8
@@ -260,13 +188,6 @@ IsTyped (record_of.Recast r) = IsTypedRecasting r
 
 -- ---- what has room in an edition
 
--- a file that the first edition names is of format 1, and its aggregates are numbers of 64 bits
-abbrev pub FitsRef : Edition → FileRef → Type 0
-FitsRef First f = (f.format ≡ format.One) × AllByRecursion IsNarrow f.aggregates
-FitsRef Second f = Unit {0}
-FitsRef Third f = Unit {0}
-FitsRef Fourth f = Unit {0}
-
 -- so is a view's file
 abbrev pub FitsView : Edition → ViewRef → Type 0
 FitsView e v = FitsRef e v.file
@@ -274,13 +195,6 @@ FitsView e v = FitsRef e v.file
 pub record FitsFiles (e : Edition) (f : Files) : Type 0 where
   pub file : FitsRef e f.file
   pub views : AllByRecursion (FitsView e) f.views
-
--- totals have 64 bits in the first edition
-abbrev pub FitsTotals : Edition → List ℕ → Type 0
-FitsTotals First totals = AllByRecursion IsLong totals
-FitsTotals Second totals = Unit {0}
-FitsTotals Third totals = Unit {0}
-FitsTotals Fourth totals = Unit {0}
 
 pub record FitsPart (e : Edition) (p : Part) : Type 0 where
   pub files : FitsFiles e p.files

@@ -1,11 +1,11 @@
 // What holds of every record, whichever function wrote or read it.
 ghost use Rattle.std.specs.Prelude.{◌≡◌, ℕ, List, Ok};
-ghost use Rattle.mesa_key.specs.Spelling.{AreBytes};
+ghost use Rattle.mesa_record_fields.specs.mesa_key.Spelling.{AreBytes};
 ghost use Rattle.mesa_record.specs.declared.record.Record.{Record as AnyRecord};
 ghost use Rattle.mesa_record.specs.Editions.{IsSpelled};
 ghost use Rattle.mesa_record.specs.Reading.{record_at};
 ghost use Rattle.mesa_record.specs.Rules.{FitsIn, IsRecord};
-ghost use Rattle.mesa_record.specs.declared.edition.Edition.{Edition as AnyEdition};
+ghost use Rattle.mesa_record_fields.specs.declared.edition.Edition.{Edition as AnyEdition};
 ghost use Rattle.mesa_record.specs.Spelling.{spelled_in};
 
 /// A record is read again from its bytes, in each edition in which it has room.

@@ -3,13 +3,8 @@
 
 mod checkpoint;
 mod copies;
-mod cursor;
-mod edition;
-mod error;
-mod field;
 mod files;
 mod laws;
-mod numbered;
 mod reading;
 mod recasting;
 mod record;
@@ -17,9 +12,8 @@ mod stated;
 mod writing;
 
 pub use checkpoint::{Checkpoint, CheckpointRange, CheckpointSingle, CheckpointTable};
-pub use edition::Edition;
-pub use error::RecordError;
 pub use laws::{reads_records, spells_records};
+pub use mesa_record_fields::{Edition, RecordError};
 pub use reading::decode;
 pub use recasting::{RecastBase, Recasting};
 pub use record::{Files, Part, Record, ViewRef};

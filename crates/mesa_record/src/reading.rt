@@ -1,22 +1,21 @@
 // Reading records.
 ghost use Rattle.std.specs.Prelude.{◌≡◌, ◌≢◌, Ok, Err, IfOk, IfErr};
 ghost use Rattle.mesa_record.specs.Editions.{IsSpelled};
-ghost use Rattle.mesa_record.specs.Reading.{Gives, alter_at, change_at, checkpoint_at, expire_table_at, fields_of, add_key_at, add_value_at, key_columns_at, key_default_at, names_at, publish_at, recast_at, record_at, swap_at, table_at, value_columns_at, view_at};
+ghost use Rattle.mesa_record_fields.specs.Reading.{Gives};
+ghost use Rattle.mesa_record.specs.Reading.{alter_at, checkpoint_at, expire_table_at, fields_of, publish_at, recast_at, record_at, swap_at, table_at, view_at};
 ghost use Rattle.mesa_record.specs.declared.record.Record.{Record as AnyRecord};
 ghost use Rattle.mesa_record.specs.Rules.{FitsIn, IsRecord};
-ghost use Rattle.mesa_record.specs.declared.edition.Edition.{Edition as AnyEdition};
+ghost use Rattle.mesa_record_fields.specs.declared.edition.Edition.{Edition as AnyEdition};
 ghost use Rattle.mesa_record.specs.Spelling.{spelled_in};
 
-use crate::cursor::Cursor;
-use crate::field::{Field, read_fields};
 use crate::files::read_files_if_any;
-use crate::numbered::read_rising;
 use crate::recasting::read_recasting;
 use crate::stated::read_checkpoint;
-use crate::{Edition, Record, RecordError, reads_records, spells_records};
-use mesa_key::{KeyText, KeyType, KeyValue};
-use mesa_list::Items;
-use mesa_schema::{Change, KeyColumn, Name, ValueColumn};
+use crate::{Record, reads_records, spells_records};
+use mesa_record_fields::{
+    Cursor, Edition, RecordError, read_change, read_key_columns, read_names, read_rising,
+    read_value_columns,
+};
 use std::alloc::Global;
 
 /// The record that the bytes spell.
@@ -91,29 +90,9 @@ fn table(alloc: Global, cursor: &mut Cursor<'_>) -> Result<Record, RecordError>
     ensures { Gives result cursor.new (table_at cursor.old) }
 {
     let name = cursor.name(alloc)?;
-    let keys = key_columns(alloc, cursor)?;
-    let values = value_columns(alloc, cursor)?;
+    let keys = read_key_columns(alloc, cursor)?;
+    let values = read_value_columns(alloc, cursor)?;
     Ok(Record::Table { name, keys, values })
-}
-
-pub(crate) fn key_columns(
-    alloc: Global,
-    cursor: &mut Cursor<'_>,
-) -> Result<Items<KeyColumn>, RecordError>
-    ensures { Gives result cursor.new (key_columns_at cursor.old) }
-{
-    let count = cursor.columns()?;
-    read_fields(alloc, cursor, count)
-}
-
-pub(crate) fn value_columns(
-    alloc: Global,
-    cursor: &mut Cursor<'_>,
-) -> Result<Items<ValueColumn>, RecordError>
-    ensures { Gives result cursor.new (value_columns_at cursor.old) }
-{
-    let count = cursor.columns()?;
-    read_fields(alloc, cursor, count)
 }
 
 fn view(alloc: Global, cursor: &mut Cursor<'_>) -> Result<Record, RecordError>
@@ -121,8 +100,8 @@ fn view(alloc: Global, cursor: &mut Cursor<'_>) -> Result<Record, RecordError>
 {
     let table = cursor.half()?;
     let name = cursor.name(alloc)?;
-    let keys = names(alloc, cursor)?;
-    let values = names(alloc, cursor)?;
+    let keys = read_names(alloc, cursor)?;
+    let values = read_names(alloc, cursor)?;
     Ok(Record::View {
         table,
         name,
@@ -131,72 +110,12 @@ fn view(alloc: Global, cursor: &mut Cursor<'_>) -> Result<Record, RecordError>
     })
 }
 
-// The names of columns.
-pub(crate) fn names(alloc: Global, cursor: &mut Cursor<'_>) -> Result<Items<Name>, RecordError>
-    ensures { Gives result cursor.new (names_at cursor.old) }
-{
-    let count = cursor.columns()?;
-    read_fields(alloc, cursor, count)
-}
-
 fn alter(alloc: Global, cursor: &mut Cursor<'_>) -> Result<Record, RecordError>
     ensures { Gives result cursor.new (alter_at cursor.old) }
 {
     let table = cursor.half()?;
-    let change = change(alloc, cursor)?;
+    let change = read_change(alloc, cursor)?;
     Ok(Record::Alter { table, change })
-}
-
-pub(crate) fn change(alloc: Global, cursor: &mut Cursor<'_>) -> Result<Change, RecordError>
-    ensures { Gives result cursor.new (change_at cursor.old) }
-{
-    let at = cursor.at();
-    match cursor.byte()? {
-        1 => add_value(alloc, cursor),
-        2 => Ok(Change::DropValue {
-            name: cursor.name(alloc)?,
-        }),
-        3 => add_key(alloc, cursor),
-        _ => Err(RecordError::BadKind { at }),
-    }
-}
-
-fn add_value(alloc: Global, cursor: &mut Cursor<'_>) -> Result<Change, RecordError>
-    ensures { Gives result cursor.new (add_value_at cursor.old) }
-{
-    let column = ValueColumn::read(alloc, cursor)?;
-    let default = cursor.amount()?;
-    Ok(Change::AddValue { column, default })
-}
-
-fn add_key(alloc: Global, cursor: &mut Cursor<'_>) -> Result<Change, RecordError>
-    ensures { Gives result cursor.new (add_key_at cursor.old) }
-{
-    let column = KeyColumn::read(alloc, cursor)?;
-    let default = key_default(alloc, column.kind, cursor)?;
-    Ok(Change::AddKey { column, default })
-}
-
-// A default of a key column of a type.
-fn key_default(
-    alloc: Global,
-    kind: KeyType,
-    cursor: &mut Cursor<'_>,
-) -> Result<KeyValue, RecordError>
-    ensures { Gives result cursor.new (key_default_at kind cursor.old) }
-{
-    match kind {
-        KeyType::Int => Ok(KeyValue::Int(cursor.amount()?)),
-        KeyType::Text => {
-            let at = cursor.at();
-            let text = cursor.text()?;
-            if !KeyText::allows(text) {
-                return Err(RecordError::BadField { at });
-            }
-            let text = KeyText::new(Items::from_bytes(alloc, text)?);
-            Ok(KeyValue::Text(text))
-        }
-    }
 }
 
 fn publish(alloc: Global, cursor: &mut Cursor<'_>, edition: Edition) -> Result<Record, RecordError>

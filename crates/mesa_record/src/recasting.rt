@@ -1,16 +1,17 @@
 // What a recast makes of a table, as fields.
 ghost use Rattle.std.specs.Prelude.{◌≡◌, ◌++◌, ◌∷◌, IsTrue, OnOk};
-ghost use Rattle.mesa_record.specs.Reading.{Gives, recast_base_at, recast_base_if_any_at, recasting_at};
+ghost use Rattle.mesa_record_fields.specs.Reading.{Gives};
+ghost use Rattle.mesa_record.specs.Reading.{recast_base_at, recast_base_if_any_at, recasting_at};
 ghost use Rattle.mesa_record.specs.Rules.{AreTypedNames, AreTypedRecast, IsTypedRecastBase, IsTypedRecasting, are_recast_columns, are_recast_deltas, is_recast_base, is_recasting};
 ghost use Rattle.mesa_record.specs.Spelling.{recast_base_if_any, recast_columns, recast_deltas, recasting_fields};
 
-use crate::cursor::Cursor;
-use crate::field::{put_half, put_word, write_counted};
 use crate::files::{read_files_if_any, write_files_if_any};
-use crate::reading::names;
 use crate::stated::{read_long, write_long};
-use crate::{CheckpointSingle, Edition, Files, RecordError};
+use crate::{CheckpointSingle, Files};
 use mesa_list::Items;
+use mesa_record_fields::{
+    Cursor, Edition, RecordError, put_half, put_word, read_names, write_counted,
+};
 use mesa_schema::Name;
 use std::alloc::{AllocError, Global};
 
@@ -46,8 +47,8 @@ pub(crate) fn read_recasting(
 {
     let table = cursor.half()?;
     let epoch = cursor.word()?;
-    let keys = names(alloc, cursor)?;
-    let values = names(alloc, cursor)?;
+    let keys = read_names(alloc, cursor)?;
+    let values = read_names(alloc, cursor)?;
     let base = read_base_if_any(alloc, cursor)?;
     let singles = read_long(alloc, cursor, Edition::Fourth, 0)?;
     Ok(Recasting {

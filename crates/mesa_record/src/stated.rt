@@ -1,27 +1,30 @@
 // What a checkpoint states, as fields.
 ghost use Rattle.std.specs.Prelude.{◌≡◌, ◌≤◌, ◌++◌, ◌∷◌, flat_map, length, IsTrue, OnOk};
 ghost use Rattle.std.specs.List.{AllByRecursion, list_all};
-ghost use Rattle.mesa_record.specs.declared.edition.Edition.TheVariants.{Fourth};
-ghost use Rattle.mesa_record.specs.Reading.{Gives, base_if_any_at, change_at, half_at, many, sized_at, stated_at, stated_columns_at, stated_deltas_at, stated_range_at, stated_single_at, stated_table_at, stated_view_at, stated_views_at, word_at};
-ghost use Rattle.mesa_record.specs.Rules.{AreTypedColumns, AreTypedDeltas, IsTypedBase, IsTypedChange, IsTypedCheckpoint, IsTypedRange, IsTypedSingle, IsTypedStatedView, IsTypedTable, are_stated_columns, are_stated_deltas, is_base_if_any, is_change, is_checkpoint, is_long, is_short, is_stated_range, is_stated_single, is_stated_table, is_stated_view};
-ghost use Rattle.mesa_record.specs.Spelling.{base_if_any, change as change_bytes, checkpoint_fields, counted, half, sized, stated_columns, stated_deltas, stated_range, stated_single, stated_table, stated_view, word};
+ghost use Rattle.mesa_record_fields.specs.declared.edition.Edition.TheVariants.{Fourth};
+ghost use Rattle.mesa_record_fields.specs.Reading.{Gives, change_at, half_at, many, sized_at, word_at};
+ghost use Rattle.mesa_record.specs.Reading.{base_if_any_at, begins_at, oldest_at, stated_at, stated_columns_at, stated_deltas_at, stated_range_at, stated_single_at, stated_table_at, stated_view_at, stated_views_at};
+ghost use Rattle.mesa_record_fields.specs.Rules.{IsTypedChange, is_change, is_long, is_short};
+ghost use Rattle.mesa_record.specs.Rules.{AreTypedColumns, AreTypedDeltas, IsTypedBase, IsTypedCheckpoint, IsTypedRange, IsTypedSingle, IsTypedStatedView, IsTypedTable, are_stated_columns, are_stated_deltas, is_base_if_any, is_checkpoint, is_stated_range, is_stated_single, is_stated_table, is_stated_view};
+ghost use Rattle.mesa_record_fields.specs.Spelling.{change as change_bytes, counted, half, sized, word};
+ghost use Rattle.mesa_record.specs.Spelling.{base_if_any, checkpoint_fields, stated_columns, stated_deltas, stated_range, stated_single, stated_table, stated_view};
 
 use crate::checkpoint::{StatedColumns, StatedDeltas, table_of};
-use crate::cursor::Cursor;
-use crate::field::{Field, put_half, put_word, write_counted};
-use crate::files::{read_files, read_files_if_any, read_totals, write_files, write_files_if_any};
-use crate::reading::{change, key_columns, names, value_columns};
-use crate::writing::write_change;
-use crate::{Checkpoint, CheckpointRange, CheckpointSingle, CheckpointTable, Edition, RecordError};
+use crate::files::{read_files, read_files_if_any, write_files, write_files_if_any};
+use crate::{Checkpoint, CheckpointRange, CheckpointSingle, CheckpointTable};
 use mesa_list::Items;
+use mesa_record_fields::{
+    Cursor, Edition, Field, RecordError, put_half, put_word, read_change, read_key_columns,
+    read_names, read_totals, read_value_columns, write_change, write_counted,
+};
 use mesa_schema::{Change, View};
 use std::alloc::{AllocError, Global};
 
 /// A field that stands in a checkpoint's lists.
 pub(crate) trait Stated: Sized + Drop {
     ghost use Rattle.std.specs.Prelude.{Bool, List, ℕ};
-    ghost use Rattle.mesa_record.specs.declared.edition.Edition.{Edition as AnyEdition};
-    ghost use Rattle.mesa_record.specs.Reading.{Left, Read};
+    ghost use Rattle.mesa_record_fields.specs.declared.edition.Edition.{Edition as AnyEdition};
+    ghost use Rattle.mesa_record_fields.specs.Reading.{Left, Read};
 
     ghost read_at: { AnyEdition → ℕ → Left → Read Self };
 
@@ -181,8 +184,8 @@ impl Stated for CheckpointTable {
         floor: u32,
     ) -> Result<Self, RecordError> {
         let name = cursor.name(alloc)?;
-        let oldest = cursor.oldest(edition, floor)?;
-        let begins = cursor.begins(edition)?;
+        let oldest = read_oldest(cursor, edition, floor)?;
+        let begins = read_begins(cursor, edition)?;
         let columns = read_columns(alloc, cursor, edition, floor)?;
         let deltas = read_deltas(alloc, cursor, edition, floor)?;
         Ok(table_of(name, oldest, begins, columns, deltas))
@@ -198,6 +201,26 @@ impl Stated for CheckpointTable {
     }
 }
 
+// A table's oldest version: the floor, where the edition has no field for it.
+fn read_oldest(cursor: &mut Cursor<'_>, edition: Edition, floor: u32) -> Result<u32, RecordError>
+    ensures { Gives result cursor.new (oldest_at edition floor cursor.old) }
+{
+    match edition {
+        Edition::First | Edition::Second => Ok(floor),
+        Edition::Third | Edition::Fourth => cursor.word(),
+    }
+}
+
+// A table's first epoch: 0, where the edition has no field for it.
+fn read_begins(cursor: &mut Cursor<'_>, edition: Edition) -> Result<u32, RecordError>
+    ensures { Gives result cursor.new (begins_at edition cursor.old) }
+{
+    match edition {
+        Edition::First | Edition::Second | Edition::Third => Ok(0),
+        Edition::Fourth => cursor.word(),
+    }
+}
+
 #[tactic(auto, unfolding(crate::specs::Reading::stated_columns_at))]
 fn read_columns(
     alloc: Global,
@@ -207,8 +230,8 @@ fn read_columns(
 ) -> Result<StatedColumns, RecordError>
     ensures { Gives result cursor.new (stated_columns_at edition cursor.old) }
 {
-    let keys = key_columns(alloc, cursor)?;
-    let values = value_columns(alloc, cursor)?;
+    let keys = read_key_columns(alloc, cursor)?;
+    let values = read_value_columns(alloc, cursor)?;
     let changes = read_short(alloc, cursor, edition, floor)?;
     let views = read_views(alloc, cursor, edition, floor)?;
     let totals = read_totals(alloc, cursor, edition)?;
@@ -281,7 +304,7 @@ impl Stated for Change {
         _: Edition,
         _: u32,
     ) -> Result<Self, RecordError> {
-        change(alloc, cursor)
+        read_change(alloc, cursor)
     }
 
     fn write(&self, out: &mut Vec<u8>) -> Result<(), AllocError> {
@@ -305,8 +328,8 @@ impl Stated for View {
         _: u32,
     ) -> Result<Self, RecordError> {
         let name = cursor.name(alloc)?;
-        let keys = names(alloc, cursor)?;
-        let values = names(alloc, cursor)?;
+        let keys = read_names(alloc, cursor)?;
+        let values = read_names(alloc, cursor)?;
         Ok(View { name, keys, values })
     }
 

@@ -3,16 +3,18 @@ ghost use Rattle.std.specs.List.{AllByRecursion};
 ghost use Rattle.std.specs.Prelude.{◌≡◌, [], ◌∷◌, ◌++◌, IfOk, IsTrue, Ok, OnOk};
 ghost use Rattle.mesa_record.specs.Reading.{record_at};
 ghost use Rattle.mesa_record.specs.declared.record.Record.TheVariants as record_of;
-ghost use Rattle.mesa_record.specs.Rules.{IsHalf, IsKeyValue, IsTyped, IsTypedChange, IsTypedPart, IsWord, are_parts, keeps_rules};
-ghost use Rattle.mesa_record.specs.Spelling.{change as change_bytes, flag, half, key_default, parts_fields, spelled, table_fields, view_fields, word};
+ghost use Rattle.mesa_record_fields.specs.Rules.{IsHalf, IsTypedChange, IsWord};
+ghost use Rattle.mesa_record.specs.Rules.{IsTyped, IsTypedPart, are_parts, keeps_rules};
+ghost use Rattle.mesa_record_fields.specs.Spelling.{change as change_bytes, flag, half, word};
+ghost use Rattle.mesa_record.specs.Spelling.{parts_fields, spelled, table_fields, view_fields};
 
-use crate::field::{Field, put_half, put_word, write_counted};
 use crate::files::write_files_if_any;
-use crate::numbered::write_rising;
 use crate::recasting::write_recasting;
 use crate::stated::write_checkpoint;
-use crate::{Edition, Part, Record, reads_records};
-use mesa_key::KeyValue;
+use crate::{Part, Record, reads_records};
+use mesa_record_fields::{
+    Edition, Field, put_half, put_word, write_change, write_counted, write_rising,
+};
 use mesa_schema::{Change, KeyColumn, Name, ValueColumn};
 use std::alloc::{AllocError, Global};
 
@@ -168,40 +170,4 @@ fn write_range(from: u32, to: u32, epoch: u32, out: &mut Vec<u8>) -> Result<(), 
     put_word(from, out)?;
     put_word(to, out)?;
     put_word(epoch, out)
-}
-
-pub(crate) fn write_change(change: &Change, out: &mut Vec<u8>) -> Result<(), AllocError>
-    ensures bytes { OnOk result (out.new.items ≡ out.old.items ++ change_bytes change.now) }
-    ensures typed { OnOk result (IsTypedChange change.now) }
-{
-    match change {
-        Change::AddValue { column, default } => {
-            out.push(1)?;
-            column.write(out)?;
-            default.write(out)
-        }
-        Change::DropValue { name } => {
-            out.push(2)?;
-            name.write(out)
-        }
-        Change::AddKey { column, default } => {
-            out.push(3)?;
-            column.write(out)?;
-            write_default(default, out)
-        }
-    }
-}
-
-// Appends a default of a key column.
-fn write_default(default: &KeyValue, out: &mut Vec<u8>) -> Result<(), AllocError>
-    ensures bytes { OnOk result (out.new.items ≡ out.old.items ++ key_default default.now) }
-    ensures typed { OnOk result (IsKeyValue default.now) }
-{
-    match default {
-        KeyValue::Int(number) => number.write(out),
-        KeyValue::Text(text) => {
-            out.push(text.as_bytes().len() as u8)?;
-            out.extend_from_slice(text.as_bytes())
-        }
-    }
 }

@@ -19,7 +19,8 @@ use Rattle.mesa_engine.specs.mesa_record.declared.record.Record.TheVariants as r
 use Rattle.mesa_engine.specs.mesa_record.declared.record.Part.{Part}
 use Rattle.mesa_engine.specs.mesa_record.declared.checkpoint.CheckpointTable.{CheckpointTable}
 use Rattle.mesa_engine.specs.mesa_record.declared.checkpoint.Checkpoint.{Checkpoint}
-use Rattle.mesa_engine.specs.mesa_record.Rules.{IsNamed, IsTyped, IsTypedChange, IsTypedCheckpoint, IsTypedTable}
+use Rattle.mesa_engine.specs.mesa_record_fields.Rules.{IsNamed, IsTypedChange}
+use Rattle.mesa_engine.specs.mesa_record.Rules.{IsTyped, IsTypedCheckpoint, IsTypedTable}
 use Rattle.mesa_engine.specs.mesa_store_spec.Catalog.{Catalog, Delta, TableMeta, applied, new_meta, no_meta, part_of, meta_at, meta_changed, meta_from, meta_loaded, meta_recast, meta_swapped, metas_loaded, merged_delta, recast_in}
 use Rattle.mesa_engine.specs.mesa_store_spec.Contents.{kept_of, table_of}
 use Rattle.mesa_engine.specs.mesa_store_spec.Checkpoint.{stated, meta_stated}

@@ -7,7 +7,7 @@ use Rattle.mesa_file.specs.declared.damage.Seen.{Seen}
 use Rattle.mesa_disk.specs.declared.area.Area.{Area}
 use Rattle.mesa_recover.proofs.mesa_journal.Live.{never_damaged, one_live, same_live}
 use Rattle.mesa_engine.specs.mesa_record.declared.record.Record.{Record}
-use Rattle.mesa_engine.specs.mesa_record.declared.error.RecordError.{RecordError}
+use Rattle.mesa_engine.specs.mesa_record_fields.declared.error.RecordError.{RecordError}
 use Rattle.mesa_engine.specs.mesa_record.Reading.{record_at}
 use Rattle.mesa_session.specs.mesa_history_spec.Rows.{Rows}
 use Rattle.mesa_engine.specs.mesa_store_spec.Catalog.{Catalog}

@@ -7,7 +7,9 @@ use Rattle.mesa_delta.specs.mesa_key.declared.KeyType.TheVariants as kind
 use Rattle.mesa_history_spec.specs.mesa_schema.declared.rows.Row.{Row}
 use Rattle.mesa_history_spec.specs.mesa_schema.Changes.{Lineage}
 use Rattle.mesa_history_spec.specs.mesa_file.declared.file_ref.FileRef.{FileRef}
-use Rattle.mesa_record.specs.Reading.{fields_of, file_ref_at, files_at}
+use Rattle.mesa_record.specs.mesa_record_fields.Reading.{file_ref_at}
+use Rattle.mesa_record.specs.Reading.{fields_of, files_at}
+use Rattle.mesa_record.specs.mesa_record_fields.Reading as reading_below
 use Rattle.mesa_record.specs.Reading as reading
 use Rattle.mesa_delta.specs.mesa_disk.declared.area.Area.TheVariants.{Zero}
 use Rattle.mesa_store_spec.specs.Catalog.{Catalog, Delta}
@@ -89,38 +91,38 @@ after = record {
 }
 
 is_before : catalog Zero loaded ≡ Some before
-unfolding fields_of file_ref_at files_at reading.rising fits catalog_from
+unfolding fields_of file_ref_at files_at reading_below.rising fits catalog_from
 is_before = refl
 
 is_after : catalog Zero (loaded ++ merged ∷ []) ≡ Some after
-unfolding fields_of file_ref_at files_at reading.rising fits catalog_from
+unfolding fields_of file_ref_at files_at reading_below.rising fits catalog_from
 is_after = refl
 
 -- a base isn't for versions that can be queried still, nor for the first version alone, and it begins with it
 too_far : catalog Zero (loaded ++ swap 1 0 2 (1 ∷ file_bytes 3 digest_6) ∷ []) ≡ None
-unfolding fields_of file_ref_at files_at reading.rising fits catalog_from
+unfolding fields_of file_ref_at files_at reading_below.rising fits catalog_from
 too_far = refl
 
 too_short : catalog Zero (loaded ++ swap 1 0 0 (1 ∷ file_bytes 3 digest_6) ∷ []) ≡ None
-unfolding fields_of file_ref_at files_at reading.rising fits catalog_from
+unfolding fields_of file_ref_at files_at reading_below.rising fits catalog_from
 too_short = refl
 
 too_late : catalog Zero (loaded ++ swap 1 1 1 (1 ∷ file_bytes 3 digest_6) ∷ []) ≡ None
-unfolding fields_of file_ref_at files_at reading.rising fits catalog_from
+unfolding fields_of file_ref_at files_at reading_below.rising fits catalog_from
 too_late = refl
 
 -- a base isn't made twice, and a cumulative is of ten versions
 base_again : catalog Zero (loaded ++ merged ∷ swap 1 0 1 (1 ∷ file_bytes 4 digest_6) ∷ []) ≡ None
-unfolding fields_of file_ref_at files_at reading.rising fits catalog_from
+unfolding fields_of file_ref_at files_at reading_below.rising fits catalog_from
 base_again = refl
 
 three_versions : catalog Zero (loaded ++ swap 0 0 2 (1 ∷ file_bytes 3 digest_4) ∷ []) ≡ None
-unfolding fields_of file_ref_at files_at reading.rising fits catalog_from
+unfolding fields_of file_ref_at files_at reading_below.rising fits catalog_from
 three_versions = refl
 
 -- a merged file's id isn't one that a batch has
 id_of_a_batch : catalog Zero (loaded ++ swap 1 0 1 (1 ∷ file_bytes 2 digest_6) ∷ []) ≡ None
-unfolding fields_of file_ref_at files_at reading.rising fits catalog_from
+unfolding fields_of file_ref_at files_at reading_below.rising fits catalog_from
 id_of_a_batch = refl
 
 abbrev row : ℕ → Row

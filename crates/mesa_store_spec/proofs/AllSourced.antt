@@ -24,7 +24,7 @@ use Rattle.mesa_record.specs.declared.recasting.Recasting.{Recasting}
 use Rattle.mesa_record.specs.declared.record.Files.{Files}
 use Rattle.mesa_record.specs.declared.record.Part.{Part}
 use Rattle.mesa_record.specs.declared.record.Record.TheVariants as record_of
-use Rattle.mesa_record.specs.Rules.{IsTypedChange}
+use Rattle.mesa_record.specs.mesa_record_fields.Rules.{IsTypedChange}
 use Rattle.mesa_store_spec.specs.Catalog.{Catalog, Delta, Ending, TableMeta, applied, base_told, merged_delta, new_meta, no_meta, part_of, ranges_of, recast_in, singles_told, start_in, meta_at, meta_changed, meta_from, meta_loaded, meta_recast, meta_swapped, meta_viewed, metas_loaded}
 use Rattle.mesa_store_spec.specs.Fitting.{base_deltas, delta_in, expire_fits, files_fit_if_any, fits, has_epoch, is_number, is_there, kind_fits, may_be_work, live_files, meta_live, swap_fits}
 use Rattle.mesa_store_spec.specs.Contents.{Rows, content, kept_of, present}

@@ -4,7 +4,9 @@ use Rattle.std.specs.Prelude.{codes}
 use Rattle.mesa_delta.specs.mesa_value.declared.Agg.TheVariants as agg
 use Rattle.mesa_delta.specs.mesa_key.declared.KeyType.TheVariants as kind
 use Rattle.mesa_history_spec.specs.mesa_schema.Changes.{Lineage}
-use Rattle.mesa_record.specs.Reading.{fields_of, file_ref_at, files_at}
+use Rattle.mesa_record.specs.mesa_record_fields.Reading.{file_ref_at}
+use Rattle.mesa_record.specs.Reading.{fields_of, files_at}
+use Rattle.mesa_record.specs.mesa_record_fields.Reading as reading_below
 use Rattle.mesa_record.specs.Reading as reading
 use Rattle.mesa_delta.specs.mesa_disk.declared.area.Area.TheVariants.{Zero}
 use Rattle.mesa_store_spec.specs.Catalog.{Catalog, TableMeta, empty_delta}
@@ -35,44 +37,44 @@ abbrev apart : Catalog
 apart = record { tables = meta (codes "t") 1 ∷ meta (codes "u") 0 ∷ []; floor = 0; next = 2; run = 1 }
 
 is_apart : catalog Zero bodies ≡ Some apart
-unfolding fields_of file_ref_at files_at reading.rising fits catalog_from
+unfolding fields_of file_ref_at files_at reading_below.rising fits catalog_from
 is_apart = refl
 
 -- a base of t may reach to its oldest version, one of u not
 base_of_t : catalog Zero (bodies ++ base_to 0 1 ∷ []) ≡ Some (record apart {
   tables = record (meta (codes "t") 1) { base = Some (record { to = 1; delta = empty_delta }); singles = [] } ∷ meta (codes "u") 0 ∷ [];
 })
-unfolding fields_of file_ref_at files_at reading.rising fits catalog_from
+unfolding fields_of file_ref_at files_at reading_below.rising fits catalog_from
 base_of_t = refl
 
 base_of_u : catalog Zero (bodies ++ base_to 1 1 ∷ []) ≡ None
-unfolding fields_of file_ref_at files_at reading.rising fits catalog_from
+unfolding fields_of file_ref_at files_at reading_below.rising fits catalog_from
 base_of_u = refl
 
 -- t's versions don't come again, and a later table begins at the floor
 back : catalog Zero (bodies ++ expire_table 0 0 ∷ []) ≡ None
-unfolding fields_of file_ref_at files_at reading.rising fits catalog_from
+unfolding fields_of file_ref_at files_at reading_below.rising fits catalog_from
 back = refl
 
 to_come : catalog Zero (bodies ++ expire_table 1 2 ∷ []) ≡ None
-unfolding fields_of file_ref_at files_at reading.rising fits catalog_from
+unfolding fields_of file_ref_at files_at reading_below.rising fits catalog_from
 to_come = refl
 
 no_such_table : catalog Zero (bodies ++ expire_table 2 1 ∷ []) ≡ None
-unfolding fields_of file_ref_at files_at reading.rising fits catalog_from
+unfolding fields_of file_ref_at files_at reading_below.rising fits catalog_from
 no_such_table = refl
 
 later_table : catalog Zero (bodies ++ table 118 ∷ []) ≡ Some (record apart { tables = meta (codes "t") 1 ∷ meta (codes "u") 0 ∷ meta (codes "v") 0 ∷ [] })
-unfolding fields_of file_ref_at files_at reading.rising fits catalog_from
+unfolding fields_of file_ref_at files_at reading_below.rising fits catalog_from
 later_table = refl
 
 -- an expiry of all may be to the floor, and leaves t's oldest version as it is
 all_to_floor : catalog Zero (bodies ++ expire 0 ∷ []) ≡ Some apart
-unfolding fields_of file_ref_at files_at reading.rising fits catalog_from
+unfolding fields_of file_ref_at files_at reading_below.rising fits catalog_from
 all_to_floor = refl
 
 all_to_last : catalog Zero (bodies ++ expire 1 ∷ []) ≡ Some (record apart { tables = meta (codes "t") 1 ∷ meta (codes "u") 1 ∷ []; floor = 1 })
-unfolding fields_of file_ref_at files_at reading.rising fits catalog_from
+unfolding fields_of file_ref_at files_at reading_below.rising fits catalog_from
 all_to_last = refl
 
 abbrev no_rows : Rows

@@ -22,7 +22,7 @@ use Rattle.mesa_history_spec.specs.mesa_model.Tables.{table_changed}
 use Rattle.mesa_record.specs.declared.record.Files.{Files}
 use Rattle.mesa_record.specs.declared.record.ViewRef.{ViewRef}
 use Rattle.mesa_record.specs.declared.record.Record.TheVariants as record_of
-use Rattle.mesa_record.specs.Rules.{IsTypedChange}
+use Rattle.mesa_record.specs.mesa_record_fields.Rules.{IsTypedChange}
 use Rattle.mesa_store_spec.specs.Catalog.{Delta, Ending, TableMeta, Catalog, applied, ranges_of, start_in, meta_at, meta_changed}
 use Rattle.mesa_store_spec.specs.Fitting.{alter_fits, base_deltas, columns_seen, delta_in, delta_live, deltas_of, is_there, live_files, meta_live, view_live}
 use Rattle.mesa_store_spec.specs.Contents.{Rows, content, kept_of, present, rows_in, table_of}

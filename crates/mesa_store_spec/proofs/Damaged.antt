@@ -4,6 +4,7 @@ use Rattle.std.specs.FinMap.{empty}
 use Rattle.mesa_delta.specs.mesa_disk.Image.{Image}
 use Rattle.mesa_commit.specs.mesa_journal.Journal.{Closed, IsDamaged, frames, word, of_word}
 use Rattle.mesa_record.specs.Reading.{fields_of}
+use Rattle.mesa_record.specs.mesa_record_fields.Reading as reading_below
 use Rattle.mesa_record.specs.Reading as reading
 use Rattle.mesa_delta.specs.mesa_disk.declared.area.Area.TheVariants.{Zero}
 use Rattle.mesa_store_spec.specs.Catalog.{empty_catalog}
@@ -24,7 +25,7 @@ abbrev image : Image
 image = record { zero = cut 2; one = []; files = empty }
 
 after_run_1 : catalog Zero (run_1 ∷ []) ≡ Some (record empty_catalog { run = 1 })
-unfolding fields_of reading.rising fits catalog_from
+unfolding fields_of reading_below.rising fits catalog_from
 after_run_1 = refl
 
 closed : Closed (cut 2) (run_1 ∷ []) 10
@@ -44,7 +45,7 @@ is_sound rows = record {
 
 -- the next run writes its record there
 after_run_2 : catalog Zero (run_1 ∷ run_2 ∷ []) ≡ Some (record empty_catalog { run = 2 })
-unfolding fields_of reading.rising fits catalog_from
+unfolding fields_of reading_below.rising fits catalog_from
 after_run_2 = refl
 
 area_after : frames (run_1 ∷ run_2 ∷ []) ++ 0 ∷ [] ≡ 1 ∷ 0 ∷ 0 ∷ 0 ∷ 5 ∷ 1 ∷ 0 ∷ 0 ∷ 0 ∷ 1 ∷ 1 ∷ 0 ∷ 0 ∷ 0 ∷ 5 ∷ 1 ∷ 0 ∷ 0 ∷ 0 ∷ 2 ∷ 0 ∷ []

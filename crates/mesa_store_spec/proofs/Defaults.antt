@@ -14,7 +14,7 @@ use Rattle.mesa_history_spec.specs.mesa_schema.Changes.{Lineage, columns_of, is_
 use Rattle.mesa_history_spec.specs.mesa_schema.Lineages.{HasDefault}
 use Rattle.mesa_history_spec.proofs.mesa_schema.LineageChanges.{default_fits}
 use Rattle.mesa_history_spec.proofs.mesa_schema.Passing.{passed_first}
-use Rattle.mesa_record.specs.Rules.{IsKeyValue, IsTypedChange}
+use Rattle.mesa_record.specs.mesa_record_fields.Rules.{IsKeyValue, IsTypedChange}
 
 value_fits : (k : KeyType) (v : KeyValue) → is_of_kind k v ≡ true → IsKeyValue v → IsValue k v
 value_fits kind.Int (value.Int z) h typed = typed

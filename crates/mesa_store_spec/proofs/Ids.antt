@@ -16,7 +16,8 @@ use Rattle.mesa_record.specs.declared.record.Record.{Record}
 use Rattle.mesa_record.specs.declared.checkpoint.CheckpointSingle.{CheckpointSingle}
 use Rattle.mesa_record.specs.declared.recasting.Recasting.{Recasting}
 use Rattle.mesa_record.specs.declared.record.Record.TheVariants as record_of
-use Rattle.mesa_record.specs.Rules.{are_parts, is_part, keeps_rules, rise_from}
+use Rattle.mesa_record.specs.mesa_record_fields.Rules.{rise_from}
+use Rattle.mesa_record.specs.Rules.{are_parts, is_part, keeps_rules}
 use Rattle.mesa_store_spec.specs.Catalog.{Catalog, Delta, Ending, TableMeta, applied, base_told, empty_delta, merged_delta, new_meta, no_meta, part_delta, part_of, recast_in, single_stated, singles_stated, singles_told, start_in, meta_at, meta_changed, meta_loaded, meta_recast, meta_swapped, meta_viewed, metas_loaded}
 use Rattle.mesa_store_spec.specs.Fitting.{LiveFile, are_new_ids, base_deltas, brings_new_files, delta_in, delta_own, delta_live, deltas_of, files_live, fits, has_number, is_there, kind_fits, max_runs, own_live, part_fits, part_live, publish_fits, recast_fits, run_of_id, live_id, meta_live, swap_fits, view_live}
 use Rattle.mesa_store_spec.specs.Ids.{HasOwnIds, IsNewId, brought_ids, delta_ids, dropped_deltas, dropped_ids, file_ids, named, own_delta_id, own_id, recast_dropped, times, view_id}

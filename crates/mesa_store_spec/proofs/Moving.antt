@@ -13,7 +13,7 @@ use Rattle.mesa_record.specs.declared.record.Files.{Files}
 use Rattle.mesa_record.specs.declared.record.Part.{Part}
 use Rattle.mesa_record.specs.declared.record.Record.{Record}
 use Rattle.mesa_record.specs.declared.record.Record.TheVariants as record_of
-use Rattle.mesa_record.specs.Rules.{IsTypedChange}
+use Rattle.mesa_record.specs.mesa_record_fields.Rules.{IsTypedChange}
 use Rattle.mesa_store_spec.specs.Catalog.{Catalog, applied, merged_delta, meta_at}
 use Rattle.mesa_store_spec.specs.Fitting.{brings_new_files, expire_fits, fits, is_new_name, is_there, kind_fits, live_files}
 use Rattle.mesa_store_spec.specs.Contents.{Rows, kept_of}

@@ -11,14 +11,15 @@ use Rattle.mesa_commit.specs.mesa_journal.Areas.{Leads, is_checkpoint, number_in
 use Rattle.mesa_commit.specs.mesa_journal.Journal.{of_word}
 use Rattle.mesa_record.specs.declared.record.Record.{Record}
 use Rattle.mesa_record.specs.declared.record.Record.TheVariants as record_of
-use Rattle.mesa_record.specs.declared.error.RecordError.{RecordError}
+use Rattle.mesa_record.specs.mesa_record_fields.declared.error.RecordError.{RecordError}
 use Rattle.mesa_record.specs.declared.checkpoint.Checkpoint.{Checkpoint}
-use Rattle.mesa_record.specs.declared.edition.Edition.{Edition}
-use Rattle.mesa_record.specs.declared.edition.Edition.TheVariants.{First, Second, Third, Fourth}
+use Rattle.mesa_record.specs.mesa_record_fields.declared.edition.Edition.{Edition}
+use Rattle.mesa_record.specs.mesa_record_fields.declared.edition.Edition.TheVariants.{First, Second, Third, Fourth}
 use Rattle.mesa_record.specs.Editions.{IsSpelled}
 use Rattle.mesa_record.specs.Reading.{record_at}
 use Rattle.mesa_record.specs.Rules.{IsRecord}
-use Rattle.mesa_record.specs.Spelling.{spelled_in, word}
+use Rattle.mesa_record.specs.mesa_record_fields.Spelling.{word}
+use Rattle.mesa_record.specs.Spelling.{spelled_in}
 use Rattle.mesa_record.proofs.RecordsBoth.{record_again, record_found}
 use Rattle.mesa_store_spec.specs.Checkpoint.{checkpoint_body, checkpoint_of, stated}
 use Rattle.mesa_store_spec.specs.CheckpointFits.{checkpoint_fits, counts_fit, number_fits, tables_fit}

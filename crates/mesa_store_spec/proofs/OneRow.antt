@@ -7,7 +7,9 @@ use Rattle.mesa_delta.specs.mesa_key.declared.KeyType.TheVariants as kind
 use Rattle.mesa_history_spec.specs.mesa_schema.declared.rows.Row.{Row}
 use Rattle.mesa_history_spec.specs.mesa_schema.Changes.{Lineage}
 use Rattle.mesa_history_spec.specs.mesa_file.declared.file_ref.FileRef.{FileRef}
-use Rattle.mesa_record.specs.Reading.{fields_of, file_ref_at, files_at}
+use Rattle.mesa_record.specs.mesa_record_fields.Reading.{file_ref_at}
+use Rattle.mesa_record.specs.Reading.{fields_of, files_at}
+use Rattle.mesa_record.specs.mesa_record_fields.Reading as reading_below
 use Rattle.mesa_record.specs.Reading as reading
 use Rattle.mesa_delta.specs.mesa_disk.declared.area.Area.TheVariants.{Zero}
 use Rattle.mesa_store_spec.specs.Catalog.{Catalog, empty_delta}
@@ -57,7 +59,7 @@ catalogue = record {
 }
 
 is_catalogue : catalog Zero bodies ≡ Some catalogue
-unfolding fields_of file_ref_at files_at reading.rising fits catalog_from
+unfolding fields_of file_ref_at files_at reading_below.rising fits catalog_from
 is_catalogue = refl
 
 -- key 1, value 5

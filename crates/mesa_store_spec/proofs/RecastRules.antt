@@ -17,7 +17,8 @@ use Rattle.mesa_history_spec.specs.mesa_file.declared.file_ref.FileRef.{FileRef}
 use Rattle.mesa_record.specs.declared.record.Files.{Files}
 use Rattle.mesa_record.specs.declared.record.ViewRef.{ViewRef}
 use Rattle.mesa_record.specs.declared.checkpoint.CheckpointSingle.{CheckpointSingle}
-use Rattle.mesa_record.specs.Rules.{are_files, are_files_if_any, are_recast_columns, are_recast_deltas, are_view_refs, is_count_of_columns, is_file_ref, is_long, is_recast_base, is_recasting, is_stated_single}
+use Rattle.mesa_record.specs.mesa_record_fields.Rules.{is_count_of_columns, is_file_ref, is_long}
+use Rattle.mesa_record.specs.Rules.{are_files, are_files_if_any, are_recast_columns, are_recast_deltas, are_view_refs, is_recast_base, is_recasting, is_stated_single}
 use Rattle.mesa_store_spec.specs.Catalog.{Delta, Ending, TableMeta, start_in}
 use Rattle.mesa_store_spec.specs.Fitting.{base_deltas, delta_in}
 use Rattle.mesa_store_spec.specs.Shape.{IsShaped}

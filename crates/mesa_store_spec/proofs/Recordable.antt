@@ -23,7 +23,7 @@ use Rattle.mesa_record.specs.declared.record.Files.{Files}
 use Rattle.mesa_record.specs.declared.record.Part.{Part}
 use Rattle.mesa_record.specs.declared.record.Record.{Record}
 use Rattle.mesa_record.specs.declared.record.ViewRef.{ViewRef}
-use Rattle.mesa_record.specs.declared.edition.Edition.TheVariants.{Fourth}
+use Rattle.mesa_record.specs.mesa_record_fields.declared.edition.Edition.TheVariants.{Fourth}
 use Rattle.mesa_record.specs.declared.record.Record.TheVariants as record_of
 use Rattle.mesa_record.specs.declared.checkpoint.CheckpointRange.{CheckpointRange}
 use Rattle.mesa_record.specs.declared.checkpoint.CheckpointSingle.{CheckpointSingle}
@@ -31,7 +31,8 @@ use Rattle.mesa_record.specs.declared.checkpoint.CheckpointTable.{CheckpointTabl
 use Rattle.mesa_record.specs.declared.checkpoint.Checkpoint.{Checkpoint}
 use Rattle.mesa_record.specs.declared.recasting.RecastBase.{RecastBase}
 use Rattle.mesa_record.specs.declared.recasting.Recasting.{Recasting}
-use Rattle.mesa_record.specs.Rules.{FitsBase, FitsFiles, FitsFilesIfAny, FitsIn, FitsRange, FitsSingle, FitsTable, FitsView, IsNamed, IsRecord, IsTotal, IsTypedBase, IsTypedChange, IsTypedPart, IsTypedRange, IsTypedRecastBase, IsTypedRecasting, IsTypedSingle, IsTypedStatedView, IsTypedTable, IsWord, are_files, are_recast_columns, are_recast_deltas, are_stated_columns, are_stated_deltas, is_base_if_any, is_change, is_count_of_columns, is_long, is_part, is_recast_base, is_recasting, is_short, is_stated_range, is_stated_single, is_stated_table, is_stated_view, rise_from}
+use Rattle.mesa_record.specs.mesa_record_fields.Rules.{IsNamed, IsTotal, IsTypedChange, IsWord, is_change, is_count_of_columns, is_long, is_short, rise_from}
+use Rattle.mesa_record.specs.Rules.{FitsBase, FitsFiles, FitsFilesIfAny, FitsIn, FitsRange, FitsSingle, FitsTable, FitsView, IsRecord, IsTypedBase, IsTypedPart, IsTypedRange, IsTypedRecastBase, IsTypedRecasting, IsTypedSingle, IsTypedStatedView, IsTypedTable, are_files, are_recast_columns, are_recast_deltas, are_stated_columns, are_stated_deltas, is_base_if_any, is_part, is_recast_base, is_recasting, is_stated_range, is_stated_single, is_stated_table, is_stated_view}
 use Rattle.mesa_store_spec.specs.Checkpoint.{range_stated, single_stated, singles_stated, start_stated, meta_stated, stated, stating_range, stating_single, stating_singles, stating_table, checkpoint_of}
 use Rattle.mesa_store_spec.specs.Catalog.{Delta, Ending, TableMeta, Catalog, base_recast, base_told, empty_base, empty_delta, end_in, merged_delta, new_meta, no_meta, part_delta, part_of, recast_in, singles_told, start_in, meta_at, meta_changed, meta_from, meta_loaded, meta_recast, meta_swapped, meta_viewed, metas_loaded, applied}
 use Rattle.mesa_store_spec.specs.Fitting.{base_deltas, delta_in, deltas_of}

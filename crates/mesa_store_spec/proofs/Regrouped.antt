@@ -7,7 +7,9 @@ use Rattle.mesa_delta.specs.mesa_key.declared.KeyType.TheVariants as kind
 use Rattle.mesa_history_spec.specs.mesa_schema.declared.rows.Row.{Row}
 use Rattle.mesa_history_spec.specs.mesa_schema.Changes.{Lineage}
 use Rattle.mesa_history_spec.specs.mesa_file.declared.file_ref.FileRef.{FileRef}
-use Rattle.mesa_record.specs.Reading.{fields_of, file_ref_at, files_at, recasting_at, stated_single_at}
+use Rattle.mesa_record.specs.mesa_record_fields.Reading.{file_ref_at}
+use Rattle.mesa_record.specs.Reading.{fields_of, files_at, recasting_at, stated_single_at}
+use Rattle.mesa_record.specs.mesa_record_fields.Reading as reading_below
 use Rattle.mesa_record.specs.Reading as reading
 use Rattle.mesa_delta.specs.mesa_disk.declared.area.Area.TheVariants.{Zero}
 use Rattle.mesa_store_spec.specs.Catalog.{Catalog}
@@ -78,21 +80,21 @@ after = record {
 }
 
 is_after : catalog Zero (bodies ++ recast ∷ []) ≡ Some after
-unfolding fields_of file_ref_at files_at recasting_at stated_single_at reading.rising fits catalog_from
+unfolding fields_of file_ref_at files_at recasting_at stated_single_at reading_below.rising fits catalog_from
 is_after = refl
 
 -- the epoch is the next one, and a view's file isn't left out
 epoch_to_come : catalog Zero (bodies ++ recast_in_epoch 2 (1 ∷ 0 ∷ view_bytes) ∷ []) ≡ None
-unfolding fields_of file_ref_at files_at recasting_at stated_single_at reading.rising fits catalog_from
+unfolding fields_of file_ref_at files_at recasting_at stated_single_at reading_below.rising fits catalog_from
 epoch_to_come = refl
 
 view_left_out : catalog Zero (bodies ++ recast_in_epoch 1 (0 ∷ []) ∷ []) ≡ None
-unfolding fields_of file_ref_at files_at recasting_at stated_single_at reading.rising fits catalog_from
+unfolding fields_of file_ref_at files_at recasting_at stated_single_at reading_below.rising fits catalog_from
 view_left_out = refl
 
 -- a batch of the epoch before comes too late
 old_batch : catalog Zero (bodies ++ recast ∷ (5 ∷ word 2 ++ half 1 ++ half 0 ++ word 0 ++ (id_bytes 1 5 ++ long 112 ++ long 1 ++ word 1 ++ (0 ∷ 16 ∷ key 1 ++ key 3) ++ (0 ∷ 16 ∷ key 1 ++ key 3) ++ (1 ∷ long 1) ++ digest_w) ++ 0 ∷ 1 ∷ long 1) ∷ []) ≡ None
-unfolding fields_of file_ref_at files_at recasting_at stated_single_at reading.rising fits catalog_from
+unfolding fields_of file_ref_at files_at recasting_at stated_single_at reading_below.rising fits catalog_from
 old_batch = refl
 
 abbrev row : ℕ → ℕ → ℕ → Row

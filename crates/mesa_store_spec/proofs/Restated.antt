@@ -6,6 +6,7 @@ use Rattle.mesa_delta.specs.mesa_disk.declared.area.Area.TheVariants.{Zero, One}
 use Rattle.mesa_commit.specs.mesa_journal.Journal.{Closed, word, of_word}
 use Rattle.mesa_commit.specs.mesa_journal.Areas.{HasJournal, number_in}
 use Rattle.mesa_record.specs.Reading.{fields_of, stated_at}
+use Rattle.mesa_record.specs.mesa_record_fields.Reading as reading_below
 use Rattle.mesa_record.specs.Reading as reading
 use Rattle.mesa_store_spec.specs.Catalog.{empty_catalog}
 use Rattle.mesa_store_spec.specs.Fitting.{fits, catalog_from}
@@ -25,37 +26,37 @@ abbrev run_6555 : List ℕ
 run_6555 = 1 ∷ 0 ∷ 0 ∷ 0x19 ∷ 0x9b ∷ []
 
 is_stated : catalog One (checkpoint ∷ []) ≡ Some (record empty_catalog { run = 6554 })
-unfolding fields_of stated_at reading.rising fits catalog_from
+unfolding fields_of stated_at reading_below.rising fits catalog_from
 is_stated = refl
 
 is_stated_first : catalog One (checkpoint_as 8 ∷ []) ≡ Some (record empty_catalog { run = 6554 })
-unfolding fields_of stated_at reading.rising fits catalog_from
+unfolding fields_of stated_at reading_below.rising fits catalog_from
 is_stated_first = refl
 
 is_stated_second : catalog One (checkpoint_as 11 ∷ []) ≡ Some (record empty_catalog { run = 6554 })
-unfolding fields_of stated_at reading.rising fits catalog_from
+unfolding fields_of stated_at reading_below.rising fits catalog_from
 is_stated_second = refl
 
 is_stated_third : catalog One (checkpoint_as 13 ∷ []) ≡ Some (record empty_catalog { run = 6554 })
-unfolding fields_of stated_at reading.rising fits catalog_from
+unfolding fields_of stated_at reading_below.rising fits catalog_from
 is_stated_third = refl
 
 is_run : catalog One (checkpoint ∷ run_6555 ∷ []) ≡ Some (record empty_catalog { run = 6555 })
-unfolding fields_of stated_at reading.rising fits catalog_from
+unfolding fields_of stated_at reading_below.rising fits catalog_from
 is_run = refl
 
 -- an odd number has no place in area 0
 not_in_zero : catalog Zero (checkpoint ∷ []) ≡ None
-unfolding fields_of stated_at reading.rising fits catalog_from
+unfolding fields_of stated_at reading_below.rising fits catalog_from
 not_in_zero = refl
 
 -- a checkpoint is no later body, and another record is no first one of area 1
 not_later : catalog Zero (run_1 ∷ checkpoint ∷ []) ≡ None
-unfolding fields_of stated_at reading.rising fits catalog_from
+unfolding fields_of stated_at reading_below.rising fits catalog_from
 not_later = refl
 
 not_first : catalog One (run_1 ∷ []) ≡ None
-unfolding fields_of stated_at reading.rising fits catalog_from
+unfolding fields_of stated_at reading_below.rising fits catalog_from
 not_first = refl
 
 abbrev area_zero : List ℕ

@@ -6,7 +6,9 @@ use Rattle.mesa_delta.specs.mesa_value.declared.Agg.TheVariants as agg
 use Rattle.mesa_delta.specs.mesa_key.declared.KeyType.TheVariants as kind
 use Rattle.mesa_history_spec.specs.mesa_schema.Changes.{Lineage}
 use Rattle.mesa_history_spec.specs.mesa_file.declared.file_ref.FileRef.{FileRef}
-use Rattle.mesa_record.specs.Reading.{fields_of, file_ref_at, files_at}
+use Rattle.mesa_record.specs.mesa_record_fields.Reading.{file_ref_at}
+use Rattle.mesa_record.specs.Reading.{fields_of, files_at}
+use Rattle.mesa_record.specs.mesa_record_fields.Reading as reading_below
 use Rattle.mesa_record.specs.Reading as reading
 use Rattle.mesa_delta.specs.mesa_disk.declared.area.Area.TheVariants.{Zero}
 use Rattle.mesa_store_spec.specs.Catalog.{TableMeta, empty_delta}
@@ -52,7 +54,7 @@ meta = record {
 }
 
 is_catalogue : catalog Zero bodies ≡ Some (record { tables = meta ∷ []; floor = 0; next = 2; run = 1 })
-unfolding fields_of file_ref_at files_at reading.rising fits catalog_from
+unfolding fields_of file_ref_at files_at reading_below.rising fits catalog_from
 is_catalogue = refl
 
 -- a base whose rows are in this file
@@ -70,5 +72,5 @@ is_merged : catalog Zero (first.bodies ++ expire 1 ∷ merged 1 ∷ []) ≡ Some
   next = 2;
   run = 1;
 })
-unfolding fields_of file_ref_at files_at reading.rising fits catalog_from
+unfolding fields_of file_ref_at files_at reading_below.rising fits catalog_from
 is_merged = refl

@@ -26,7 +26,7 @@ use Rattle.mesa_history_spec.proofs.mesa_schema.PresentRows.{columns_more}
 use Rattle.mesa_history_spec.specs.mesa_batch.Totals.{is_sum, sum_bound, sum_places, sums_in, totals_after, totals_without}
 use Rattle.mesa_history_spec.specs.mesa_span.Ranges.{base_before, start_behind}
 use Rattle.mesa_history_spec.specs.mesa_model.Warehouse.{max_tables}
-use Rattle.mesa_record.specs.Rules.{IsTypedChange}
+use Rattle.mesa_record.specs.mesa_record_fields.Rules.{IsTypedChange}
 use Rattle.mesa_store_spec.specs.Catalog.{Delta, TableMeta, Catalog, start_in, no_meta, new_meta, meta_at, meta_from, meta_viewed, meta_changed, with_meta, empty_base, empty_delta}
 use Rattle.mesa_store_spec.specs.Fitting.{base_deltas, deltas_of, names_in, is_new_name, is_there, table_fits, view_fits, alter_fits, expire_fits}
 use Rattle.mesa_store_spec.specs.Shape.{HasBegunIfAny, IsShaped, IsCatalog, IsWithinBound}

@@ -23,7 +23,7 @@ use Rattle.mesa_history_spec.proofs.mesa_schema.PresentRows.{columns_more}
 use Rattle.mesa_history_spec.specs.mesa_batch.Totals.{sum_bound, sums_in}
 use Rattle.mesa_history_spec.specs.mesa_span.Ranges.{start_behind, end_of, ends_of_tens, IsReachable}
 use Rattle.mesa_history_spec.specs.mesa_model.Warehouse.{max_tables, max_versions}
-use Rattle.mesa_record.specs.Rules.{IsTypedChange}
+use Rattle.mesa_record.specs.mesa_record_fields.Rules.{IsTypedChange}
 use Rattle.mesa_store_spec.specs.Catalog.{Delta, Ending, empty_delta, end_in, ranges_of, start_in}
 use Rattle.mesa_record.specs.declared.record.Files.{Files}
 use Rattle.mesa_store_spec.specs.Fitting.{base_deltas, delta_in, files_fit_if_any, has_epoch, run_of_id}

@@ -4,14 +4,15 @@ use Rattle.std.specs.List.{AllByRecursion}
 use Rattle.mesa_delta.specs.mesa_key.Spelling.{AreBytes}
 use Rattle.mesa_record.specs.declared.record.Record.{Record}
 use Rattle.mesa_record.specs.declared.record.Record.TheVariants as record_of
-use Rattle.mesa_record.specs.declared.error.RecordError.{RecordError}
+use Rattle.mesa_record.specs.mesa_record_fields.declared.error.RecordError.{RecordError}
 use Rattle.mesa_record.specs.Reading.{record_at}
 use Rattle.mesa_record.specs.Rules.{IsRecord, IsTyped}
 use Rattle.mesa_record.proofs.RecordsBoth.{record_found}
 use Rattle.mesa_store_spec.specs.Catalog.{Catalog, empty_catalog, applied}
 use Rattle.mesa_delta.specs.mesa_disk.declared.area.Area.{Area}
 use Rattle.mesa_delta.specs.mesa_disk.declared.area.Area.TheVariants.{Zero, One}
-use Rattle.mesa_record.specs.Rules.{IsTypedChange, IsTypedTable}
+use Rattle.mesa_record.specs.mesa_record_fields.Rules.{IsTypedChange}
+use Rattle.mesa_record.specs.Rules.{IsTypedTable}
 use Rattle.mesa_record.specs.declared.checkpoint.CheckpointTable.{CheckpointTable}
 use Rattle.mesa_record.specs.declared.checkpoint.Checkpoint.{Checkpoint}
 use Rattle.mesa_store_spec.specs.Checkpoint.{stated}

@@ -23,7 +23,7 @@ use Rattle.mesa_record.specs.declared.record.Part.{Part}
 use Rattle.mesa_record.specs.declared.checkpoint.CheckpointSingle.{CheckpointSingle}
 use Rattle.mesa_record.specs.declared.recasting.RecastBase.{RecastBase}
 use Rattle.mesa_record.specs.declared.recasting.Recasting.{Recasting}
-use Rattle.mesa_record.specs.declared.error.RecordError.{RecordError}
+use Rattle.mesa_record.specs.mesa_record_fields.declared.error.RecordError.{RecordError}
 use Rattle.mesa_record.specs.Reading.{record_at}
 use Rattle.mesa_store_spec.specs.Catalog.{Delta, Ending, TableMeta, Catalog, base_told, ranges_of, recast_in, singles_told, start_in, meta_at, applied}
 use Rattle.mesa_store_spec.specs.Checkpoint.{stating_singles}

@@ -5,7 +5,7 @@ use Rattle.mesa_delta.specs.mesa_disk.declared.area.Area.TheVariants.{Zero, One}
 use Rattle.mesa_record.specs.declared.checkpoint.Checkpoint.{Checkpoint}
 use Rattle.mesa_record.specs.declared.record.Record.{Record}
 use Rattle.mesa_record.specs.declared.record.Record.TheVariants as record_of
-use Rattle.mesa_record.specs.declared.error.RecordError.{RecordError}
+use Rattle.mesa_record.specs.mesa_record_fields.declared.error.RecordError.{RecordError}
 use Rattle.mesa_record.specs.Reading.{record_at}
 use Rattle.mesa_store_spec.specs.Checkpoint.{stated}
 use Rattle.mesa_store_spec.specs.CheckpointFits.{checkpoint_fits}

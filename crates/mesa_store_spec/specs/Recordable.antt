@@ -4,7 +4,8 @@ use Rattle.std.specs.List.{AllByRecursion}
 use Rattle.mesa_history_spec.specs.mesa_schema.declared.columns.KeyColumn.{KeyColumn}
 use Rattle.mesa_history_spec.specs.mesa_schema.declared.columns.ValueColumn.{ValueColumn}
 use Rattle.mesa_record.specs.declared.record.Files.{Files}
-use Rattle.mesa_record.specs.Rules.{AreTypedFiles, IsNamed, IsTotal, IsTypedChange, IsTypedStatedView, are_files_if_any, is_change, is_stated_view}
+use Rattle.mesa_record.specs.mesa_record_fields.Rules.{IsNamed, IsTotal, IsTypedChange, is_change}
+use Rattle.mesa_record.specs.Rules.{AreTypedFiles, IsTypedStatedView, are_files_if_any, is_stated_view}
 use Rattle.mesa_store_spec.specs.Catalog.{Catalog, Delta, TableMeta}
 use Rattle.mesa_store_spec.specs.Fitting.{deltas_of}
 

@@ -13,7 +13,7 @@ use Rattle.mesa_record.specs.declared.record.ViewRef.{ViewRef}
 use Rattle.mesa_record.specs.declared.checkpoint.CheckpointSingle.{CheckpointSingle}
 use Rattle.mesa_record.specs.declared.recasting.RecastBase.{RecastBase}
 use Rattle.mesa_record.specs.declared.recasting.Recasting.{Recasting}
-use Rattle.mesa_record.specs.Rules.{is_file_ref}
+use Rattle.mesa_record.specs.mesa_record_fields.Rules.{is_file_ref}
 use Rattle.mesa_store_spec.specs.Catalog.{Delta, Ending, TableMeta, start_in}
 use Rattle.mesa_store_spec.specs.Fitting.{LiveFile, counts_columns, totals_fit}
 use Rattle.mesa_store_spec.specs.Contents.{Rows}

@@ -14,7 +14,7 @@ ghost use Rattle.mesa_record.specs.declared.record.Files.{Files as FilesOf};
 ghost use Rattle.mesa_record.specs.declared.record.Part.{Part as PartOf};
 ghost use Rattle.mesa_record.specs.declared.record.Record.TheVariants as record_of;
 ghost use Rattle.mesa_record.specs.declared.recasting.Recasting.{Recasting as RecastingOf};
-ghost use Rattle.mesa_record.specs.Rules.{IsTypedChange};
+ghost use Rattle.mesa_record.specs.mesa_record_fields.Rules.{IsTypedChange};
 ghost use Rattle.mesa_history_spec.specs.mesa_schema.Changes.{columns_of, epoch_of};
 ghost use Rattle.mesa_history_spec.specs.mesa_schema.Columns.{aggs_of};
 ghost use Rattle.mesa_history_spec.specs.mesa_schema.declared.changes.Change.{Change as ChangeOf};

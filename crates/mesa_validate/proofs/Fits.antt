@@ -20,7 +20,8 @@ use Rattle.mesa_schema.proofs.Passing.{passed_first, passed_if, passed_unless}
 use Rattle.mesa_schema.proofs.ViewSchemas.{view_is_schema}
 use Rattle.mesa_record.specs.declared.record.Record.{Record}
 use Rattle.mesa_record.specs.declared.record.Record.TheVariants as record_of
-use Rattle.mesa_record.specs.Rules.{is_count_of_columns, keeps_rules}
+use Rattle.mesa_record.specs.mesa_record_fields.Rules.{is_count_of_columns}
+use Rattle.mesa_record.specs.Rules.{keeps_rules}
 use Rattle.mesa_model.specs.declared.commands.ViewWords.{ViewWords}
 use Rattle.mesa_model.specs.declared.replies.Refusal.{Refusal}
 use Rattle.mesa_model.specs.declared.replies.SchemaFault.TheVariants as fault

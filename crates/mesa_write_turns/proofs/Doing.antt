@@ -21,15 +21,16 @@ use Rattle.mesa_model.specs.Relations.{table_number}
 use Rattle.mesa_model.specs.Tables.{alter_table, change_asked, columns_asked, make_table, make_view}
 use Rattle.mesa_model.specs.Versions.{expire_all, expire_table}
 use Rattle.mesa_model.specs.Warehouse.{Table}
-use Rattle.mesa_engine.specs.mesa_history_spec.Counting.{one_if}
-use Rattle.mesa_engine.specs.mesa_history_spec.Found.{Kept}
-use Rattle.mesa_engine.specs.mesa_history_spec.Legal.{is_writing, is_written}
-use Rattle.mesa_engine.specs.mesa_history_spec.Replay.{told_by}
-use Rattle.mesa_engine.specs.mesa_history_spec.Run.{command_of}
+use Rattle.mesa_file_records.specs.mesa_history_spec.Counting.{one_if}
+use Rattle.mesa_file_records.specs.mesa_history_spec.Found.{Kept}
+use Rattle.mesa_file_records.specs.mesa_history_spec.Legal.{is_writing, is_written}
+use Rattle.mesa_file_records.specs.mesa_history_spec.Replay.{told_by}
+use Rattle.mesa_file_records.specs.mesa_history_spec.Run.{command_of}
 use Rattle.mesa_record.specs.declared.record.Part.{Part}
 use Rattle.mesa_record.specs.declared.record.Record.{Record}
 use Rattle.mesa_record.specs.declared.record.Record.TheVariants as record_of
-use Rattle.mesa_record.specs.Rules.{IsTyped, IsTypedChange}
+use Rattle.mesa_engine.specs.mesa_record_fields.Rules.{IsTypedChange}
+use Rattle.mesa_record.specs.Rules.{IsTyped}
 use Rattle.mesa_engine.specs.mesa_store_spec.Catalog.{Catalog, applied, meta_at}
 use Rattle.mesa_engine.specs.mesa_store_spec.Fitting.{expire_fits, fits, is_new_name, is_there}
 use Rattle.mesa_engine.specs.mesa_store_spec.Sound.{HaveSoundRows}
@@ -43,7 +44,7 @@ use Rattle.mesa_engine.specs.mesa_store_spec.Moves.{Moves}
 use Rattle.mesa_engine.specs.mesa_store_spec.Sourced.{HasSources, tables_read}
 use Rattle.mesa_engine.specs.mesa_catalog.Lookups.{generation_of, turns_generation}
 use Rattle.mesa_validate.specs.Seen.{number_of}
-use Rattle.mesa_engine.specs.mesa_history_spec.Rows.{Rows}
+use Rattle.mesa_file_records.specs.mesa_history_spec.Rows.{Rows}
 use Rattle.mesa_engine.specs.mesa_invariant_spec.Causes.{told_at}
 use Rattle.mesa_engine.specs.mesa_invariant_spec.Changes.{Doing, IsChange, IsDecided}
 use Rattle.mesa_engine.specs.mesa_invariant_spec.Sight.{is_of_schemas}

@@ -9,15 +9,15 @@ use Rattle.mesa_model.specs.declared.commands.Script.{Script}
 use Rattle.mesa_model.specs.declared.entries.Entry.{Entry}
 use Rattle.mesa_model.specs.declared.entries.Kind.TheVariants as kind
 use Rattle.mesa_model.specs.declared.entries.Outcome.TheVariants as outcome
-use Rattle.mesa_engine.specs.mesa_history_spec.Refused.{is_refusal}
-use Rattle.mesa_engine.specs.mesa_history_spec.Run.{Run}
-use Rattle.mesa_engine.specs.mesa_history_spec.Turns.{IsDue}
+use Rattle.mesa_file_records.specs.mesa_history_spec.Refused.{is_refusal}
+use Rattle.mesa_file_records.specs.mesa_history_spec.Run.{Run}
+use Rattle.mesa_file_records.specs.mesa_history_spec.Turns.{IsDue}
 use Rattle.mesa_record.specs.Reading.{record_at}
 use Rattle.mesa_record.specs.Rules.{IsTyped}
 use Rattle.mesa_engine.specs.mesa_store_spec.Catalog.{applied}
 use Rattle.mesa_engine.specs.mesa_catalog.Lookups.{generation_of, turns_generation}
-use Rattle.mesa_engine.specs.mesa_history_spec.Bare.{bare_state}
-use Rattle.mesa_engine.specs.mesa_history_spec.Rows.{Rows, no_rows}
+use Rattle.mesa_file_records.specs.mesa_history_spec.Bare.{bare_state}
+use Rattle.mesa_file_records.specs.mesa_history_spec.Rows.{Rows, no_rows}
 use Rattle.mesa_engine.specs.mesa_invariant_spec.Causes.{Unwritten, reply_of, told_at}
 use Rattle.mesa_engine.specs.mesa_invariant_spec.Turns.{entry}
 use Rattle.mesa_engine.specs.mesa_invariant_spec.Invariant.{Counts, run_at, run_of}

@@ -22,15 +22,15 @@ use Rattle.mesa_model.specs.declared.replies.Reply.TheVariants as reply
 use Rattle.mesa_model.specs.Load.{bounds_checked, load_batch, tables_named, with_batch}
 use Rattle.mesa_model.specs.Refusals.{batch_refusal, refuse_closed}
 use Rattle.mesa_model.specs.Warehouse.{Warehouse, max_versions}
-use Rattle.mesa_engine.specs.mesa_history_spec.Legal.{builds_files}
-use Rattle.mesa_engine.specs.mesa_history_spec.Run.{Run, First, Looked}
-use Rattle.mesa_engine.specs.mesa_history_spec.Turns.{IsDue}
+use Rattle.mesa_file_records.specs.mesa_history_spec.Legal.{builds_files}
+use Rattle.mesa_file_records.specs.mesa_history_spec.Run.{Run, First, Looked}
+use Rattle.mesa_file_records.specs.mesa_history_spec.Turns.{IsDue}
 use Rattle.mesa_engine.specs.mesa_store_spec.Catalog.{Catalog}
 use Rattle.mesa_engine.specs.mesa_store_spec.Sourced.{tables_read}
 use Rattle.mesa_engine.specs.mesa_catalog.Lookups.{sight_of}
-use Rattle.mesa_engine.specs.mesa_history_spec.Output.{block}
-use Rattle.mesa_engine.specs.mesa_history_spec.Bare.{bare_state}
-use Rattle.mesa_engine.specs.mesa_history_spec.Rows.{Rows, no_rows}
+use Rattle.mesa_file_records.specs.mesa_history_spec.Output.{block}
+use Rattle.mesa_file_records.specs.mesa_history_spec.Bare.{bare_state}
+use Rattle.mesa_file_records.specs.mesa_history_spec.Rows.{Rows, no_rows}
 use Rattle.mesa_engine.specs.mesa_invariant_spec.Causes.{Unwritten, reply_of, told_at}
 use Rattle.mesa_engine.specs.mesa_invariant_spec.Changes.{HasFailed}
 use Rattle.mesa_engine.specs.mesa_invariant_spec.Printing.{IsPut}

@@ -19,10 +19,10 @@ use Rattle.mesa_model.specs.declared.replies.Refusal.TheVariants as no
 use Rattle.mesa_model.specs.declared.replies.Reply.{Reply}
 use Rattle.mesa_model.specs.Refusals.{refuse_closed}
 use Rattle.mesa_model.specs.Warehouse.{Table}
-use Rattle.mesa_engine.specs.mesa_history_spec.Legal.{is_due_at, is_release}
-use Rattle.mesa_engine.specs.mesa_history_spec.Replay.{is_skip, no_rows as no_lines}
-use Rattle.mesa_engine.specs.mesa_history_spec.Run.{State, First, Finished}
-use Rattle.mesa_engine.specs.mesa_history_spec.Turns.{IsDue}
+use Rattle.mesa_file_records.specs.mesa_history_spec.Legal.{is_due_at, is_release}
+use Rattle.mesa_file_records.specs.mesa_history_spec.Replay.{is_skip, no_rows as no_lines}
+use Rattle.mesa_file_records.specs.mesa_history_spec.Run.{State, First, Finished}
+use Rattle.mesa_file_records.specs.mesa_history_spec.Turns.{IsDue}
 use Rattle.mesa_record.specs.declared.record.Record.{Record}
 use Rattle.mesa_engine.specs.mesa_store_spec.Fitting.{brought, live_id}
 use Rattle.mesa_engine.specs.mesa_store_spec.Sound.{IsTold, wants}
@@ -30,7 +30,7 @@ use Rattle.mesa_engine.specs.mesa_script.Rows.{body_of}
 use Rattle.mesa_validate.specs.declared.ruled.Ruled.{Ruled}
 use Rattle.mesa_validate.specs.Ruled.{IsRuled, IsRefused as IsUnruled}
 use Rattle.mesa_validate.specs.Seen.{HasCatalog, known_of}
-use Rattle.mesa_engine.specs.mesa_history_spec.Rows.{Rows, no_rows}
+use Rattle.mesa_file_records.specs.mesa_history_spec.Rows.{Rows, no_rows}
 use Rattle.mesa_engine.specs.mesa_invariant_spec.Causes.{NoMemory}
 use Rattle.mesa_engine.specs.mesa_invariant_spec.Changes.{Doing, HasFailed}
 use Rattle.mesa_engine.specs.mesa_invariant_spec.Turns.{Shown, IsSeen, Takes, entry}

@@ -11,9 +11,9 @@ use Rattle.mesa_model.specs.declared.commands.Script.{Script}
 use Rattle.mesa_model.specs.declared.entries.Entry.{Entry}
 use Rattle.mesa_model.specs.declared.entries.Kind.TheVariants as kind
 use Rattle.mesa_model.specs.declared.entries.Outcome.TheVariants as outcome
-use Rattle.mesa_engine.specs.mesa_history_spec.Refused.{is_refusal}
-use Rattle.mesa_engine.specs.mesa_history_spec.Run.{Run}
-use Rattle.mesa_engine.specs.mesa_history_spec.Turns.{IsDue}
+use Rattle.mesa_file_records.specs.mesa_history_spec.Refused.{is_refusal}
+use Rattle.mesa_file_records.specs.mesa_history_spec.Run.{Run}
+use Rattle.mesa_file_records.specs.mesa_history_spec.Turns.{IsDue}
 use Rattle.mesa_record.specs.declared.record.Record.{Record}
 use Rattle.mesa_record.specs.Reading.{record_at}
 use Rattle.mesa_record.specs.Rules.{IsTyped}
@@ -30,8 +30,8 @@ use Rattle.mesa_engine.proofs.mesa_store_spec.Wholes.{fits_shaped}
 use Rattle.mesa_engine.specs.mesa_store_spec.Ids.{named}
 use Rattle.mesa_engine.specs.mesa_catalog.Lookups.{generation_of, turns_generation}
 use Rattle.mesa_store.specs.Store.{Writes as IsWritten}
-use Rattle.mesa_engine.specs.mesa_history_spec.Output.{block}
-use Rattle.mesa_engine.specs.mesa_history_spec.Rows.{Rows}
+use Rattle.mesa_file_records.specs.mesa_history_spec.Output.{block}
+use Rattle.mesa_file_records.specs.mesa_history_spec.Rows.{Rows}
 use Rattle.mesa_engine.specs.mesa_commit.Filed.{AreGiven, Renames}
 use Rattle.mesa_engine.specs.mesa_invariant_spec.Causes.{Unwritten, reply_of, told_at}
 use Rattle.mesa_engine.specs.mesa_invariant_spec.Printing.{IsPut}

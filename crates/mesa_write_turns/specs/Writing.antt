@@ -16,8 +16,8 @@ use Rattle.mesa_model.specs.Load.{load_batch}
 use Rattle.mesa_model.specs.Tables.{alter_table, change_asked, columns_asked, make_table, make_view}
 use Rattle.mesa_model.specs.Versions.{expire_all, expire_table}
 use Rattle.mesa_model.specs.Warehouse.{Warehouse}
-use Rattle.mesa_engine.specs.mesa_history_spec.Run.{Run}
-use Rattle.mesa_engine.specs.mesa_history_spec.Turns.{IsDue}
+use Rattle.mesa_file_records.specs.mesa_history_spec.Run.{Run}
+use Rattle.mesa_file_records.specs.mesa_history_spec.Turns.{IsDue}
 use Rattle.mesa_record.specs.declared.record.Part.{Part}
 use Rattle.mesa_record.specs.declared.record.Record.{Record}
 use Rattle.mesa_record.specs.declared.record.Record.TheVariants as record_of
@@ -28,7 +28,7 @@ use Rattle.mesa_engine.specs.mesa_store_spec.Sound.{wants}
 use Rattle.mesa_engine.specs.mesa_store_spec.Brought.{AreTold, BringsAll}
 use Rattle.mesa_engine.specs.mesa_store_spec.Ids.{brought_ids}
 use Rattle.mesa_engine.specs.mesa_store_spec.Sourced.{tables_read}
-use Rattle.mesa_engine.specs.mesa_history_spec.Rows.{Rows, no_rows}
+use Rattle.mesa_file_records.specs.mesa_history_spec.Rows.{Rows, no_rows}
 use Rattle.mesa_engine.specs.mesa_invariant_spec.Changes.{Doing}
 use Rattle.mesa_engine.specs.EngineState.{EngineState, books_of, next_id}
 use Rattle.mesa_engine.specs.Recorded.{Adopts}

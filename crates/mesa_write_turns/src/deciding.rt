@@ -2,9 +2,9 @@
 ghost use Rattle.std.specs.Prelude.{◌<◌, length};
 ghost use Rattle.std.specs.Fn.{FnOnceReturnsAt};
 ghost use Rattle.mesa_disk.specs.Story.{Steps};
-ghost use Rattle.mesa_engine.specs.mesa_history_spec.Run.{Finished};
+ghost use Rattle.mesa_file_records.specs.mesa_history_spec.Run.{Finished};
 ghost use Rattle.mesa_model.specs.declared.entries.Kind.TheVariants as kind;
-ghost use Rattle.mesa_engine.specs.mesa_history_spec.Rows.{no_rows};
+ghost use Rattle.mesa_file_records.specs.mesa_history_spec.Rows.{no_rows};
 ghost use Rattle.mesa_engine.specs.mesa_invariant_spec.Turns.{AnswersDisk, SomeRose, Takes};
 ghost use Rattle.mesa_engine.specs.mesa_invariant_spec.Invariant.{run_at};
 ghost use Rattle.mesa_write_turns.specs.Ruling.{IsRuledBy};

@@ -1,14 +1,14 @@
 // A turn that writes.
 ghost use Rattle.std.specs.Prelude.{◌≡◌, ◌<◌, [], true, length, Some, Ok, IsTrue, IfOk, OnErr, OnOk};
 ghost use Rattle.mesa_disk.specs.Story.{Steps};
-ghost use Rattle.mesa_engine.specs.mesa_history_spec.Run.{Finished};
+ghost use Rattle.mesa_file_records.specs.mesa_history_spec.Run.{Finished};
 ghost use Rattle.mesa_engine.specs.mesa_store_spec.Fitting.{fits};
 ghost use Rattle.mesa_file_records.specs.mesa_key.Spelling.{AreBytes};
 ghost use Rattle.mesa_model.specs.declared.entries.Kind.TheVariants as kind;
 ghost use Rattle.mesa_file_records.specs.Published.{AllTell};
 ghost use Rattle.mesa_record.specs.Reading.{record_at};
 ghost use Rattle.mesa_record.specs.Rules.{keeps_rules};
-ghost use Rattle.mesa_engine.specs.mesa_history_spec.Rows.{Rows, no_rows};
+ghost use Rattle.mesa_file_records.specs.mesa_history_spec.Rows.{Rows, no_rows};
 ghost use Rattle.mesa_engine.specs.mesa_invariant_spec.Turns.{AnswersDisk, AnswersDraft, SomeRose, Takes};
 ghost use Rattle.mesa_engine.specs.mesa_invariant_spec.Invariant.{run_at};
 ghost use Rattle.mesa_write_turns.specs.Writing.{IsToWrite, KeepsFiles};

@@ -1,6 +1,6 @@
 use Rattle.std.proofs.Common.{◌-◌, ◌+◌, arith}
 use Rattle.std.proofs.lemmas.Result.{err_from_is_err_and}
-use Rattle.mesa_record.proofs.Series.{ends, goes_on, is_done}
+use Rattle.mesa_record_fields.proofs.Series.{ends, goes_on, is_done}
 use Rattle.mesa_record.proofs.stated.read_stated.Goals as goal
 
 pub returns-in_err-read : goal.returns-in_err-read

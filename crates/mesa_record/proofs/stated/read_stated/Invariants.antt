@@ -1,5 +1,5 @@
 use Rattle.std.proofs.Common.{◌≡◌, ◌-◌}
-use Rattle.mesa_record.specs.Reading.{many, rising, with_front}
+use Rattle.mesa_record_fields.specs.Reading.{many, rising, with_front}
 use Rattle.mesa_record.proofs.stated.read_stated.Given as goal
 
 -- the fields so far and those that are left are all

@@ -3,7 +3,8 @@ use Rattle.std.specs.Prelude.{OnOk}
 use Rattle.std.specs.List.{AllByRecursion}
 use Rattle.mesa_schema.specs.declared.columns.KeyColumn.{KeyColumn}
 use Rattle.mesa_schema.specs.declared.columns.ValueColumn.{ValueColumn}
-use Rattle.mesa_record.specs.Rules.{AreTypedColumns, IsNamed, IsTotal, IsTypedChange, IsTypedStatedView}
+use Rattle.mesa_record_fields.specs.Rules.{IsNamed, IsTotal, IsTypedChange}
+use Rattle.mesa_record.specs.Rules.{AreTypedColumns, IsTypedStatedView}
 use Rattle.mesa_record.proofs.stated.write_columns.Goals as goal
 
 on_ok : {X E : Type 0} (r : Result X E) (A B : Type 0) → (A → B) → OnOk r A → OnOk r B

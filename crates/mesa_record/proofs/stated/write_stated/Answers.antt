@@ -1,5 +1,5 @@
 use Rattle.std.proofs.Common.{arith}
-use Rattle.mesa_record.proofs.InTurn.{all_written, each_holds, none_yet, one_more}
+use Rattle.mesa_record_fields.proofs.InTurn.{all_written, each_holds, none_yet, one_more}
 use Rattle.mesa_record.proofs.stated.write_stated.Goals as goal
 
 pub write-requires : goal.write-requires

@@ -1,4 +1,4 @@
-use Rattle.mesa_record.proofs.InTurn.{Written}
+use Rattle.mesa_record_fields.proofs.InTurn.{Written}
 use Rattle.mesa_record.proofs.stated.write_stated.Given as goal
 
 abbrev pub invariant-loop-field : goal.invariant-loop-field

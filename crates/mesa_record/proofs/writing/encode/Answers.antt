@@ -1,5 +1,5 @@
 use Rattle.std.proofs.Common.{◌++◌, ap, ◌∙◌}
-use Rattle.mesa_record.specs.declared.edition.Edition.TheVariants.{Fourth}
+use Rattle.mesa_record_fields.specs.declared.edition.Edition.TheVariants.{Fourth}
 use Rattle.mesa_record.specs.Reading.{record_at}
 use Rattle.mesa_record.specs.Rules.{IsRecord}
 use Rattle.mesa_record.specs.Spelling.{spelled}

@@ -1,7 +1,7 @@
 use Rattle.std.proofs.Common.{◌∙◌, ap, length, refl, subst}
 use Rattle.std.specs.Prelude.{IfErr, IfOk}
-use Rattle.mesa_engine.specs.mesa_history_spec.Run.{Finished}
-use Rattle.mesa_engine.specs.mesa_history_spec.Rows.{no_rows}
+use Rattle.mesa_file_records.specs.mesa_history_spec.Run.{Finished}
+use Rattle.mesa_file_records.specs.mesa_history_spec.Rows.{no_rows}
 use Rattle.mesa_engine.proofs.mesa_invariant_spec.Alike.{due_alike}
 use Rattle.mesa_engine.specs.Engine.{Standing}
 use Rattle.mesa_engine.specs.Failing.{deciding_stage}

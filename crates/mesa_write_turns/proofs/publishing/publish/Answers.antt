@@ -1,7 +1,7 @@
 use Rattle.std.proofs.Common.{◌≡◌, length, false, refl, ap, arith}
-use Rattle.mesa_engine.specs.mesa_history_spec.Run.{Finished, Looked}
+use Rattle.mesa_file_records.specs.mesa_history_spec.Run.{Finished, Looked}
 use Rattle.mesa_model.specs.declared.commands.Command.TheVariants as command
-use Rattle.mesa_engine.specs.mesa_history_spec.Rows.{no_rows}
+use Rattle.mesa_file_records.specs.mesa_history_spec.Rows.{no_rows}
 use Rattle.mesa_engine.proofs.mesa_invariant_spec.Alike.{due_alike}
 use Rattle.mesa_engine.specs.Engine.{Standing}
 use Rattle.mesa_write_turns.proofs.Keeping.{same_keep}

@@ -2,15 +2,15 @@ use Rattle.std.proofs.Common.{◌≡◌, inl, ◌+◌, ◌<◌, [], ◌∷◌, �
 use Rattle.mesa_io.specs.Causes.{Rose}
 use Rattle.mesa_disk.specs.Files.{files_of}
 use Rattle.mesa_disk.specs.Story.{Steps}
-use Rattle.mesa_engine.specs.mesa_history_spec.Replay.{no_rows as no_lines}
-use Rattle.mesa_engine.specs.mesa_history_spec.Run.{Finished}
+use Rattle.mesa_file_records.specs.mesa_history_spec.Replay.{no_rows as no_lines}
+use Rattle.mesa_file_records.specs.mesa_history_spec.Run.{Finished}
 use Rattle.mesa_engine.specs.mesa_store_spec.Catalog.{applied}
 use Rattle.mesa_engine.specs.mesa_catalog.Lookups.{generation_of, turns_generation}
 use Rattle.mesa_model.specs.Entry.{IsShort}
 use Rattle.mesa_model.specs.declared.entries.Kind.TheVariants as kind
 use Rattle.mesa_model.specs.declared.entries.Outcome.TheVariants as outcome
 use Rattle.mesa_record.proofs.RecordsBoth.{record_found}
-use Rattle.mesa_engine.specs.mesa_history_spec.Rows.{no_rows}
+use Rattle.mesa_file_records.specs.mesa_history_spec.Rows.{no_rows}
 use Rattle.mesa_engine.specs.mesa_invariant_spec.Causes.{Unwritten, reply_of, told_at}
 use Rattle.mesa_engine.specs.mesa_invariant_spec.Turns.{AnswersDisk, AnswersDraft, Shown, SomeRose, Takes, entry, faults_of}
 use Rattle.mesa_engine.specs.mesa_invariant_spec.Invariant.{Counts, run_at}

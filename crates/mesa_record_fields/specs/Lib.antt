@@ -1,0 +1,4 @@
+pub use Rattle.mesa_key.specs as mesa_key
+pub mod Spelling
+pub mod Rules
+pub mod Reading
