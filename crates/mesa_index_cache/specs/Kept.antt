@@ -8,9 +8,11 @@ use Rattle.mesa_open_files.specs.Opening.{IsTrueOf}
 use Rattle.mesa_index_cache.specs.declared.indexes.Indexes.{Indexes}
 use Rattle.mesa_index_cache.specs.declared.kept.Kept.{Kept}
 
+-- an index that is kept, without the digest beside it
 abbrev pub index_in : Kept → Indexed
 index_in k = k.index
 
+-- what is kept of the file of an id
 abbrev pub kept_at : ℕ → Indexes → Option Kept
 kept_at id indexes = lookup (λ (k : ℕ). is_eq (nat_cmp id k)) indexes.by_file.entries
 
