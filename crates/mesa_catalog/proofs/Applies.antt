@@ -18,18 +18,18 @@ use Rattle.mesa_record.specs.declared.record.Record.TheVariants as record_of
 use Rattle.mesa_record.specs.declared.record.Files.{Files}
 use Rattle.mesa_record.specs.declared.record.Part.{Part}
 use Rattle.mesa_span.specs.Ranges.{end_of}
-use Rattle.mesa_catalog_table.specs.mesa_store_spec.Catalog.{Catalog, TableMeta, meta_at, meta_changed, meta_viewed, with_meta}
-use Rattle.mesa_catalog_table.specs.mesa_store_spec.Fitting.{brings_new_files, files_fit_if_any, fits, has_epoch, is_new_name, is_there, kind_fits, may_be_work, part_fits, publish_fits, recast_fits, swap_fits, table_fits}
+use Rattle.mesa_table_records.specs.mesa_store_spec.Catalog.{Catalog, TableMeta, meta_at, meta_changed, meta_viewed, with_meta}
+use Rattle.mesa_table_records.specs.mesa_store_spec.Fitting.{brings_new_files, files_fit_if_any, fits, has_epoch, is_new_name, is_there, kind_fits, may_be_work, part_fits, publish_fits, recast_fits, swap_fits, table_fits}
 use Rattle.mesa_catalog.specs.declared.catalog_tables.CatalogTables.{CatalogTables}
-use Rattle.mesa_catalog_table.specs.declared.table.Table.{Table}
-use Rattle.mesa_catalog_table.specs.declared.ready.ReadyPart.{ReadyPart}
+use Rattle.mesa_table_records.specs.mesa_catalog_table.declared.table.Table.{Table}
+use Rattle.mesa_table_records.specs.declared.ready.ReadyPart.{ReadyPart}
 use Rattle.mesa_catalog.specs.Meaning.{catalogue_of}
-use Rattle.mesa_catalog_table.specs.Meaning.{IsTable, start_of_base, meta_of, widths_of}
+use Rattle.mesa_table_records.specs.mesa_catalog_table.Meaning.{IsTable, start_of_base, meta_of, widths_of}
 use Rattle.mesa_catalog.specs.Readied.{IsMadePart, last_change, last_view}
-use Rattle.mesa_catalog_table.specs.Readied.{IsPartOf, IsSwapOf, part_in}
+use Rattle.mesa_table_records.specs.Readied.{IsPartOf, IsSwapOf, part_in}
 use Rattle.mesa_catalog.proofs.TableMetas.{meta_here}
-use Rattle.mesa_catalog_table.proofs.Tests.{both}
-use Rattle.mesa_catalog_table.proofs.Works.{base_work, cumulative_work}
+use Rattle.mesa_table_records.proofs.mesa_catalog_table.Tests.{both}
+use Rattle.mesa_table_records.proofs.mesa_catalog_table.Works.{base_work, cumulative_work}
 
 pub kind_of_fits : (c : Catalog) (r : Record) → fits c r ≡ true → kind_fits c r ≡ true
 unfolding fits

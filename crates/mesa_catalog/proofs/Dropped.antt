@@ -5,18 +5,18 @@ use Rattle.std.specs.declared.alloc.Global.{Global}
 use Rattle.std.specs.declared.sync.Arc.{Arc}
 use Rattle.std.proofs.lemmas.List.{append-nil}
 use Rattle.mesa_record.specs.declared.record.Files.{Files}
-use Rattle.mesa_catalog_table.specs.mesa_store_spec.Catalog.{Delta, start_in}
-use Rattle.mesa_catalog_table.specs.mesa_store_spec.Fitting.{base_deltas, delta_in}
-use Rattle.mesa_catalog_table.specs.mesa_store_spec.Ids.{delta_ids, dropped_deltas, file_ids, own_delta_id, own_id, recast_dropped}
-use Rattle.mesa_catalog_table.specs.declared.table.Base.{Base}
-use Rattle.mesa_catalog_table.specs.declared.table.Table.{Table}
-use Rattle.mesa_catalog_table.specs.Meaning.{IsTable, ending_of, start_of_base, meta_of}
-use Rattle.mesa_catalog_table.specs.Named.{base_ids, base_own, ids_if_any, ids_recast, ids_through, own_ids, own_if_any, shared_ids, single_ids, single_own, table_ids, through}
-use Rattle.mesa_catalog_table.specs.Named as held
-use Rattle.mesa_catalog_table.proofs.Named.{all_through, base_held, flat_map-map, flat_map-same, singles_through}
-use Rattle.mesa_catalog_table.proofs.Singles.{flat_map-append, singles_give}
-use Rattle.mesa_catalog_table.proofs.Tens.{tens_deltas}
-use Rattle.mesa_catalog_table.proofs.Works.{starts}
+use Rattle.mesa_table_records.specs.mesa_store_spec.Catalog.{Delta, start_in}
+use Rattle.mesa_table_records.specs.mesa_store_spec.Fitting.{base_deltas, delta_in}
+use Rattle.mesa_table_records.specs.mesa_store_spec.Ids.{delta_ids, dropped_deltas, file_ids, own_delta_id, own_id, recast_dropped}
+use Rattle.mesa_table_records.specs.mesa_catalog_table.declared.table.Base.{Base}
+use Rattle.mesa_table_records.specs.mesa_catalog_table.declared.table.Table.{Table}
+use Rattle.mesa_table_records.specs.mesa_catalog_table.Meaning.{IsTable, ending_of, start_of_base, meta_of}
+use Rattle.mesa_table_records.specs.mesa_catalog_table.Named.{base_ids, base_own, ids_if_any, ids_recast, ids_through, own_ids, own_if_any, shared_ids, single_ids, single_own, table_ids, through}
+use Rattle.mesa_table_records.specs.mesa_catalog_table.Named as held
+use Rattle.mesa_table_records.proofs.mesa_catalog_table.Named.{all_through, base_held, flat_map-map, flat_map-same, singles_through}
+use Rattle.mesa_table_records.proofs.mesa_catalog_table.Singles.{flat_map-append, singles_give}
+use Rattle.mesa_table_records.proofs.mesa_catalog_table.Tens.{tens_deltas}
+use Rattle.mesa_table_records.proofs.mesa_catalog_table.Works.{starts}
 
 files_same : (files : Option Files) → file_ids files ≡ ids_if_any files
 files_same None = refl

@@ -1,9 +1,9 @@
 -- Versions that tables let go.
 use Rattle.std.proofs.Common.{◌≡◌, ◌∙◌, ◌<◌, ◌+◌, ◌++◌, ◌∷◌, [], ℕ, List, ap, append-nil, append_assoc, arith, drop, get_or, length, map, set, sym, take}
 use Rattle.std.proofs.lemmas.List.{drop-set-lt, drop_all, drop_more, map-append, take_all, take_more_set}
-use Rattle.mesa_catalog_table.specs.mesa_store_spec.Catalog.{TableMeta, meta_from}
-use Rattle.mesa_catalog_table.specs.declared.table.Table.{Table}
-use Rattle.mesa_catalog_table.specs.Meaning.{meta_of}
+use Rattle.mesa_table_records.specs.mesa_store_spec.Catalog.{TableMeta, meta_from}
+use Rattle.mesa_table_records.specs.mesa_catalog_table.declared.table.Table.{Table}
+use Rattle.mesa_table_records.specs.mesa_catalog_table.Meaning.{meta_of}
 
 pub expired_step : (version next i : ℕ) (tables : List Table) (d t : Table) (whole : List TableMeta) → i < length tables → meta_of next t ≡ meta_from version (meta_of next (get_or tables i d))
     → map (meta_of next) (take i tables) ++ map (meta_from version) (map (meta_of next) (drop i tables)) ≡ whole

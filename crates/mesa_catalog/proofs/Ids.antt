@@ -14,14 +14,14 @@ use Rattle.mesa_record.specs.declared.record.Files.{Files}
 use Rattle.mesa_record.specs.declared.record.Part.{Part}
 use Rattle.mesa_record.specs.declared.record.Record.{Record}
 use Rattle.mesa_record.specs.declared.record.Record.TheVariants as record_of
-use Rattle.mesa_catalog_table.specs.mesa_store_spec.Catalog.{Catalog, base_recast, base_told, empty_delta, recast_in, single_stated, singles_stated, singles_told, start_in, meta_at}
-use Rattle.mesa_catalog_table.specs.mesa_store_spec.Fitting.{are_new_ids, base_deltas, brings_new_files, brought, delta_own, has_number, own_live, part_live, recast_live, run_of_id, live_id, meta_live}
-use Rattle.mesa_catalog_table.specs.mesa_store_spec.Ids.{named, times}
-use Rattle.mesa_catalog_table.specs.Named.{own_ids, own_if_any, table_ids}
-use Rattle.mesa_catalog_table.specs.Meaning.{meta_of}
-use Rattle.mesa_catalog_table.proofs.Named.{files_ids, flat_map-map, flat_map-same, map-flat_map, table_held}
-use Rattle.mesa_catalog_table.proofs.Pushes.{pushed_more, pushed_one}
-use Rattle.mesa_catalog_table.proofs.Singles.{empties_give, flat_map-append}
+use Rattle.mesa_table_records.specs.mesa_store_spec.Catalog.{Catalog, base_recast, base_told, empty_delta, recast_in, single_stated, singles_stated, singles_told, start_in, meta_at}
+use Rattle.mesa_table_records.specs.mesa_store_spec.Fitting.{are_new_ids, base_deltas, brings_new_files, brought, delta_own, has_number, own_live, part_live, recast_live, run_of_id, live_id, meta_live}
+use Rattle.mesa_table_records.specs.mesa_store_spec.Ids.{named, times}
+use Rattle.mesa_table_records.specs.mesa_catalog_table.Named.{own_ids, own_if_any, table_ids}
+use Rattle.mesa_table_records.specs.mesa_catalog_table.Meaning.{meta_of}
+use Rattle.mesa_table_records.proofs.mesa_catalog_table.Named.{files_ids, flat_map-map, flat_map-same, map-flat_map, table_held}
+use Rattle.mesa_table_records.proofs.mesa_catalog_table.Pushes.{pushed_more, pushed_one}
+use Rattle.mesa_table_records.proofs.mesa_catalog_table.Singles.{empties_give, flat_map-append}
 use Rattle.mesa_catalog.specs.declared.catalog_tables.CatalogTables.{CatalogTables}
 use Rattle.mesa_catalog.specs.Meaning.{catalogue_of}
 use Rattle.mesa_catalog.specs.Named.{RiseTo, held_ids, ids_brought, is_once_new, part_ids, recast_base_ids, recast_ids, told_id}

@@ -4,9 +4,9 @@ use Rattle.std.proofs.lemmas.Bool.{cases_lt}
 use Rattle.std.specs.Prelude.{Option, Some, None, IfSome}
 use Rattle.std.specs.List.{AllByRecursion}
 use Rattle.mesa_record.specs.declared.record.Record.{Record}
-use Rattle.mesa_catalog_table.specs.mesa_store_spec.Catalog.{Catalog, applied}
-use Rattle.mesa_catalog_table.specs.mesa_store_spec.Fitting.{fits, kind_fits}
-use Rattle.mesa_catalog_table.specs.mesa_store_spec.Ids.{named, times}
+use Rattle.mesa_table_records.specs.mesa_store_spec.Catalog.{Catalog, applied}
+use Rattle.mesa_table_records.specs.mesa_store_spec.Fitting.{fits, kind_fits}
+use Rattle.mesa_table_records.specs.mesa_store_spec.Ids.{named, times}
 use Rattle.mesa_catalog.specs.declared.catalog_tables.CatalogTables.{CatalogTables}
 use Rattle.mesa_catalog.specs.declared.ready.Ready.{Ready}
 use Rattle.mesa_catalog.specs.Kept.{IsKept}

@@ -1,7 +1,7 @@
 pub use Rattle.mesa_batch.proofs as mesa_batch
-pub use Rattle.mesa_catalog_table.proofs.mesa_store_spec as mesa_store_spec
+pub use Rattle.mesa_table_records.proofs.mesa_catalog_table as mesa_catalog_table
 pub use Rattle.mesa_schema.proofs as mesa_schema
-pub use Rattle.mesa_catalog_table.proofs as mesa_catalog_table
+pub use Rattle.mesa_table_records.proofs.mesa_store_spec as mesa_store_spec
 pub mod Applies
 pub mod Counted
 pub mod Dropped

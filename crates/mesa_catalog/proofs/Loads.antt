@@ -7,11 +7,11 @@ use Rattle.std.proofs.lemmas.Iterator.Adapters.{position_from-zero}
 use Rattle.std.proofs.lemmas.List.{drop-drop, drop-set-lt, drop_more, map_push, take_more_set}
 use Rattle.std.proofs.lemmas.Option.{slice_get-get_or}
 use Rattle.mesa_record.specs.declared.record.Part.{Part}
-use Rattle.mesa_catalog_table.specs.mesa_store_spec.Catalog.{part_of, meta_loaded, metas_loaded}
-use Rattle.mesa_catalog_table.specs.declared.table.Table.{Table}
-use Rattle.mesa_catalog_table.specs.declared.ready.ReadyPart.{ReadyPart}
-use Rattle.mesa_catalog_table.specs.Meaning.{IsTable, meta_of}
-use Rattle.mesa_catalog_table.specs.Readied.{IsPartOf, is_part_of}
+use Rattle.mesa_table_records.specs.mesa_store_spec.Catalog.{part_of, meta_loaded, metas_loaded}
+use Rattle.mesa_table_records.specs.mesa_catalog_table.declared.table.Table.{Table}
+use Rattle.mesa_table_records.specs.declared.ready.ReadyPart.{ReadyPart}
+use Rattle.mesa_table_records.specs.mesa_catalog_table.Meaning.{IsTable, meta_of}
+use Rattle.mesa_table_records.specs.Readied.{IsPartOf, is_part_of}
 use Rattle.mesa_catalog.proofs.TableMetas.{all_pushed}
 
 -- ---- the first part of a table

@@ -14,16 +14,16 @@ use Rattle.mesa_schema.specs.Views.{with_view}
 use Rattle.mesa_batch.specs.Totals.{sums_in}
 use Rattle.mesa_span.specs.Ranges.{base_before, start_behind}
 use Rattle.mesa_record.specs.declared.record.Record.TheVariants as record_of
-use Rattle.mesa_catalog_table.specs.mesa_store_spec.Catalog.{Catalog, empty_base, end_in, new_meta, meta_at}
-use Rattle.mesa_catalog_table.specs.mesa_store_spec.Fitting.{alter_fits, is_there, view_fits}
+use Rattle.mesa_table_records.specs.mesa_store_spec.Catalog.{Catalog, empty_base, end_in, new_meta, meta_at}
+use Rattle.mesa_table_records.specs.mesa_store_spec.Fitting.{alter_fits, is_there, view_fits}
 use Rattle.mesa_catalog.specs.declared.catalog_tables.CatalogTables.{CatalogTables}
-use Rattle.mesa_catalog_table.specs.declared.table.Base.{Base}
-use Rattle.mesa_catalog_table.specs.declared.table.Table.{Table}
-use Rattle.mesa_catalog_table.specs.Meaning.{AreLoaded, IsTable, ending_of, singles_from, start_of_base, meta_of, tens_from, widths_of}
+use Rattle.mesa_table_records.specs.mesa_catalog_table.declared.table.Base.{Base}
+use Rattle.mesa_table_records.specs.mesa_catalog_table.declared.table.Table.{Table}
+use Rattle.mesa_table_records.specs.mesa_catalog_table.Meaning.{AreLoaded, IsTable, ending_of, singles_from, start_of_base, meta_of, tens_from, widths_of}
 use Rattle.mesa_catalog.specs.Meaning.{AreCatalogTables, catalogue_of}
 use Rattle.mesa_catalog.specs.Readied.{last_change, last_or, last_view}
-use Rattle.mesa_catalog_table.proofs.Tens.{base_ends}
-use Rattle.mesa_catalog_table.proofs.Tests.{both}
+use Rattle.mesa_table_records.proofs.mesa_catalog_table.Tens.{base_ends}
+use Rattle.mesa_table_records.proofs.mesa_catalog_table.Tests.{both}
 
 last_pushed : {X : Type 0} (d : X) (xs : List X) (x : X) → last_or d (xs ++ x ∷ []) ≡ x
 last_pushed d [] x = refl

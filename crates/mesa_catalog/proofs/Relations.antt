@@ -8,13 +8,13 @@ use Rattle.mesa_list.specs.Bytes.{same_bytes}
 use Rattle.mesa_schema.specs.Names.{has_name}
 use Rattle.mesa_schema.specs.Columns.{place_of}
 use Rattle.mesa_schema.proofs.Maps.{is_some_position}
-use Rattle.mesa_catalog_table.specs.mesa_store_spec.Catalog.{TableMeta}
-use Rattle.mesa_catalog_table.specs.mesa_store_spec.Fitting.{names_in}
-use Rattle.mesa_catalog_table.specs.declared.relation.Relation.{Relation}
-use Rattle.mesa_catalog_table.specs.declared.table.Table.{Table}
+use Rattle.mesa_table_records.specs.mesa_store_spec.Catalog.{TableMeta}
+use Rattle.mesa_table_records.specs.mesa_store_spec.Fitting.{names_in}
+use Rattle.mesa_table_records.specs.mesa_catalog_table.declared.relation.Relation.{Relation}
+use Rattle.mesa_table_records.specs.mesa_catalog_table.declared.table.Table.{Table}
 use Rattle.mesa_catalog.specs.Lookups.{relation_from}
-use Rattle.mesa_catalog_table.specs.Lookups.{relation_in, view_names}
-use Rattle.mesa_catalog_table.specs.Meaning.{meta_of}
+use Rattle.mesa_table_records.specs.mesa_catalog_table.Lookups.{relation_in, view_names}
+use Rattle.mesa_table_records.specs.mesa_catalog_table.Meaning.{meta_of}
 
 -- ---- relations
 

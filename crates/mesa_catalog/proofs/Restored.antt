@@ -5,16 +5,16 @@ use Rattle.std.specs.List.{AllByRecursion}
 use Rattle.std.proofs.lemmas.Bool.Decides.{nat_tests}
 use Rattle.std.proofs.lemmas.List.{length-map, map_push, take_more}
 use Rattle.mesa_record.specs.declared.checkpoint.Checkpoint.{Checkpoint}
-use Rattle.mesa_catalog_table.specs.mesa_store_spec.Checkpoint.{stated, meta_stated}
-use Rattle.mesa_catalog_table.specs.mesa_store_spec.CheckpointFits.{counts_fit, ids_fit, oldest_fits}
-use Rattle.mesa_catalog_table.specs.mesa_store_spec.Fitting.{max_runs, names_in}
-use Rattle.mesa_catalog_table.specs.mesa_model.Warehouse.{max_tables, max_versions}
-use Rattle.mesa_catalog_table.specs.mesa_store_spec.Ids.{named}
-use Rattle.mesa_catalog_table.specs.declared.table.Table.{Table}
-use Rattle.mesa_catalog_table.specs.Meaning.{IsTable, meta_of}
-use Rattle.mesa_catalog_table.proofs.Named.{flat_map-map}
-use Rattle.mesa_catalog_table.proofs.Restored.{there}
-use Rattle.mesa_catalog_table.proofs.Tests.{both}
+use Rattle.mesa_table_records.specs.mesa_store_spec.Checkpoint.{stated, meta_stated}
+use Rattle.mesa_table_records.specs.mesa_store_spec.CheckpointFits.{counts_fit, ids_fit, oldest_fits}
+use Rattle.mesa_table_records.specs.mesa_store_spec.Fitting.{max_runs, names_in}
+use Rattle.mesa_table_records.specs.mesa_model.Warehouse.{max_tables, max_versions}
+use Rattle.mesa_table_records.specs.mesa_store_spec.Ids.{named}
+use Rattle.mesa_table_records.specs.mesa_catalog_table.declared.table.Table.{Table}
+use Rattle.mesa_table_records.specs.mesa_catalog_table.Meaning.{IsTable, meta_of}
+use Rattle.mesa_table_records.proofs.mesa_catalog_table.Named.{flat_map-map}
+use Rattle.mesa_table_records.proofs.Restored.{there}
+use Rattle.mesa_table_records.proofs.mesa_catalog_table.Tests.{both}
 use Rattle.mesa_catalog.specs.declared.catalog_tables.CatalogTables.{CatalogTables}
 use Rattle.mesa_catalog.specs.Kept.{IsKept}
 use Rattle.mesa_catalog.specs.Meaning.{AreCatalogTables, catalogue_of}

@@ -5,10 +5,10 @@ use Rattle.std.specs.List.{AllByRecursion}
 use Rattle.std.specs.declared.alloc.Global.{Global}
 use Rattle.std.specs.declared.sync.Arc.{Arc}
 use Rattle.mesa_schema.specs.Changes.{Lineage}
-use Rattle.mesa_catalog_table.specs.declared.table.Table.{Table}
-use Rattle.mesa_catalog_table.specs.Meaning.{AreLoaded, IsTable, ending_of, singles_from, start_of_base, meta_of, tens_from, widths_of}
+use Rattle.mesa_table_records.specs.mesa_catalog_table.declared.table.Table.{Table}
+use Rattle.mesa_table_records.specs.mesa_catalog_table.Meaning.{AreLoaded, IsTable, ending_of, singles_from, start_of_base, meta_of, tens_from, widths_of}
 use Rattle.mesa_catalog.specs.Readied.{AreRoomier}
-use Rattle.mesa_catalog_table.specs.Readied.{HasSpare, IsRoomier}
+use Rattle.mesa_table_records.specs.mesa_catalog_table.Room.{HasSpare, IsRoomier}
 
 roomier_same : (t : Table) → IsRoomier t t
 roomier_same t = record { name = refl; evolving = refl; widths = refl; totals = refl; oldest = refl; base = refl; cumulatives = refl; loaded = refl; spare = λ h. h }

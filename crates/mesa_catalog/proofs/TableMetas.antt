@@ -3,12 +3,12 @@ use Rattle.std.proofs.Common.{◌≡◌, ℕ, zero, suc, ◌≤◌, ◌<◌, Lis
 use Rattle.std.specs.List.{AllByRecursion}
 use Rattle.std.proofs.lemmas.Bool.Decides.{nat_tests}
 use Rattle.std.proofs.lemmas.List.{length-map, get_or-map, map-set}
-use Rattle.mesa_catalog_table.specs.mesa_store_spec.Catalog.{no_meta, meta_at, with_meta}
-use Rattle.mesa_catalog_table.specs.mesa_store_spec.Fitting.{is_there}
-use Rattle.mesa_catalog_table.specs.declared.table.Table.{Table}
+use Rattle.mesa_table_records.specs.mesa_store_spec.Catalog.{no_meta, meta_at, with_meta}
+use Rattle.mesa_table_records.specs.mesa_store_spec.Fitting.{is_there}
+use Rattle.mesa_table_records.specs.mesa_catalog_table.declared.table.Table.{Table}
 use Rattle.mesa_catalog.specs.declared.catalog_tables.CatalogTables.{CatalogTables}
 use Rattle.mesa_catalog.specs.Meaning.{catalogue_of}
-use Rattle.mesa_catalog_table.specs.Meaning.{meta_of}
+use Rattle.mesa_table_records.specs.mesa_catalog_table.Meaning.{meta_of}
 
 -- a table that is there
 pub there : (s : CatalogTables) (i : ℕ) → i < length s.tables.items → is_there (catalogue_of s) i ≡ true

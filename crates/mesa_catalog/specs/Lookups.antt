@@ -5,10 +5,10 @@ use Rattle.mesa_schema.specs.Changes.{epoch_of}
 use Rattle.mesa_batch.specs.Glance.{Known, Sight}
 use Rattle.mesa_record.specs.declared.record.Record.{Record}
 use Rattle.mesa_record.specs.declared.record.Record.TheVariants as record_of
-use Rattle.mesa_catalog_table.specs.mesa_store_spec.Catalog.{Catalog, TableMeta}
-use Rattle.mesa_catalog_table.specs.declared.relation.Relation.{Relation}
-use Rattle.mesa_catalog_table.specs.Lookups.{relation_in}
-use Rattle.mesa_catalog_table.specs.declared.table.Table.{Table}
+use Rattle.mesa_table_records.specs.mesa_store_spec.Catalog.{Catalog, TableMeta}
+use Rattle.mesa_table_records.specs.mesa_catalog_table.declared.relation.Relation.{Relation}
+use Rattle.mesa_table_records.specs.mesa_catalog_table.Lookups.{relation_in}
+use Rattle.mesa_table_records.specs.mesa_catalog_table.declared.table.Table.{Table}
 
 -- ---- relations
 

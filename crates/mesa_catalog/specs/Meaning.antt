@@ -1,8 +1,8 @@
 -- What all the tables that are held stand for.
 use Rattle.std.specs.Prelude.{◌-◌, ◌^◌, ◌≤◌, map, length}
 use Rattle.std.specs.List.{AllByRecursion}
-use Rattle.mesa_catalog_table.specs.mesa_store_spec.Catalog.{Catalog}
-use Rattle.mesa_catalog_table.specs.Meaning.{IsTable, meta_of}
+use Rattle.mesa_table_records.specs.mesa_store_spec.Catalog.{Catalog}
+use Rattle.mesa_table_records.specs.mesa_catalog_table.Meaning.{IsTable, meta_of}
 use Rattle.mesa_catalog.specs.declared.catalog_tables.CatalogTables.{CatalogTables}
 
 -- What all that is held stands for.

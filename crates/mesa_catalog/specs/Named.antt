@@ -6,9 +6,9 @@ use Rattle.mesa_record.specs.declared.record.Record.TheVariants as record_of
 use Rattle.mesa_record.specs.declared.checkpoint.CheckpointSingle.{CheckpointSingle}
 use Rattle.mesa_record.specs.declared.recasting.RecastBase.{RecastBase}
 use Rattle.mesa_record.specs.declared.recasting.Recasting.{Recasting}
-use Rattle.mesa_catalog_table.specs.mesa_store_spec.Fitting.{has_number, run_of_id}
-use Rattle.mesa_catalog_table.specs.mesa_store_spec.Ids.{times}
-use Rattle.mesa_catalog_table.specs.Named.{file_ids, ids_if_any, own_if_any, table_ids}
+use Rattle.mesa_table_records.specs.mesa_store_spec.Fitting.{has_number, run_of_id}
+use Rattle.mesa_table_records.specs.mesa_store_spec.Ids.{times}
+use Rattle.mesa_table_records.specs.mesa_catalog_table.Named.{file_ids, ids_if_any, own_if_any, table_ids}
 use Rattle.mesa_catalog.specs.declared.catalog_tables.CatalogTables.{CatalogTables}
 
 -- The ids of all files that are held.

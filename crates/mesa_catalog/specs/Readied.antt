@@ -9,15 +9,16 @@ use Rattle.mesa_schema.specs.Views.{with_view}
 use Rattle.mesa_batch.specs.Totals.{totals_after, totals_with}
 use Rattle.mesa_record.specs.declared.record.Record.{Record}
 use Rattle.mesa_record.specs.declared.record.Record.TheVariants as record_of
-use Rattle.mesa_catalog_table.specs.mesa_store_spec.Catalog.{Catalog, new_meta, part_delta, meta_at}
-use Rattle.mesa_catalog_table.specs.mesa_store_spec.Fitting.{fits}
-use Rattle.mesa_catalog_table.specs.declared.table.Table.{Table}
+use Rattle.mesa_table_records.specs.mesa_store_spec.Catalog.{Catalog, new_meta, part_delta, meta_at}
+use Rattle.mesa_table_records.specs.mesa_store_spec.Fitting.{fits}
+use Rattle.mesa_table_records.specs.mesa_catalog_table.declared.table.Table.{Table}
 use Rattle.mesa_catalog.specs.declared.catalog_tables.CatalogTables.{CatalogTables}
 use Rattle.mesa_catalog.specs.declared.ready.Ready.{Ready}
 use Rattle.mesa_catalog.specs.declared.ready.Ready.TheVariants as ready_of
-use Rattle.mesa_catalog_table.specs.declared.ready.ReadyPart.{ReadyPart}
-use Rattle.mesa_catalog_table.specs.Readied.{HasSpare, IsRecast, IsRoomier, part_in, recasting_in}
-use Rattle.mesa_catalog_table.specs.Meaning.{IsTable, meta_of, widths_of}
+use Rattle.mesa_table_records.specs.declared.ready.ReadyPart.{ReadyPart}
+use Rattle.mesa_table_records.specs.mesa_catalog_table.Room.{HasSpare, IsRoomier}
+use Rattle.mesa_table_records.specs.Readied.{IsRecast, part_in, recasting_in}
+use Rattle.mesa_table_records.specs.mesa_catalog_table.Meaning.{IsTable, meta_of, widths_of}
 use Rattle.mesa_catalog.specs.Meaning.{catalogue_of}
 
 -- the last of a list, or this one where it is empty

@@ -1,7 +1,7 @@
 -- What is asked of the tables that a checkpoint states.
 use Rattle.std.specs.Prelude.{ℕ, List, [], ◌∷◌, Bool, true, ◌&&◌, nat_lt}
-use Rattle.mesa_catalog_table.specs.declared.table.Table.{Table}
-use Rattle.mesa_catalog_table.specs.Lookups.{view_names}
+use Rattle.mesa_table_records.specs.mesa_catalog_table.declared.table.Table.{Table}
+use Rattle.mesa_table_records.specs.mesa_catalog_table.Lookups.{view_names}
 
 -- a table's name, and the names of its views
 abbrev pub table_names : Table → List (List ℕ)

@@ -1,20 +1,20 @@
 // Taking a record in, without memory.
 ghost use Rattle.std.specs.Prelude.{◌≡◌, ◌<◌, ℕ, map};
 ghost use Rattle.std.specs.List.{AllByRecursion};
-ghost use Rattle.mesa_catalog_table.specs.mesa_store_spec.Catalog.{applied, meta_from};
+ghost use Rattle.mesa_table_records.specs.mesa_store_spec.Catalog.{applied, meta_from};
 ghost use Rattle.mesa_catalog.specs.declared.ready.Ready.TheVariants as ready_of;
 ghost use Rattle.mesa_catalog.specs.Meaning.{AreCatalogTables, catalogue_of};
 ghost use Rattle.mesa_catalog.specs.Readied.{IsReady, record_in};
-ghost use Rattle.mesa_catalog_table.specs.Meaning.{IsTable, meta_of};
+ghost use Rattle.mesa_table_records.specs.mesa_catalog_table.Meaning.{IsTable, meta_of};
 
 mod loading;
 
 use crate::catalog_tables::CatalogTables;
 use crate::ready::Ready;
 use loading::load;
-use mesa_catalog_table::{Delta, ReadyPart, ReadyRecast, Table, recast, swap};
 use mesa_list::Items;
 use mesa_schema::{Evolving, Totals};
+use mesa_table_records::{Delta, ReadyPart, ReadyRecast, Table, recast, swap};
 use std::sync::Arc;
 
 impl CatalogTables {

@@ -1,11 +1,11 @@
 // All that the catalogue holds.
 ghost use Rattle.std.specs.Prelude.{◌≡◌, is_some, true, IfSome};
-ghost use Rattle.mesa_catalog_table.specs.mesa_store_spec.Catalog.{meta_at};
-ghost use Rattle.mesa_catalog_table.specs.mesa_store_spec.Fitting.{is_there};
+ghost use Rattle.mesa_table_records.specs.mesa_store_spec.Catalog.{meta_at};
+ghost use Rattle.mesa_table_records.specs.mesa_store_spec.Fitting.{is_there};
 ghost use Rattle.mesa_catalog.specs.Meaning.{AreCatalogTables, catalogue_of};
-ghost use Rattle.mesa_catalog_table.specs.Meaning.{IsTable, meta_of};
+ghost use Rattle.mesa_table_records.specs.mesa_catalog_table.Meaning.{IsTable, meta_of};
 
-use mesa_catalog_table::Table;
+use mesa_table_records::Table;
 
 // How many tables there may be.
 pub(crate) const MAX_TABLES: usize = 32;

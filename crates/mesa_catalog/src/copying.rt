@@ -1,9 +1,9 @@
 // Copies of all tables, which share their deltas.
 ghost use Rattle.std.specs.Prelude.{◌≡◌, ℕ, IfOk, map};
 ghost use Rattle.std.specs.List.{AllByRecursion};
-ghost use Rattle.mesa_catalog_table.specs.Meaning.{IsTable, meta_of};
+ghost use Rattle.mesa_table_records.specs.mesa_catalog_table.Meaning.{IsTable, meta_of};
 
-use mesa_catalog_table::{Table, share_table};
+use mesa_table_records::{Table, share_table};
 use std::alloc::{AllocError, Global};
 
 // The same tables. Their deltas aren't copied: a copy is a list of pointers to them.

@@ -1,20 +1,20 @@
 // The files that a catalogue names.
 ghost use Rattle.std.specs.Prelude.{◌≡◌, ◌++◌, ◌≤◌, ◌^◌, ℕ, flat_map, map, true, IfOk, IsTrue, OnOk};
 ghost use Rattle.std.specs.List.{AllByRecursion};
-ghost use Rattle.mesa_catalog_table.specs.mesa_store_spec.Catalog.{meta_at};
-ghost use Rattle.mesa_catalog_table.specs.mesa_store_spec.Fitting.{fits as fits_catalog, is_there, kind_fits, meta_live};
-ghost use Rattle.mesa_catalog_table.specs.mesa_store_spec.Ids.{dropped_ids, named, recast_dropped};
-ghost use Rattle.mesa_catalog_table.specs.declared.table.Table.{Table as Held};
-ghost use Rattle.mesa_catalog_table.specs.Files.{AreRecorded, recorded_of};
-ghost use Rattle.mesa_catalog_table.specs.Meaning.{IsTable, meta_of};
-ghost use Rattle.mesa_catalog_table.specs.Named.{table_ids};
+ghost use Rattle.mesa_table_records.specs.mesa_store_spec.Catalog.{meta_at};
+ghost use Rattle.mesa_table_records.specs.mesa_store_spec.Fitting.{fits as fits_catalog, is_there, kind_fits, meta_live};
+ghost use Rattle.mesa_table_records.specs.mesa_store_spec.Ids.{dropped_ids, named, recast_dropped};
+ghost use Rattle.mesa_table_records.specs.mesa_catalog_table.declared.table.Table.{Table as Held};
+ghost use Rattle.mesa_table_records.specs.mesa_catalog_table.Files.{AreRecorded, recorded_of};
+ghost use Rattle.mesa_table_records.specs.mesa_catalog_table.Meaning.{IsTable, meta_of};
+ghost use Rattle.mesa_table_records.specs.mesa_catalog_table.Named.{table_ids};
 ghost use Rattle.mesa_catalog.specs.Meaning.{AreCatalogTables, catalogue_of};
 
 use crate::Catalog;
 use crate::catalog_tables::CatalogTables;
-use mesa_catalog_table::{Recorded, Table};
 use mesa_file::FileId;
 use mesa_record::Record;
+use mesa_table_records::{Recorded, Table};
 use std::alloc::{AllocError, Global};
 
 impl Catalog {

@@ -4,8 +4,8 @@ ghost use Rattle.mesa_catalog.specs.Lookups.{relation_of};
 ghost use Rattle.mesa_catalog.specs.Meaning.{catalogue_of};
 
 use crate::catalog_tables::CatalogTables;
-use mesa_catalog_table::Relation;
 use mesa_schema::Name;
+use mesa_table_records::Relation;
 
 impl CatalogTables {
     // The table or the view of a name.

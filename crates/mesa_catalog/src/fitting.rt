@@ -1,18 +1,18 @@
 // Which records keep the rules of their kind. Takes no memory.
 ghost use Rattle.std.specs.Prelude.{◌≡◌, ◌&&◌};
 ghost use Rattle.std.specs.List.{list_all};
-ghost use Rattle.mesa_catalog_table.specs.mesa_store_spec.Catalog.{meta_at};
-ghost use Rattle.mesa_catalog_table.specs.mesa_store_spec.Fitting.{alter_fits, expire_fits, is_new_name, is_there, kind_fits, may_be_work, part_fits, publish_fits, recast_fits, run_fits, swap_fits, table_fits, view_fits};
+ghost use Rattle.mesa_table_records.specs.mesa_store_spec.Catalog.{meta_at};
+ghost use Rattle.mesa_table_records.specs.mesa_store_spec.Fitting.{alter_fits, expire_fits, is_new_name, is_there, kind_fits, may_be_work, part_fits, publish_fits, recast_fits, run_fits, swap_fits, table_fits, view_fits};
 ghost use Rattle.mesa_catalog.specs.Meaning.{AreCatalogTables, catalogue_of};
-ghost use Rattle.mesa_catalog_table.specs.Meaning.{IsTable, meta_of};
+ghost use Rattle.mesa_table_records.specs.mesa_catalog_table.Meaning.{IsTable, meta_of};
 
 use crate::catalog_tables::{CatalogTables, MAX_TABLES};
-use mesa_catalog_table::{
+use mesa_record::{Files, Part, Recasting, Record};
+use mesa_schema::{Change, KeyColumn, MAX_VIEWS, Name, Schema, ValueColumn};
+use mesa_table_records::{
     Table, allows_recast, counts_files, counts_files_if_any, counts_totals, keeps_bound,
     may_be_base, may_be_cumulative,
 };
-use mesa_record::{Files, Part, Recasting, Record};
-use mesa_schema::{Change, KeyColumn, MAX_VIEWS, Name, Schema, ValueColumn};
 
 // The number of the last run that there may be.
 pub(crate) const MAX_RUNS: u32 = (1 << 24) - 1;

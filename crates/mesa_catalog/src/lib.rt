@@ -20,4 +20,4 @@ mod stating;
 
 pub use begun::Begun;
 pub use catalog::Catalog;
-pub use mesa_catalog_table::{Delta, Recorded, Relation};
+pub use mesa_table_records::{Delta, Recorded, Relation};

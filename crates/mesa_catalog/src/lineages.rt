@@ -5,9 +5,9 @@ ghost use Rattle.std.specs.Prelude.{◌≡◌, ◌<◌, [], ◌∷◌, ◌++◌,
 ghost use Rattle.mesa_schema.specs.Changes.{with_change};
 ghost use Rattle.mesa_schema.specs.Views.{with_view};
 
-use mesa_catalog_table::width_of;
 use mesa_list::{Items, TryCopy};
 use mesa_schema::{Change, Evolving, KeyColumn, MAX_VIEWS, Name, Schema, ValueColumn};
+use mesa_table_records::width_of;
 use std::alloc::{AllocError, Global};
 use std::sync::Arc;
 

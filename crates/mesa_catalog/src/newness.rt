@@ -3,16 +3,16 @@ ghost use Rattle.std.specs.Prelude.{◌≡◌, ◌==◌, ◌^◌, ◌-◌, ◌�
 ghost use Rattle.std.specs.List.{list_all, list_any, AllByRecursion};
 ghost use Rattle.mesa_record.specs.declared.checkpoint.CheckpointSingle.{CheckpointSingle as Told};
 ghost use Rattle.mesa_record.specs.declared.record.ViewRef.{ViewRef as Seen};
-ghost use Rattle.mesa_catalog_table.specs.mesa_store_spec.Fitting.{are_new_ids, has_number};
-ghost use Rattle.mesa_catalog_table.specs.mesa_store_spec.Ids.{times as times_of};
-ghost use Rattle.mesa_catalog_table.specs.declared.table.Table.{Table as Held};
-ghost use Rattle.mesa_catalog_table.specs.Named.{file_ids, own_if_any, table_ids, view_id};
+ghost use Rattle.mesa_table_records.specs.mesa_store_spec.Fitting.{are_new_ids, has_number};
+ghost use Rattle.mesa_table_records.specs.mesa_store_spec.Ids.{times as times_of};
+ghost use Rattle.mesa_table_records.specs.mesa_catalog_table.declared.table.Table.{Table as Held};
+ghost use Rattle.mesa_table_records.specs.mesa_catalog_table.Named.{file_ids, own_if_any, table_ids, view_id};
 ghost use Rattle.mesa_catalog.specs.Named.{RiseTo, held_ids, ids_brought, is_once_new, part_ids, recast_base_ids, recast_ids, told_id};
 
 use crate::catalog_tables::CatalogTables;
-use mesa_catalog_table::Table;
 use mesa_file::FileId;
 use mesa_record::{CheckpointSingle, Files, Part, RecastBase, Recasting, Record, ViewRef};
+use mesa_table_records::Table;
 
 // How many ids of files a run has.
 pub(crate) const IDS_OF_RUN: u64 = 1 << 40;

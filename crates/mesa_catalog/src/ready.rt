@@ -1,7 +1,7 @@
 // Records in the form in which they are taken in.
-use mesa_catalog_table::{Delta, ReadyPart, ReadyRecast, Table};
 use mesa_list::Items;
 use mesa_schema::{Evolving, Totals};
+use mesa_table_records::{Delta, ReadyPart, ReadyRecast, Table};
 use std::sync::Arc;
 
 // A record, with all made that takes memory.

@@ -4,23 +4,24 @@ ghost use Rattle.std.specs.List.{AllByRecursion, list_all};
 ghost use Rattle.mesa_record.specs.declared.record.Part.{Part as PartOf};
 ghost use Rattle.mesa_span.specs.Ranges.{base_before};
 ghost use Rattle.mesa_record.specs.declared.record.Record.TheVariants as record_of;
-ghost use Rattle.mesa_catalog_table.specs.mesa_store_spec.Catalog.{empty_base, merged_delta, meta_at};
-ghost use Rattle.mesa_catalog_table.specs.mesa_store_spec.Fitting.{alter_fits, is_there, kind_fits, part_fits, recast_fits, table_fits, view_fits};
+ghost use Rattle.mesa_table_records.specs.mesa_store_spec.Catalog.{empty_base, merged_delta, meta_at};
+ghost use Rattle.mesa_table_records.specs.mesa_store_spec.Fitting.{alter_fits, is_there, kind_fits, part_fits, recast_fits, table_fits, view_fits};
 ghost use Rattle.mesa_catalog.specs.Meaning.{AreCatalogTables, catalogue_of};
-ghost use Rattle.mesa_catalog_table.specs.Meaning.{ending_of};
+ghost use Rattle.mesa_table_records.specs.mesa_catalog_table.Meaning.{ending_of};
 ghost use Rattle.mesa_catalog.specs.Readied.{AreRoomier, HasRoom, IsMade, IsMadePart, record_in};
-ghost use Rattle.mesa_catalog_table.specs.Readied.{HasSpare, part_in};
+ghost use Rattle.mesa_table_records.specs.mesa_catalog_table.Room.{HasSpare};
+ghost use Rattle.mesa_table_records.specs.Readied.{part_in};
 
 use crate::catalog_tables::CatalogTables;
 use crate::lineages::{lineage_with_change, lineage_with_view, new_lineage, widths_with};
 use crate::ready::Ready;
-use mesa_catalog_table::{
-    Base, Delta, ReadyPart, Table, make_recast, make_spare, no_totals, totals_changed, totals_with,
-    width_of,
-};
 use mesa_list::{Items, TryCopy};
 use mesa_record::{Files, Part, Recasting, Record};
 use mesa_schema::{Change, KeyColumn, Name, ValueColumn};
+use mesa_table_records::{
+    Base, Delta, ReadyPart, Table, make_recast, make_spare, no_totals, totals_changed, totals_with,
+    width_of,
+};
 use std::alloc::{AllocError, Global};
 use std::sync::Arc;
 

@@ -1,11 +1,11 @@
 // The catalogue that a checkpoint states. Names, columns, files and totals are moved, not copied.
 ghost use Rattle.std.specs.Prelude.{◌≡◌, ◌≢◌, ◌++◌, false, flat_map, map, option_map, IfErr, IfOk, IsTrue, OnOk};
 ghost use Rattle.std.specs.List.{AllByRecursion, list_all};
-ghost use Rattle.mesa_catalog_table.specs.mesa_store_spec.Checkpoint.{stated, meta_stated};
-ghost use Rattle.mesa_catalog_table.specs.mesa_store_spec.CheckpointFits.{checkpoint_fits, counts_fit as counts_are_right, names_differ as all_differ, number_fits as number_is_right, table_fits, tables_fit};
-ghost use Rattle.mesa_catalog_table.specs.mesa_store_spec.Journaled.{stated_if};
-ghost use Rattle.mesa_catalog_table.specs.declared.restoring.RestoreError.TheVariants as RestoreError;
-ghost use Rattle.mesa_catalog_table.specs.Meaning.{IsTable, meta_of};
+ghost use Rattle.mesa_table_records.specs.mesa_store_spec.Checkpoint.{stated, meta_stated};
+ghost use Rattle.mesa_table_records.specs.mesa_store_spec.CheckpointFits.{checkpoint_fits, counts_fit as counts_are_right, names_differ as all_differ, number_fits as number_is_right, table_fits, tables_fit};
+ghost use Rattle.mesa_table_records.specs.mesa_store_spec.Journaled.{stated_if};
+ghost use Rattle.mesa_table_records.specs.declared.restoring.RestoreError.TheVariants as RestoreError;
+ghost use Rattle.mesa_table_records.specs.mesa_catalog_table.Meaning.{IsTable, meta_of};
 ghost use Rattle.mesa_catalog.specs.Kept.{unreserved};
 ghost use Rattle.mesa_catalog.specs.Meaning.{catalogue_of};
 ghost use Rattle.mesa_catalog.specs.Restored.{table_names};
@@ -14,11 +14,11 @@ use crate::Catalog;
 use crate::catalog_tables::{CatalogTables, MAX_TABLES};
 use crate::fitting::MAX_RUNS;
 use crate::restored_ids::greatest_id;
-use mesa_catalog_table::{NoRows, RestoreError, Table, restore};
 use mesa_disk::Area;
 use mesa_list::{Items, TryCopy};
 use mesa_record::{Checkpoint, CheckpointTable};
 use mesa_schema::{Name, repeated_place};
+use mesa_table_records::{NoRows, RestoreError, Table, restore};
 use std::alloc::{AllocError, Global};
 use std::collections::VecDeque;
 

@@ -2,13 +2,13 @@
 ghost use Rattle.std.specs.Prelude.{◌≡◌, ◌<◌, ◌^◌, ℕ, IfOk, map};
 ghost use Rattle.std.specs.List.{AllByRecursion};
 ghost use Rattle.mesa_record.specs.declared.record.Record.TheVariants as record_of;
-ghost use Rattle.mesa_catalog_table.specs.mesa_store_spec.Checkpoint.{checkpoint_of, stating_table};
-ghost use Rattle.mesa_catalog_table.specs.Meaning.{IsTable, meta_of};
+ghost use Rattle.mesa_table_records.specs.mesa_store_spec.Checkpoint.{checkpoint_of, stating_table};
+ghost use Rattle.mesa_table_records.specs.mesa_catalog_table.Meaning.{IsTable, meta_of};
 
 use crate::Catalog;
-use mesa_catalog_table::Table;
 use mesa_list::Items;
 use mesa_record::{Checkpoint, CheckpointTable, Record};
+use mesa_table_records::{Table, state};
 use std::alloc::{AllocError, Global};
 
 impl Catalog {
@@ -34,7 +34,7 @@ fn state_tables(alloc: Global, tables: &[Table]) -> Result<Vec<CheckpointTable>,
 {
     let mut all = Vec::with_capacity(alloc, tables.len())?;
     for table in tables {
-        all.push(table.stated(alloc)?)?;
+        all.push(state(alloc, table)?)?;
     }
     Ok(all)
 }

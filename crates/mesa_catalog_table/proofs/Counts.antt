@@ -1,10 +1,10 @@
 -- Counts of columns.
-use Rattle.std.proofs.Common.{◌≡◌, ℕ, ◌+◌, ◌≤◌, ◌<◌, List, [], ◌∷◌, length, map, get_or, refl, sym, ◌∙◌, ap, arith, Bool, true, false, cond, suc, zero}
-use Rattle.std.specs.Prelude.{◌&&◌, not, nat_le, zip, count_by, is_some, is_none, Option, Some, None, slice_get}
-use Rattle.std.specs.List.{list_all, list_any}
+use Rattle.std.proofs.Common.{◌≡◌, ℕ, ◌+◌, ◌≤◌, ◌<◌, List, [], ◌∷◌, length, map, get_or, refl, sym, ◌∙◌, ap, arith, Bool, true, cond, suc, zero, ◌-◌}
+use Rattle.std.specs.Prelude.{not, nat_le, zip, count_by, is_some, is_none, Option, Some, None, slice_get, replicate}
+use Rattle.std.specs.List.{list_all, list_any, range_with_len}
 use Rattle.std.proofs.lemmas.List.FromFn.{get_or-map-range_with_len, length-map-range_with_len}
 use Rattle.std.proofs.lemmas.List.Sums.{sum_by-cons}
-use Rattle.std.proofs.lemmas.List.{length-map}
+use Rattle.std.proofs.lemmas.List.{length-map, take_all}
 use Rattle.std.proofs.lemmas.Option.{slice_get-get_or}
 use Rattle.mesa_value.specs.declared.Agg.{Agg}
 use Rattle.mesa_value.specs.declared.Agg.TheVariants.{Max, Min, Replace, Sum}
@@ -13,18 +13,18 @@ use Rattle.mesa_schema.specs.declared.columns.ValueColumn.{ValueColumn}
 use Rattle.mesa_schema.specs.declared.views.View.{View}
 use Rattle.mesa_schema.specs.declared.views.ViewError.TheVariants.{NoKey, NoValue}
 use Rattle.mesa_schema.specs.Names.{has_name}
-use Rattle.mesa_schema.specs.Columns.{Columns, aggs_of, chosen, key_names, place_of, places_in, value_names}
-use Rattle.mesa_schema.specs.Changes.{Lineage, columns_at, epoch_of}
+use Rattle.mesa_schema.specs.Columns.{Columns, chosen, key_names, place_of, places_in, value_names}
+use Rattle.mesa_schema.specs.Changes.{Lineage, columns_at, epoch_of, columns_after, columns_of}
 use Rattle.mesa_schema.specs.Lineages.{is_view_of}
 use Rattle.mesa_schema.specs.Views.{choice_checked, view_columns}
 use Rattle.mesa_schema.proofs.Choices.{chosen-slot}
 use Rattle.mesa_schema.proofs.Maps.{is_some_position, position_map}
 use Rattle.mesa_schema.proofs.Passing.{passed_first, passed_unless}
 use Rattle.mesa_batch.proofs.NameNumbers.{position-within}
-use Rattle.mesa_batch.specs.Totals.{is_sum, over_bound, sum_bound, sum_places, sums_in}
+use Rattle.mesa_batch.specs.Totals.{is_sum, over_bound, sum_bound, sum_places}
 use Rattle.mesa_list.specs.Bytes.{same_bytes}
 use Rattle.mesa_catalog_table.specs.Meaning.{widths_of}
-use Rattle.mesa_catalog_table.specs.Stated.{sums_of}
+use Rattle.mesa_catalog_table.proofs.Tests.{both}
 
 -- ---- value columns of an epoch
 
@@ -34,13 +34,17 @@ width_at l epoch h = get_or-map-range_with_len (λ e. length (columns_at l e).va
 pub width_there : (l : Lineage) (epoch : ℕ) → epoch ≤ epoch_of l → epoch < length (widths_of l)
 width_there l epoch h = let count = length-map-range_with_len (λ e. length (columns_at l e).values) 0 (epoch_of l + 1) in omega arith
 
+same_counts : (f : Columns → ℕ) (l : Lineage) (from n : ℕ) → l.changes ≡ [] → map (λ e. f (columns_at l e)) (range_with_len from n) ≡ replicate n (f (columns_of l))
+same_counts f l from zero none = refl
+same_counts f l from (suc n) none =
+    let short : length l.changes ≤ from - l.begins = omega (arith, ap length none) in
+    (λ i. f (columns_after l.first (take_all (from - l.begins) l.changes short i)) ∷ same_counts f l (from + 1) n none i)
+
+-- what is counted of each epoch, where there were no changes
+pub counts_begun : (f : Columns → ℕ) (l : Lineage) → l.changes ≡ [] → map (λ e. f (columns_at l e)) (range_with_len 0 (epoch_of l + 1)) ≡ replicate (epoch_of l + 1) (f (columns_of l))
+counts_begun f l none = same_counts f l 0 (epoch_of l + 1) none
+
 -- ---- sum columns
-
-pub sums_at : (l : Lineage) (epoch : ℕ) → epoch ≤ epoch_of l → get_or (sums_of l) epoch 0 ≡ sums_in (aggs_of (columns_at l epoch))
-sums_at l epoch h = get_or-map-range_with_len (λ e. sums_in (aggs_of (columns_at l e))) 0 (epoch_of l + 1) epoch epoch 0 (omega arith) (omega arith)
-
-pub sums_there : (l : Lineage) (epoch : ℕ) → epoch ≤ epoch_of l → epoch < length (sums_of l)
-sums_there l epoch h = let count = length-map-range_with_len (λ e. sums_in (aggs_of (columns_at l e))) 0 (epoch_of l + 1) in omega arith
 
 sum_cons : (i : ℕ) (agg : Agg) (aggs : List Agg) (n : ℕ) → length (sum_places (i + 1) aggs) ≡ n → length (sum_places i (agg ∷ aggs)) ≡ cond (is_sum agg) 1 0 + n
 sum_cons i Sum aggs n e = let first : length (sum_places i (Sum ∷ aggs)) ≡ suc (length (sum_places (i + 1) aggs)) = refl in omega arith
@@ -66,10 +70,6 @@ none_over totals more =
     ∙ ap not (is_some_position (λ (p : ℕ × ℕ). nat_le sum_bound (p.0 + p.1)) (zip totals more))
 
 -- ---- columns of a view
-
-both : (a b : Bool) → (a && b) ≡ true → (a ≡ true) × (b ≡ true)
-both true b e = (refl, e)
-both false b e = absurd (cc)
 
 some_is : {X : Type 0} (o : Option X) → is_some o ≡ true → (x : X) × (o ≡ Some x)
 some_is (Some x) e = (x, refl)

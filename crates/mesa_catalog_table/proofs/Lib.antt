@@ -4,16 +4,8 @@ pub mod Counts
 pub mod Singles
 pub mod Tens
 pub mod Works
-pub mod Loads
-pub mod Bounds
 pub mod Places
 pub mod Named
 pub mod Pushes
 pub mod Copies
 pub mod Ranged
-pub mod Restored
-pub mod Stated
-pub mod Taken
-pub mod Paired
-pub mod Renewed
-pub mod Recasted

@@ -1,17 +1,15 @@
 pub use Rattle.mesa_store_spec.specs.mesa_commit as mesa_commit
 pub use Rattle.mesa_store_spec.specs.mesa_delta as mesa_delta
-pub use Rattle.mesa_file.specs as mesa_file
 pub use Rattle.mesa_store_spec.specs.mesa_history_spec as mesa_history_spec
-pub use Rattle.mesa_store_spec.specs as mesa_store_spec
-pub use Rattle.mesa_key.specs as mesa_key
+pub use Rattle.mesa_store_spec.specs.mesa_key as mesa_key
 pub use Rattle.mesa_store_spec.specs.mesa_model as mesa_model
+pub use Rattle.mesa_span.specs as mesa_span
+pub use Rattle.mesa_store_spec.specs as mesa_store_spec
 pub use Rattle.mesa_value.specs as mesa_value
 pub mod Meaning
 pub mod Lookups
-pub mod Readied
+pub mod Room
 pub mod Named
 pub mod Files
 pub mod Copied
 pub mod Ranged
-pub mod Stated
-pub mod Renewed

@@ -26,8 +26,8 @@ pub fn counts_files(evolving: &Evolving, widths: &[u8], epoch: u32, files: &File
         && counts_views(evolving, files.views.as_slice())
 }
 
-// Whether files are of views that are there, and have an aggregate for each value column of their view.
-pub(crate) fn counts_views(evolving: &Evolving, views: &[ViewRef]) -> bool
+/// Whether files are of views that are there, and have an aggregate for each value column of their view.
+pub fn counts_views(evolving: &Evolving, views: &[ViewRef]) -> bool
     ensures { result ≡ list_all (fits_view evolving.now) views.now }
 {
     // That its views are allowed.
@@ -50,8 +50,8 @@ pub fn counts_totals(evolving: &Evolving, totals: &Totals) -> bool
     totals.len() == sums_among(evolving.present().values())
 }
 
-// How many sum columns there are.
-pub(crate) fn sums_among(columns: &[ValueColumn]) -> usize
+/// How many sum columns there are.
+pub fn sums_among(columns: &[ValueColumn]) -> usize
     ensures sums { result ≡ sums_in (map (λ (c : Column). c.agg) columns.now) }
     ensures most { result ≤ length columns.now }
 {
@@ -65,13 +65,22 @@ fn count_sums(columns: &[ValueColumn]) -> usize
     columns.iter().filter(|column| is_sum(column.agg)).count()
 }
 
-pub(crate) fn is_sum(agg: Agg) -> bool
+/// Whether a value column of this aggregate is a sum column.
+pub fn is_sum(agg: Agg) -> bool
     ensures { result ≡ adds agg }
 {
     match agg {
         Agg::Sum => true,
         _ => false,
     }
+}
+
+/// The totals of a table without rows.
+pub fn no_totals(alloc: Global, columns: &[ValueColumn]) -> Result<Totals, AllocError>
+    ensures { IfOk result (λ totals. totals ≡ replicate (sums_in (map (λ (c : Column). c.agg) columns.now)) 0) }
+{
+    let zeros = vec![in alloc; 0u128; sums_among(columns)]?;
+    Ok(Items::from_vec(zeros))
 }
 
 /// Whether none of the totals passes 2^127 - 1 with more.
@@ -90,8 +99,8 @@ fn passes_bound(totals: &[u128], more: &[u128]) -> bool
         .any(|(total, more)| total.saturating_add(*more) >= OVER_BOUND)
 }
 
-// Whether none of the totals passes 2^127 - 1.
-pub(crate) fn keep_bound(totals: &[u128]) -> bool
+/// Whether none of the totals passes 2^127 - 1.
+pub fn keep_bound(totals: &[u128]) -> bool
     ensures { result ≡ list_all (λ total. nat_lt total sum_bound) totals.now }
 {
     totals.iter().all(|total| *total < OVER_BOUND)
@@ -99,8 +108,8 @@ pub(crate) fn keep_bound(totals: &[u128]) -> bool
 
 // ---- epochs
 
-// How many value columns there were in each epoch, where there were no changes; before the first there were as many.
-pub(crate) fn first_widths(alloc: Global, evolving: &Evolving) -> Result<Items<u8>, AllocError>
+/// How many value columns there were in each epoch, where there were no changes; before the first there were as many.
+pub fn first_widths(alloc: Global, evolving: &Evolving) -> Result<Items<u8>, AllocError>
     requires { evolving.now.changes ≡ [] }
     ensures { IfOk result (λ widths. widths ≡ widths_of evolving.now) }
 {
@@ -113,21 +122,22 @@ fn width_now(evolving: &Evolving) -> u8
     width_of(evolving.present())
 }
 
-// How many sum columns there are at present.
-pub(crate) fn sums_now(evolving: &Evolving) -> u8
+/// How many sum columns there are at present.
+pub fn sums_now(evolving: &Evolving) -> u8
     ensures { result ≡ sums_in (aggs_of (columns_of evolving.now)) }
 {
     sums_among(evolving.present().values()) as u8
 }
 
-pub(crate) fn epochs_of(evolving: &Evolving) -> usize
+/// How many epochs there were, with the present one.
+pub fn epochs_of(evolving: &Evolving) -> usize
     ensures { result ≡ epoch_of evolving.now + 1 }
 {
     evolving.epoch() as usize + 1
 }
 
-// The same count for each of so many epochs.
-pub(crate) fn repeated(alloc: Global, count: u8, epochs: usize) -> Result<Items<u8>, AllocError>
+/// The same count for each of so many epochs.
+pub fn repeated(alloc: Global, count: u8, epochs: usize) -> Result<Items<u8>, AllocError>
     ensures { IfOk result (λ counts. counts ≡ replicate epochs count) }
 {
     let counts = vec![in alloc; count; epochs]?;

@@ -1,13 +1,14 @@
 // A table as the catalogue holds it.
-ghost use Rattle.std.specs.Prelude.{◌≡◌, ◌<◌, ◌≤◌, ◌^◌, ℕ, option_map};
+ghost use Rattle.std.specs.Prelude.{◌≡◌, ◌<◌, ◌≤◌, ◌^◌, ℕ, OnOk, option_map};
 ghost use Rattle.mesa_store_spec.specs.Catalog.{meta_from};
 ghost use Rattle.mesa_catalog_table.specs.declared.table.Base.{Base as BaseOf};
 ghost use Rattle.mesa_catalog_table.specs.Meaning.{IsTable, start_of_base, meta_of};
-ghost use Rattle.mesa_catalog_table.specs.Readied.{HasSpare};
+ghost use Rattle.mesa_catalog_table.specs.Room.{HasSpare, IsRoomier};
 
 use crate::Delta;
 use mesa_list::Items;
 use mesa_schema::{Evolving, Name, Totals};
+use std::alloc::AllocError;
 use std::sync::Arc;
 
 /// The delta from version 0 on.
@@ -57,8 +58,8 @@ impl Drop for Table {
     }
 }
 
-// The first version behind a base.
-pub(crate) fn start_behind(base: &Option<Base>) -> u64
+/// The first version behind a base.
+pub fn start_behind(base: &Option<Base>) -> u64
     ensures start { result ≡ start_of_base base.now }
     ensures small { result ≤ 2 ^ 32 }
 {
@@ -92,4 +93,13 @@ impl Table {
     {
         self.base.as_ref().map(|base| base.to)
     }
+}
+
+/// Makes room in a table for a cumulative and a singleton more.
+pub fn make_spare(table: &mut Table) -> Result<(), AllocError>
+    ensures roomier { IsRoomier table.old table.new }
+    ensures spare { OnOk result (HasSpare table.new) }
+{
+    table.cumulatives.reserve(1)?;
+    table.loaded.reserve(1)
 }

@@ -1,6 +1,6 @@
 pub use Rattle.mesa_check_file.specs.mesa_block as mesa_block
-pub use Rattle.mesa_check_file.specs as mesa_check_file
 pub use Rattle.mesa_catalog_table.specs as mesa_catalog_table
+pub use Rattle.mesa_check_file.specs as mesa_check_file
 pub mod Found
 pub mod Ranges
 pub mod Faults

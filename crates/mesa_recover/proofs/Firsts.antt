@@ -3,7 +3,7 @@ use Rattle.std.proofs.Common.{◌≡◌, inl, inr, ⊎_elim, ℕ, zero, suc, ◌
 use Rattle.std.specs.Prelude.{slice_index_or}
 use Rattle.std.proofs.lemmas.List.{map-append, take-map}
 use Rattle.std.specs.List.{AllByRecursion}
-use Rattle.mesa_catalog_table.specs.mesa_file.declared.damage.Damage.{Damage}
+use Rattle.mesa_store_spec.specs.mesa_file.declared.damage.Damage.{Damage}
 use Rattle.mesa_disk.specs.Story.{Story, Unmoved}
 use Rattle.mesa_disk.specs.Image.{Image, file_of}
 use Rattle.mesa_journal.specs.Journal.{frames, word}

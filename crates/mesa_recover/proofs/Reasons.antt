@@ -5,8 +5,8 @@ use Rattle.std.specs.Prelude.{map}
 use Rattle.std.proofs.lemmas.List.Sorted.{All-permutation, IsPermutation-sym}
 use Rattle.std.proofs.lemmas.List.Elements.{All-from_recursion, recursion_from_All}
 use Rattle.mesa_store.specs.mesa_io.Causes.{Rose}
-use Rattle.mesa_catalog_table.specs.mesa_file.declared.damage.Damage.{Damage}
-use Rattle.mesa_catalog_table.specs.mesa_file.declared.damage.Seen.TheVariants as seen
+use Rattle.mesa_store_spec.specs.mesa_file.declared.damage.Damage.{Damage}
+use Rattle.mesa_store_spec.specs.mesa_file.declared.damage.Seen.TheVariants as seen
 use Rattle.mesa_disk.specs.Image.{Image, area_of}
 use Rattle.mesa_disk.specs.Story.{Story}
 use Rattle.mesa_disk.specs.declared.area.Area.{Area}

@@ -2,9 +2,9 @@
 use Rattle.std.specs.Prelude.{◌≡◌, ◌⊎◌, ℕ, List, [], ◌∷◌, ◌++◌, length, drop, Option, Some, None, Result, Ok, Err, if◌then◌else◌}
 use Rattle.std.specs.List.{AllByRecursion}
 use Rattle.sha2.specs.Sha256.{sha256}
-use Rattle.mesa_catalog_table.specs.mesa_file.declared.damage.Damage.{Damage}
-use Rattle.mesa_catalog_table.specs.mesa_file.declared.damage.Seen.{Seen}
-use Rattle.mesa_catalog_table.specs.mesa_file.declared.damage.Seen.TheVariants as seen
+use Rattle.mesa_store_spec.specs.mesa_file.declared.damage.Damage.{Damage}
+use Rattle.mesa_store_spec.specs.mesa_file.declared.damage.Seen.{Seen}
+use Rattle.mesa_store_spec.specs.mesa_file.declared.damage.Seen.TheVariants as seen
 use Rattle.mesa_disk.specs.Image.{Image, area_of, file_of}
 use Rattle.mesa_disk.specs.declared.area.Area.{Area}
 use Rattle.mesa_disk.specs.declared.area.Area.TheVariants.{Zero, One}

@@ -1,6 +1,6 @@
 -- Which refusal a body of the journal gives.
 use Rattle.std.specs.Prelude.{◌≡◌, ◌⊎◌, ℕ, List}
-use Rattle.mesa_catalog_table.specs.mesa_file.declared.damage.Seen.TheVariants as seen
+use Rattle.mesa_store_spec.specs.mesa_file.declared.damage.Seen.TheVariants as seen
 use Rattle.mesa_record.specs.mesa_record_fields.declared.error.RecordError.{RecordError}
 use Rattle.mesa_record.specs.mesa_record_fields.declared.error.RecordError.TheVariants as fault
 use Rattle.mesa_journal.specs.declared.reading.JournalError.{JournalError}

@@ -1,7 +1,7 @@
 // Reading a store.
 ghost use Rattle.std.specs.Prelude.{◌≡◌, List, map, OnOk, IfOk, IfErr, None, Some};
 ghost use Rattle.std.specs.List.{AllByRecursion};
-ghost use Rattle.mesa_catalog_table.specs.mesa_file.declared.damage.Damage.{Damage as AnyDamage};
+ghost use Rattle.mesa_store_spec.specs.mesa_file.declared.damage.Damage.{Damage as AnyDamage};
 ghost use Rattle.mesa_disk.specs.Image.{Image};
 ghost use Rattle.mesa_disk.specs.Story.{Unmoved};
 ghost use Rattle.mesa_store_spec.specs.Fitting.{live_files};

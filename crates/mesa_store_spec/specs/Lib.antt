@@ -1,5 +1,6 @@
 pub use Rattle.mesa_commit.specs as mesa_commit
 pub use Rattle.mesa_delta.specs as mesa_delta
+pub use Rattle.mesa_history_spec.specs.mesa_file as mesa_file
 pub use Rattle.mesa_history_spec.specs as mesa_history_spec
 pub use Rattle.mesa_delta.specs.mesa_key as mesa_key
 pub use Rattle.mesa_history_spec.specs.mesa_model as mesa_model

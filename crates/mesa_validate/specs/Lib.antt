@@ -3,9 +3,9 @@ pub use Rattle.mesa_catalog.specs as mesa_catalog
 pub use Rattle.mesa_catalog.specs.mesa_commit as mesa_commit
 pub use Rattle.mesa_filter.specs as mesa_filter
 pub use Rattle.mesa_catalog.specs.mesa_history_spec as mesa_history_spec
-pub use Rattle.mesa_catalog.specs.mesa_store_spec as mesa_store_spec
 pub use Rattle.mesa_model.specs as mesa_model
 pub use Rattle.mesa_order.specs as mesa_order
+pub use Rattle.mesa_catalog.specs.mesa_store_spec as mesa_store_spec
 pub mod Seen
 pub mod Ruled
 pub mod Found

@@ -1,5 +1,5 @@
-pub use Rattle.mesa_engine.proofs.mesa_invariant_spec as mesa_invariant_spec
 pub use Rattle.mesa_file_records.proofs as mesa_file_records
+pub use Rattle.mesa_engine.proofs.mesa_invariant_spec as mesa_invariant_spec
 pub mod Doing
 pub mod Written
 pub mod Keeping

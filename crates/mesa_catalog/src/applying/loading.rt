@@ -1,12 +1,13 @@
 // Taking in what a batch brings.
 ghost use Rattle.std.specs.Prelude.{◌≡◌, ◌≢◌, ◌+◌, ◌<◌, ℕ, find, length, map, position, slice_get, IfSome};
 ghost use Rattle.std.specs.List.{AllByRecursion};
-ghost use Rattle.mesa_catalog_table.specs.mesa_store_spec.Catalog.{metas_loaded};
-ghost use Rattle.mesa_catalog_table.specs.declared.ready.ReadyPart.{ReadyPart as Piece};
-ghost use Rattle.mesa_catalog_table.specs.Meaning.{IsTable, meta_of};
-ghost use Rattle.mesa_catalog_table.specs.Readied.{HasSpare, IsPartOf, is_part_of, part_in};
+ghost use Rattle.mesa_table_records.specs.mesa_store_spec.Catalog.{metas_loaded};
+ghost use Rattle.mesa_table_records.specs.declared.ready.ReadyPart.{ReadyPart as Piece};
+ghost use Rattle.mesa_table_records.specs.mesa_catalog_table.Meaning.{IsTable, meta_of};
+ghost use Rattle.mesa_table_records.specs.mesa_catalog_table.Room.{HasSpare};
+ghost use Rattle.mesa_table_records.specs.Readied.{IsPartOf, is_part_of, part_in};
 
-use mesa_catalog_table::{ReadyPart, Table, load_part};
+use mesa_table_records::{ReadyPart, Table, load_part};
 
 // Puts what a version brings into the tables: each looks for its part, which is the first that is left.
 pub(super) fn load(tables: &mut [Table], version: u32, mut parts: Vec<ReadyPart>)

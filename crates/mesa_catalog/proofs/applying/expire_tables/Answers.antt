@@ -1,6 +1,6 @@
 use Rattle.std.proofs.Common.{◌<◌, arith, length, map}
-use Rattle.mesa_catalog_table.specs.mesa_store_spec.Catalog.{meta_from}
-use Rattle.mesa_catalog_table.specs.Meaning.{IsTable, meta_of}
+use Rattle.mesa_table_records.specs.mesa_store_spec.Catalog.{meta_from}
+use Rattle.mesa_table_records.specs.mesa_catalog_table.Meaning.{IsTable, meta_of}
 use Rattle.mesa_catalog.proofs.Expired.{expired_all, expired_step}
 use Rattle.mesa_catalog.proofs.TableMetas.{all_at, all_set}
 use Rattle.mesa_catalog.proofs.applying.expire_tables.Goals as goal

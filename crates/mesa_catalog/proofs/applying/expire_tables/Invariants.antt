@@ -1,7 +1,7 @@
 use Rattle.std.proofs.Common.{◌≡◌, ◌<◌, ◌++◌, ℕ, drop, map, take}
 use Rattle.std.specs.List.{AllByRecursion}
-use Rattle.mesa_catalog_table.specs.mesa_store_spec.Catalog.{meta_from}
-use Rattle.mesa_catalog_table.specs.Meaning.{IsTable, meta_of}
+use Rattle.mesa_table_records.specs.mesa_store_spec.Catalog.{meta_from}
+use Rattle.mesa_table_records.specs.mesa_catalog_table.Meaning.{IsTable, meta_of}
 use Rattle.mesa_catalog.proofs.applying.expire_tables.Given as goal
 
 -- the tables so far have let them go, and the others are as they were

@@ -1,6 +1,6 @@
 use Rattle.std.proofs.Common.{◌≡◌, ℕ, map, take}
 use Rattle.std.specs.List.{AllByRecursion}
-use Rattle.mesa_catalog_table.specs.Meaning.{IsTable, meta_of}
+use Rattle.mesa_table_records.specs.mesa_catalog_table.Meaning.{IsTable, meta_of}
 use Rattle.mesa_catalog.proofs.copying.share_tables.Given as goal
 
 -- the tables so far

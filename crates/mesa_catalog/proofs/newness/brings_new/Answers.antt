@@ -1,7 +1,7 @@
 use Rattle.std.proofs.Common.{ℕ, ◌∙◌, ap, sym, Bool}
 use Rattle.std.specs.List.{list_all}
 use Rattle.mesa_record.specs.declared.record.Part.{Part}
-use Rattle.mesa_catalog_table.specs.Named.{file_ids, ids_if_any}
+use Rattle.mesa_table_records.specs.mesa_catalog_table.Named.{file_ids, ids_if_any}
 use Rattle.mesa_catalog.specs.Named.{held_ids, ids_brought, is_once_new, part_ids}
 use Rattle.mesa_catalog.proofs.Ids.{all-flat_map, new_each}
 use Rattle.mesa_catalog.proofs.newness.brings_new.Goals as goal

@@ -2,7 +2,7 @@ use Rattle.std.proofs.Common.{ℕ, ◌∙◌, ap, sym, map, Bool}
 use Rattle.std.specs.Prelude.{◌&&◌}
 use Rattle.std.specs.List.{list_all}
 use Rattle.mesa_record.specs.declared.record.ViewRef.{ViewRef}
-use Rattle.mesa_catalog_table.specs.Named.{view_id}
+use Rattle.mesa_table_records.specs.mesa_catalog_table.Named.{view_id}
 use Rattle.mesa_catalog.specs.Named.{held_ids, ids_brought, is_once_new}
 use Rattle.mesa_catalog.proofs.Ids.{all-map}
 use Rattle.mesa_catalog.proofs.newness.files_are_new.Goals as goal

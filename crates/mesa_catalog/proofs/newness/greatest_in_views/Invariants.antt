@@ -1,6 +1,6 @@
 use Rattle.std.proofs.Common.{◌≤◌, map, take}
 use Rattle.std.specs.List.{AllByRecursion}
-use Rattle.mesa_catalog_table.specs.Named.{view_id}
+use Rattle.mesa_table_records.specs.mesa_catalog_table.Named.{view_id}
 use Rattle.mesa_catalog.proofs.newness.greatest_in_views.Given as goal
 
 abbrev pub invariant-loop-view : goal.invariant-loop-view

@@ -2,9 +2,9 @@ use Rattle.std.proofs.Common.{◌≡◌, ℕ, ◌∙◌, ap, sym, arith, Bool, t
 use Rattle.std.specs.Prelude.{◌==◌}
 use Rattle.std.specs.List.{list_any}
 use Rattle.std.proofs.lemmas.Bool.Decides.{nat_tests}
-use Rattle.mesa_catalog_table.specs.mesa_store_spec.Fitting.{has_number, run_of_id}
-use Rattle.mesa_catalog_table.specs.declared.table.Table.{Table}
-use Rattle.mesa_catalog_table.specs.Named.{table_ids}
+use Rattle.mesa_table_records.specs.mesa_store_spec.Fitting.{has_number, run_of_id}
+use Rattle.mesa_table_records.specs.mesa_catalog_table.declared.table.Table.{Table}
+use Rattle.mesa_table_records.specs.mesa_catalog_table.Named.{table_ids}
 use Rattle.mesa_catalog.specs.Named.{held_ids, ids_brought}
 use Rattle.mesa_catalog.proofs.Ids.{any-flat_map, free_is_new, taken_not_new}
 use Rattle.mesa_catalog.proofs.newness.is_new.Goals as goal

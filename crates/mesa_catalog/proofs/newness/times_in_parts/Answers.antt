@@ -1,7 +1,7 @@
 use Rattle.std.proofs.Common.{◌-◌, ◌^◌, ◌∙◌, ap, arith, take}
 use Rattle.std.specs.Prelude.{flat_map, min}
 use Rattle.std.proofs.lemmas.List.{take_all}
-use Rattle.mesa_catalog_table.specs.mesa_store_spec.Ids.{times}
+use Rattle.mesa_table_records.specs.mesa_store_spec.Ids.{times}
 use Rattle.mesa_catalog.specs.Named.{part_ids}
 use Rattle.mesa_catalog.proofs.Ids.{take_flat, times_append}
 use Rattle.mesa_catalog.proofs.newness.times_in_parts.Goals as goal

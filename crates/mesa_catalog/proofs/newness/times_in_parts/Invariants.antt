@@ -1,6 +1,6 @@
 use Rattle.std.proofs.Common.{◌≡◌, ◌-◌, ◌^◌, take}
 use Rattle.std.specs.Prelude.{flat_map, min}
-use Rattle.mesa_catalog_table.specs.mesa_store_spec.Ids.{times}
+use Rattle.mesa_table_records.specs.mesa_store_spec.Ids.{times}
 use Rattle.mesa_catalog.specs.Named.{part_ids}
 use Rattle.mesa_catalog.proofs.newness.times_in_parts.Given as goal
 

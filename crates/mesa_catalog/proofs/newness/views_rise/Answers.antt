@@ -1,4 +1,4 @@
-use Rattle.mesa_catalog_table.specs.Named.{view_id}
+use Rattle.mesa_table_records.specs.mesa_catalog_table.Named.{view_id}
 use Rattle.mesa_catalog.proofs.Ids.{rise_each}
 use Rattle.mesa_catalog.proofs.newness.views_rise.Goals as goal
 

@@ -1,5 +1,5 @@
 use Rattle.std.proofs.Common.{map, take}
-use Rattle.mesa_catalog_table.specs.Named.{view_id}
+use Rattle.mesa_table_records.specs.mesa_catalog_table.Named.{view_id}
 use Rattle.mesa_catalog.specs.Named.{RiseTo}
 use Rattle.mesa_catalog.proofs.newness.views_rise.Given as goal
 

@@ -1,8 +1,8 @@
 use Rattle.std.proofs.Common.{◌∙◌, ap, sym, subst, arith, length, map}
 use Rattle.std.specs.List.{AllByRecursion}
 use Rattle.std.proofs.lemmas.List.{with_items_is}
-use Rattle.mesa_catalog_table.specs.Meaning.{IsTable, meta_of}
-use Rattle.mesa_catalog_table.specs.Readied.{HasSpare}
+use Rattle.mesa_table_records.specs.mesa_catalog_table.Meaning.{IsTable, meta_of}
+use Rattle.mesa_table_records.specs.mesa_catalog_table.Room.{HasSpare}
 use Rattle.mesa_catalog.proofs.Roomier.{roomier_length, roomier_spares, roomier_metas, roomier_tables}
 use Rattle.mesa_catalog.proofs.readying.make_room.Goals as goal
 

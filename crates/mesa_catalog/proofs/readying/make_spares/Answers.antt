@@ -1,7 +1,7 @@
 use Rattle.std.proofs.Common.{◌<◌, sym, subst, arith, length, take}
 use Rattle.std.specs.List.{AllByRecursion}
 use Rattle.std.proofs.lemmas.List.{take_all, take_more_set}
-use Rattle.mesa_catalog_table.specs.Readied.{HasSpare}
+use Rattle.mesa_table_records.specs.mesa_catalog_table.Room.{HasSpare}
 use Rattle.mesa_catalog.proofs.Roomier.{roomier_all, roomier_set}
 use Rattle.mesa_catalog.proofs.TableMetas.{all_pushed}
 use Rattle.mesa_catalog.proofs.readying.make_spares.Goals as goal

@@ -1,7 +1,7 @@
 use Rattle.std.proofs.Common.{take}
 use Rattle.std.specs.List.{AllByRecursion}
 use Rattle.mesa_catalog.specs.Readied.{AreRoomier}
-use Rattle.mesa_catalog_table.specs.Readied.{HasSpare}
+use Rattle.mesa_table_records.specs.mesa_catalog_table.Room.{HasSpare}
 use Rattle.mesa_catalog.proofs.readying.make_spares.Given as goal
 
 -- the tables so far have room

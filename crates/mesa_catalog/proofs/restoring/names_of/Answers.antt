@@ -1,5 +1,5 @@
 use Rattle.std.proofs.Common.{[]}
-use Rattle.mesa_catalog_table.proofs.Pushes.{pushed_all, pushed_more}
+use Rattle.mesa_table_records.proofs.mesa_catalog_table.Pushes.{pushed_all, pushed_more}
 use Rattle.mesa_catalog.specs.Restored.{table_names}
 use Rattle.mesa_catalog.proofs.restoring.names_of.Goals as goal
 

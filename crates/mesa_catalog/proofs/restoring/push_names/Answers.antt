@@ -1,7 +1,7 @@
 use Rattle.std.proofs.Common.{◌≡◌, ◌++◌, ◌∷◌, [], ◌∙◌, ap, subst, Some}
 use Rattle.std.specs.Prelude.{slice_get}
 use Rattle.mesa_schema.specs.Changes.{Lineage}
-use Rattle.mesa_catalog_table.specs.Lookups.{view_names}
+use Rattle.mesa_table_records.specs.mesa_catalog_table.Lookups.{view_names}
 use Rattle.mesa_catalog.proofs.Restored.{named_more}
 use Rattle.mesa_catalog.proofs.restoring.push_names.Goals as goal
 

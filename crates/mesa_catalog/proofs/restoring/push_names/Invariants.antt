@@ -1,5 +1,5 @@
 use Rattle.std.proofs.Common.{◌≡◌, ◌++◌, ◌∷◌, take}
-use Rattle.mesa_catalog_table.specs.Lookups.{view_names}
+use Rattle.mesa_table_records.specs.mesa_catalog_table.Lookups.{view_names}
 use Rattle.mesa_catalog.proofs.restoring.push_names.Given as goal
 
 -- the table's name, and its views' so far

@@ -2,9 +2,9 @@ use Rattle.std.proofs.Common.{◌≢◌, ◌+◌, ◌<◌, ◌++◌, ◌∙◌, 
 use Rattle.std.specs.List.{AllByRecursion}
 use Rattle.std.proofs.lemmas.List.{append-nil, drop_all, get_or_default, take_all}
 use Rattle.mesa_record.specs.declared.record.Part.{Part}
-use Rattle.mesa_catalog_table.specs.mesa_store_spec.Catalog.{meta_loaded, metas_loaded}
-use Rattle.mesa_catalog_table.specs.Meaning.{IsTable, meta_of}
-use Rattle.mesa_catalog_table.specs.Readied.{part_in}
+use Rattle.mesa_table_records.specs.mesa_store_spec.Catalog.{meta_loaded, metas_loaded}
+use Rattle.mesa_table_records.specs.mesa_catalog_table.Meaning.{IsTable, meta_of}
+use Rattle.mesa_table_records.specs.Readied.{part_in}
 use Rattle.std.specs.Prelude.{◌==◌, option_map}
 use Rattle.mesa_catalog.proofs.Loads.{find_mapped, loads_step, part_here}
 use Rattle.mesa_catalog.proofs.applying.loading.load.Goals as goal

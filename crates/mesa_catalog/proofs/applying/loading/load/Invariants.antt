@@ -1,6 +1,6 @@
 use Rattle.std.proofs.Common.{◌≡◌, ℕ, ◌≤◌, map}
 use Rattle.std.specs.Prelude.{find}
-use Rattle.mesa_catalog_table.specs.Readied.{is_part_of, part_in}
+use Rattle.mesa_table_records.specs.Readied.{is_part_of, part_in}
 use Rattle.mesa_catalog.proofs.Loads.{AreLoading}
 use Rattle.mesa_catalog.proofs.applying.loading.load.Given as goal
 

@@ -2,7 +2,7 @@ use Rattle.std.proofs.Common.{◌≡◌, ◌<◌, ◌∙◌, ap, sym, arith, len
 use Rattle.std.specs.Prelude.{◌==◌, find, position}
 use Rattle.std.proofs.lemmas.Bool.Decides.{nat_tests}
 use Rattle.std.proofs.lemmas.Option.{slice_get_read}
-use Rattle.mesa_catalog_table.specs.Readied.{is_part_of}
+use Rattle.mesa_table_records.specs.Readied.{is_part_of}
 use Rattle.mesa_catalog.proofs.Loads.{find_without, found_at, found_nowhere, found_passes}
 use Rattle.mesa_catalog.proofs.applying.loading.take_part.Goals as goal
 

@@ -2,8 +2,8 @@ use Rattle.std.proofs.Common.{◌≡◌, ◌∙◌, ◌+◌, ◌≤◌, ap, sym,
 use Rattle.std.specs.Prelude.{Option, Some, IfSome, option_map}
 use Rattle.mesa_record.specs.declared.record.Record.{Record}
 use Rattle.std.specs.List.{AllByRecursion}
-use Rattle.mesa_catalog_table.specs.mesa_store_spec.Catalog.{Catalog}
-use Rattle.mesa_catalog_table.specs.mesa_store_spec.Ids.{named, times}
+use Rattle.mesa_table_records.specs.mesa_store_spec.Catalog.{Catalog}
+use Rattle.mesa_table_records.specs.mesa_store_spec.Ids.{named, times}
 use Rattle.mesa_catalog.specs.Kept.{Reserved}
 use Rattle.mesa_catalog.specs.declared.ready.Ready.{Ready}
 use Rattle.mesa_catalog.specs.Lookups.{generation_of, turns_generation}

@@ -1,5 +1,5 @@
 use Rattle.std.proofs.Common.{◌∙◌, ap}
-use Rattle.mesa_catalog_table.specs.mesa_store_spec.Fitting.{fits}
+use Rattle.mesa_table_records.specs.mesa_store_spec.Fitting.{fits}
 use Rattle.mesa_catalog.specs.Kept.{Reserved}
 use Rattle.mesa_catalog.specs.Meaning.{catalogue_of}
 use Rattle.mesa_catalog.proofs.Applies.{kind_of_fits}

@@ -1,9 +1,9 @@
 use Rattle.std.proofs.Common.{◌++◌, ◌∙◌, ap, sym, subst, arith}
 use Rattle.std.specs.Prelude.{flat_map}
 use Rattle.std.specs.List.{AllByRecursion}
-use Rattle.mesa_catalog_table.specs.mesa_store_spec.Ids.{named}
-use Rattle.mesa_catalog_table.specs.Meaning.{IsTable}
-use Rattle.mesa_catalog_table.specs.Named.{table_ids}
+use Rattle.mesa_table_records.specs.mesa_store_spec.Ids.{named}
+use Rattle.mesa_table_records.specs.mesa_catalog_table.Meaning.{IsTable}
+use Rattle.mesa_table_records.specs.mesa_catalog_table.Named.{table_ids}
 use Rattle.mesa_catalog.specs.Kept.{Reserved}
 use Rattle.mesa_catalog.proofs.Ids.{named_held}
 use Rattle.mesa_catalog.proofs.catalog.Catalog.named_files.Goals as goal

@@ -1,7 +1,7 @@
 use Rattle.std.proofs.Common.{◌∙◌, ap, sym, map, ◌+◌, drop}
 use Rattle.std.specs.Option.{option_or}
 use Rattle.mesa_catalog.specs.Lookups.{relation_from}
-use Rattle.mesa_catalog_table.specs.Meaning.{meta_of}
+use Rattle.mesa_table_records.specs.mesa_catalog_table.Meaning.{meta_of}
 use Rattle.mesa_catalog.proofs.Relations.{relation_end, relation_step}
 use Rattle.mesa_catalog.proofs.catalog_tables.CatalogTables.find.Goals as goal
 

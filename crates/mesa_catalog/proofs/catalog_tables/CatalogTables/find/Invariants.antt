@@ -1,7 +1,7 @@
 use Rattle.std.proofs.Common.{◌≡◌, drop, map}
 use Rattle.mesa_catalog.specs.Lookups.{relation_from, relation_of}
 use Rattle.mesa_catalog.specs.Meaning.{catalogue_of}
-use Rattle.mesa_catalog_table.specs.Meaning.{meta_of}
+use Rattle.mesa_table_records.specs.mesa_catalog_table.Meaning.{meta_of}
 use Rattle.mesa_catalog.proofs.catalog_tables.CatalogTables.find.Given as goal
 
 -- the tables that are left decide

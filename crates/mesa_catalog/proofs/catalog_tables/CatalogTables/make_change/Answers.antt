@@ -2,9 +2,9 @@ use Rattle.std.proofs.Common.{◌++◌, ◌∷◌, [], ◌∙◌, ap, refl, sym,
 use Rattle.mesa_schema.specs.Columns.{Columns}
 use Rattle.mesa_schema.specs.Changes.{Lineage, columns_of}
 use Rattle.mesa_batch.specs.Totals.{totals_after}
-use Rattle.mesa_catalog_table.specs.mesa_store_spec.Catalog.{TableMeta}
+use Rattle.mesa_table_records.specs.mesa_store_spec.Catalog.{TableMeta}
 use Rattle.mesa_catalog.specs.Meaning.{catalogue_of}
-use Rattle.mesa_catalog_table.specs.Meaning.{widths_of}
+use Rattle.mesa_table_records.specs.mesa_catalog_table.Meaning.{widths_of}
 use Rattle.mesa_catalog.proofs.Made.{change_last, change_made, change_record, change_there, widths_changed}
 use Rattle.mesa_catalog.proofs.catalog_tables.CatalogTables.make_change.Goals as goal
 

@@ -1,8 +1,8 @@
 use Rattle.std.proofs.Common.{◌∙◌, ap, sym}
 use Rattle.std.specs.Prelude.{is_none}
 use Rattle.mesa_batch.specs.Totals.{over_bound}
-use Rattle.mesa_catalog_table.specs.mesa_store_spec.Catalog.{TableMeta}
-use Rattle.mesa_catalog_table.proofs.Tests.{both}
+use Rattle.mesa_table_records.specs.mesa_store_spec.Catalog.{TableMeta}
+use Rattle.mesa_table_records.proofs.mesa_catalog_table.Tests.{both}
 use Rattle.mesa_catalog.proofs.catalog_tables.CatalogTables.make_part.Goals as goal
 
 pub table-requires-clause-there : goal.table-requires-clause-there

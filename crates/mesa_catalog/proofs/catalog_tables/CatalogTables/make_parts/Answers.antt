@@ -3,13 +3,13 @@ use Rattle.std.specs.Prelude.{◌&&◌}
 use Rattle.std.specs.List.{AllByRecursion}
 use Rattle.std.proofs.lemmas.List.{map_push, take_all, take_more}
 use Rattle.mesa_record.specs.declared.record.Part.{Part}
-use Rattle.mesa_catalog_table.specs.mesa_store_spec.Catalog.{meta_at}
-use Rattle.mesa_catalog_table.specs.mesa_store_spec.Fitting.{is_there, part_fits}
+use Rattle.mesa_table_records.specs.mesa_store_spec.Catalog.{meta_at}
+use Rattle.mesa_table_records.specs.mesa_store_spec.Fitting.{is_there, part_fits}
 use Rattle.mesa_catalog.specs.Meaning.{catalogue_of}
 use Rattle.mesa_catalog.specs.Readied.{IsMadePart}
-use Rattle.mesa_catalog_table.specs.Readied.{part_in}
+use Rattle.mesa_table_records.specs.Readied.{part_in}
 use Rattle.mesa_catalog.proofs.TableMetas.{all_pushed}
-use Rattle.mesa_catalog_table.proofs.Tests.{passes_at}
+use Rattle.mesa_table_records.proofs.mesa_catalog_table.Tests.{passes_at}
 use Rattle.mesa_catalog.proofs.catalog_tables.CatalogTables.make_parts.Goals as goal
 
 pub make_part-requires-clause-fits : goal.make_part-requires-clause-fits

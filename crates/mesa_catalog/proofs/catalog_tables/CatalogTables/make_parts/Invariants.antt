@@ -2,7 +2,7 @@ use Rattle.std.proofs.Common.{◌≡◌, map, take}
 use Rattle.std.specs.List.{AllByRecursion}
 use Rattle.mesa_catalog.specs.Meaning.{catalogue_of}
 use Rattle.mesa_catalog.specs.Readied.{IsMadePart}
-use Rattle.mesa_catalog_table.specs.Readied.{part_in}
+use Rattle.mesa_table_records.specs.Readied.{part_in}
 use Rattle.mesa_catalog.proofs.catalog_tables.CatalogTables.make_parts.Given as goal
 
 -- the parts so far

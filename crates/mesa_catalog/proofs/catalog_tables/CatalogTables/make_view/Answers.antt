@@ -1,7 +1,7 @@
 use Rattle.std.proofs.Common.{◌∙◌, ap, refl, sym, arith, length}
 use Rattle.mesa_schema.specs.declared.views.View.{View}
 use Rattle.mesa_schema.specs.Changes.{Lineage}
-use Rattle.mesa_catalog_table.specs.mesa_store_spec.Catalog.{TableMeta}
+use Rattle.mesa_table_records.specs.mesa_store_spec.Catalog.{TableMeta}
 use Rattle.mesa_catalog.specs.Meaning.{catalogue_of}
 use Rattle.mesa_catalog.proofs.Made.{view_made, view_record, view_there}
 use Rattle.mesa_catalog.proofs.catalog_tables.CatalogTables.make_view.Goals as goal

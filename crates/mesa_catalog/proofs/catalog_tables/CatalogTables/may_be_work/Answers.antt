@@ -1,7 +1,7 @@
 use Rattle.std.proofs.Common.{◌∙◌, ap, sym}
-use Rattle.mesa_catalog_table.specs.mesa_store_spec.Fitting.{may_be_work}
+use Rattle.mesa_table_records.specs.mesa_store_spec.Fitting.{may_be_work}
 use Rattle.mesa_catalog.specs.Meaning.{catalogue_of}
-use Rattle.mesa_catalog_table.specs.Meaning.{meta_of}
+use Rattle.mesa_table_records.specs.mesa_catalog_table.Meaning.{meta_of}
 use Rattle.mesa_catalog.proofs.catalog_tables.CatalogTables.may_be_work.Goals as goal
 
 pub returns-then-base : goal.returns-then-base

@@ -1,6 +1,6 @@
 use Rattle.std.proofs.Common.{◌++◌, ◌∙◌, ap, sym}
-use Rattle.mesa_catalog_table.specs.mesa_store_spec.Ids.{recast_dropped}
-use Rattle.mesa_catalog_table.proofs.Pushes.{on_ok}
+use Rattle.mesa_table_records.specs.mesa_store_spec.Ids.{recast_dropped}
+use Rattle.mesa_table_records.proofs.mesa_catalog_table.Pushes.{on_ok}
 use Rattle.mesa_catalog.proofs.Dropped.{recast_held}
 use Rattle.mesa_catalog.proofs.catalog_tables.CatalogTables.push_recast_ids.Goals as goal
 

@@ -2,13 +2,14 @@ use Rattle.std.proofs.Common.{◌+◌, ◌∙◌, List, ap, sym, subst, arith, l
 use Rattle.std.specs.Prelude.{slice_get, IfSome}
 use Rattle.std.specs.List.{AllByRecursion}
 use Rattle.std.proofs.lemmas.List.{with_items_is}
-use Rattle.mesa_catalog_table.specs.mesa_store_spec.Catalog.{metas_loaded}
-use Rattle.mesa_catalog_table.specs.declared.table.Table.{Table}
-use Rattle.mesa_catalog_table.specs.declared.ready.ReadyPart.{ReadyPart}
+use Rattle.mesa_table_records.specs.mesa_store_spec.Catalog.{metas_loaded}
+use Rattle.mesa_table_records.specs.mesa_catalog_table.declared.table.Table.{Table}
+use Rattle.mesa_table_records.specs.declared.ready.ReadyPart.{ReadyPart}
 use Rattle.mesa_catalog.specs.declared.ready.Ready.TheVariants as ready_of
-use Rattle.mesa_catalog_table.specs.Meaning.{IsTable, meta_of}
+use Rattle.mesa_table_records.specs.mesa_catalog_table.Meaning.{IsTable, meta_of}
 use Rattle.mesa_catalog.specs.Meaning.{catalogue_of}
-use Rattle.mesa_catalog_table.specs.Readied.{HasSpare, IsPartOf, part_in}
+use Rattle.mesa_table_records.specs.mesa_catalog_table.Room.{HasSpare}
+use Rattle.mesa_table_records.specs.Readied.{IsPartOf, part_in}
 use Rattle.mesa_catalog.specs.Readied.{record_in}
 use Rattle.mesa_catalog.proofs.Applies.{kind_of_fits, next_version, parts_made}
 use Rattle.mesa_catalog.proofs.catalog_tables.CatalogTables.take_batch.Goals as goal

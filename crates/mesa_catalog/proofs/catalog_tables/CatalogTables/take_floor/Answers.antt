@@ -3,13 +3,13 @@ use Rattle.std.specs.Prelude.{nat_le, nat_lt}
 use Rattle.std.specs.List.{AllByRecursion}
 use Rattle.std.proofs.lemmas.Bool.Decides.{nat_tests}
 use Rattle.std.proofs.lemmas.List.{with_items_is}
-use Rattle.mesa_catalog_table.specs.mesa_store_spec.Catalog.{meta_from}
-use Rattle.mesa_catalog_table.specs.Meaning.{IsTable, meta_of}
+use Rattle.mesa_table_records.specs.mesa_store_spec.Catalog.{meta_from}
+use Rattle.mesa_table_records.specs.mesa_catalog_table.Meaning.{IsTable, meta_of}
 use Rattle.mesa_catalog.specs.Meaning.{catalogue_of}
 use Rattle.mesa_catalog.specs.Readied.{record_in}
 use Rattle.mesa_catalog.specs.declared.ready.Ready.TheVariants as ready_of
 use Rattle.mesa_catalog.proofs.Applies.{kind_of_fits}
-use Rattle.mesa_catalog_table.proofs.Tests.{both}
+use Rattle.mesa_table_records.proofs.mesa_catalog_table.Tests.{both}
 use Rattle.mesa_catalog.proofs.catalog_tables.CatalogTables.take_floor.Goals as goal
 
 pub returns-clause-applied : goal.returns-clause-applied

@@ -1,11 +1,11 @@
 use Rattle.std.proofs.Common.{◌≡◌, ◌∙◌, ap, sym, subst, arith}
 use Rattle.std.proofs.lemmas.List.{length-set}
-use Rattle.mesa_catalog_table.specs.mesa_store_spec.Catalog.{TableMeta, merged_delta, meta_swapped}
-use Rattle.mesa_catalog_table.specs.mesa_store_spec.Fitting.{may_be_work}
+use Rattle.mesa_table_records.specs.mesa_store_spec.Catalog.{TableMeta, merged_delta, meta_swapped}
+use Rattle.mesa_table_records.specs.mesa_store_spec.Fitting.{may_be_work}
 use Rattle.mesa_catalog.specs.declared.ready.Ready.TheVariants as ready_of
-use Rattle.mesa_catalog_table.specs.Meaning.{IsTable, meta_of}
+use Rattle.mesa_table_records.specs.mesa_catalog_table.Meaning.{IsTable, meta_of}
 use Rattle.mesa_catalog.specs.Meaning.{catalogue_of}
-use Rattle.mesa_catalog_table.specs.Readied.{HasSpare}
+use Rattle.mesa_table_records.specs.mesa_catalog_table.Room.{HasSpare}
 use Rattle.mesa_catalog.specs.Readied.{record_in}
 use Rattle.mesa_catalog.proofs.Applies.{kind_of_fits, put_meta, swap_of, swap_there}
 use Rattle.mesa_catalog.proofs.TableMetas.{all_at, all_set, meta_here, there_within}

@@ -2,15 +2,15 @@ use Rattle.std.proofs.Common.{◌∙◌, ◌<◌, ap, sym, subst, arith}
 use Rattle.std.specs.Prelude.{nat_le, nat_lt}
 use Rattle.std.proofs.lemmas.Bool.Decides.{nat_tests}
 use Rattle.std.proofs.lemmas.List.{length-set}
-use Rattle.mesa_catalog_table.specs.mesa_store_spec.Catalog.{meta_at, meta_from}
-use Rattle.mesa_catalog_table.specs.mesa_store_spec.Fitting.{expire_fits, is_there}
-use Rattle.mesa_catalog_table.specs.Meaning.{IsTable, meta_of}
+use Rattle.mesa_table_records.specs.mesa_store_spec.Catalog.{meta_at, meta_from}
+use Rattle.mesa_table_records.specs.mesa_store_spec.Fitting.{expire_fits, is_there}
+use Rattle.mesa_table_records.specs.mesa_catalog_table.Meaning.{IsTable, meta_of}
 use Rattle.mesa_catalog.specs.Meaning.{catalogue_of}
 use Rattle.mesa_catalog.specs.Readied.{record_in}
 use Rattle.mesa_catalog.specs.declared.ready.Ready.TheVariants as ready_of
 use Rattle.mesa_catalog.proofs.Applies.{kind_of_fits, put_meta}
 use Rattle.mesa_catalog.proofs.TableMetas.{all_at, all_set, meta_here, there_within}
-use Rattle.mesa_catalog_table.proofs.Tests.{both}
+use Rattle.mesa_table_records.proofs.mesa_catalog_table.Tests.{both}
 use Rattle.mesa_catalog.proofs.catalog_tables.CatalogTables.take_oldest.Goals as goal
 
 pub index_mut-table-requires : goal.index_mut-table-requires

@@ -1,9 +1,9 @@
 use Rattle.std.proofs.Common.{◌∙◌, ap, sym, subst, arith}
 use Rattle.std.proofs.lemmas.List.{length-set}
-use Rattle.mesa_catalog_table.specs.mesa_store_spec.Catalog.{TableMeta, meta_recast}
-use Rattle.mesa_catalog_table.specs.mesa_store_spec.Fitting.{recast_fits}
-use Rattle.mesa_catalog_table.specs.Meaning.{IsTable, meta_of}
-use Rattle.mesa_catalog_table.specs.Readied.{IsRecast, recasting_in}
+use Rattle.mesa_table_records.specs.mesa_store_spec.Catalog.{TableMeta, meta_recast}
+use Rattle.mesa_table_records.specs.mesa_store_spec.Fitting.{recast_fits}
+use Rattle.mesa_table_records.specs.mesa_catalog_table.Meaning.{IsTable, meta_of}
+use Rattle.mesa_table_records.specs.Readied.{IsRecast, recasting_in}
 use Rattle.mesa_catalog.specs.Meaning.{catalogue_of}
 use Rattle.mesa_catalog.proofs.Applies.{put_meta, recast_there}
 use Rattle.mesa_catalog.proofs.TableMetas.{all_at, all_set, meta_here, there_within}

@@ -1,7 +1,7 @@
 use Rattle.std.proofs.Common.{◌∙◌, ap, sym, subst, arith, length}
 use Rattle.std.specs.List.{AllByRecursion}
 use Rattle.std.proofs.lemmas.List.{length_push}
-use Rattle.mesa_catalog_table.specs.Meaning.{IsTable}
+use Rattle.mesa_table_records.specs.mesa_catalog_table.Meaning.{IsTable}
 use Rattle.mesa_catalog.specs.Meaning.{catalogue_of}
 use Rattle.mesa_catalog.specs.Readied.{record_in}
 use Rattle.mesa_catalog.specs.declared.ready.Ready.TheVariants as ready_of
