@@ -8,17 +8,17 @@ use Rattle.std.proofs.lemmas.List.Sums.{sum_by-append}
 use Rattle.std.proofs.lemmas.Simd.{map-map}
 use Rattle.std.specs.List.{AllByRecursion}
 use Rattle.mesa_schema.specs.Changes.{Lineage}
-use Rattle.mesa_record.specs.declared.record.Files.{Files}
-use Rattle.mesa_record.specs.declared.record.Part.{Part}
-use Rattle.mesa_record.specs.declared.record.Record.{Record}
-use Rattle.mesa_record.specs.declared.record.Record.TheVariants as record_of
-use Rattle.mesa_table_records.specs.mesa_store_spec.Catalog.{Catalog, Delta, Ending, TableMeta, applied, empty_delta, merged_delta, new_meta, no_meta, part_delta, part_of, start_in, meta_at, meta_changed, meta_from, meta_loaded, meta_swapped, meta_viewed, metas_loaded}
-use Rattle.mesa_table_records.specs.mesa_store_spec.Fitting.{base_deltas, delta_in, delta_live, deltas_of, files_live, fits, is_there, kind_fits, part_live, live_id, meta_live, swap_fits, view_live}
-use Rattle.mesa_table_records.specs.mesa_store_spec.Ids.{brought_ids, delta_ids, dropped_deltas, file_ids, named, times}
-use Rattle.mesa_table_records.proofs.mesa_store_spec.Ids.{brought_own, recast_names}
-use Rattle.mesa_table_records.proofs.mesa_store_spec.Lists.{both_true, is_equal, is_less}
-use Rattle.mesa_table_records.proofs.mesa_store_spec.Moving.{kind_of}
-use Rattle.mesa_table_records.proofs.mesa_store_spec.Tables.{IsEmpty, new_deltas}
+use Rattle.mesa_catalog_records.specs.mesa_record.declared.record.Files.{Files}
+use Rattle.mesa_catalog_records.specs.mesa_record.declared.record.Part.{Part}
+use Rattle.mesa_catalog_records.specs.mesa_record.declared.record.Record.{Record}
+use Rattle.mesa_catalog_records.specs.mesa_record.declared.record.Record.TheVariants as record_of
+use Rattle.mesa_catalog_records.specs.mesa_store_spec.Catalog.{Catalog, Delta, Ending, TableMeta, applied, empty_delta, merged_delta, new_meta, no_meta, part_delta, part_of, start_in, meta_at, meta_changed, meta_from, meta_loaded, meta_swapped, meta_viewed, metas_loaded}
+use Rattle.mesa_catalog_records.specs.mesa_store_spec.Fitting.{base_deltas, delta_in, delta_live, deltas_of, files_live, fits, is_there, kind_fits, part_live, live_id, meta_live, swap_fits, view_live}
+use Rattle.mesa_catalog_records.specs.mesa_store_spec.Ids.{brought_ids, delta_ids, dropped_deltas, file_ids, named, times}
+use Rattle.mesa_catalog_records.proofs.mesa_store_spec.Ids.{brought_own, recast_names}
+use Rattle.mesa_catalog_records.proofs.mesa_store_spec.Lists.{both_true, is_equal, is_less}
+use Rattle.mesa_catalog_records.proofs.mesa_store_spec.Moving.{kind_of}
+use Rattle.mesa_catalog_records.proofs.mesa_store_spec.Tables.{IsEmpty, new_deltas}
 
 -- ---- by ids alone, whatever the columns
 

@@ -5,17 +5,17 @@ use Rattle.std.proofs.lemmas.Bool.Decides.{nat_tests}
 use Rattle.std.proofs.lemmas.List.{length_push}
 use Rattle.std.proofs.lemmas.List.Sums.{sum_by-cons, sum_by-set, sum_by_push}
 use Rattle.mesa_schema.specs.declared.views.View.{View}
-use Rattle.mesa_record.specs.declared.record.Record.{Record}
-use Rattle.mesa_record.specs.declared.record.Record.TheVariants as record_of
-use Rattle.mesa_record.specs.declared.record.Files.{Files}
-use Rattle.mesa_record.specs.declared.record.Part.{Part}
-use Rattle.mesa_table_records.specs.mesa_store_spec.Catalog.{Catalog, TableMeta, applied, merged_delta, new_meta, no_meta, part_of, meta_at, meta_changed, meta_from, meta_loaded, meta_recast, meta_swapped, meta_viewed, metas_loaded, with_meta}
-use Rattle.mesa_table_records.specs.mesa_store_spec.Fitting.{expire_fits, is_there, kind_fits, recast_fits, swap_fits}
+use Rattle.mesa_catalog_records.specs.mesa_record.declared.record.Record.{Record}
+use Rattle.mesa_catalog_records.specs.mesa_record.declared.record.Record.TheVariants as record_of
+use Rattle.mesa_catalog_records.specs.mesa_record.declared.record.Files.{Files}
+use Rattle.mesa_catalog_records.specs.mesa_record.declared.record.Part.{Part}
+use Rattle.mesa_catalog_records.specs.mesa_store_spec.Catalog.{Catalog, TableMeta, applied, merged_delta, new_meta, no_meta, part_of, meta_at, meta_changed, meta_from, meta_loaded, meta_recast, meta_swapped, meta_viewed, metas_loaded, with_meta}
+use Rattle.mesa_catalog_records.specs.mesa_store_spec.Fitting.{expire_fits, is_there, kind_fits, recast_fits, swap_fits}
 use Rattle.mesa_catalog.specs.Lookups.{changes_in, changes_of, generation_of, known_as, known_in, turns_generation}
-use Rattle.mesa_table_records.specs.mesa_catalog_table.declared.table.Table.{Table}
-use Rattle.mesa_table_records.specs.mesa_catalog_table.Meaning.{meta_of}
-use Rattle.mesa_catalog.proofs.Made.{change_there, view_there}
-use Rattle.mesa_table_records.proofs.mesa_catalog_table.Tests.{both}
+use Rattle.mesa_catalog_records.specs.mesa_catalog_table.declared.table.Table.{Table}
+use Rattle.mesa_catalog_records.specs.mesa_catalog_table.Meaning.{meta_of}
+use Rattle.mesa_catalog_records.proofs.Made.{change_there, view_there}
+use Rattle.mesa_catalog_records.proofs.mesa_catalog_table.Tests.{both}
 
 within : (c : Catalog) (i : ℕ) → is_there c i ≡ true → i < length c.tables
 within c i e = grind (arith, nat_tests)

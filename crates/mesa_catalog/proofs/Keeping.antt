@@ -3,18 +3,18 @@ use Rattle.std.proofs.Common.{◌≡◌, ⊎_elim, ℕ, ◌≤◌, ap, subst, sy
 use Rattle.std.proofs.lemmas.Bool.{cases_lt}
 use Rattle.std.specs.Prelude.{Option, Some, None, IfSome}
 use Rattle.std.specs.List.{AllByRecursion}
-use Rattle.mesa_record.specs.declared.record.Record.{Record}
-use Rattle.mesa_table_records.specs.mesa_store_spec.Catalog.{Catalog, applied}
-use Rattle.mesa_table_records.specs.mesa_store_spec.Fitting.{fits, kind_fits}
-use Rattle.mesa_table_records.specs.mesa_store_spec.Ids.{named, times}
-use Rattle.mesa_catalog.specs.declared.catalog_tables.CatalogTables.{CatalogTables}
-use Rattle.mesa_catalog.specs.declared.ready.Ready.{Ready}
+use Rattle.mesa_catalog_records.specs.mesa_record.declared.record.Record.{Record}
+use Rattle.mesa_catalog_records.specs.mesa_store_spec.Catalog.{Catalog, applied}
+use Rattle.mesa_catalog_records.specs.mesa_store_spec.Fitting.{fits, kind_fits}
+use Rattle.mesa_catalog_records.specs.mesa_store_spec.Ids.{named, times}
+use Rattle.mesa_catalog_records.specs.declared.catalog_tables.CatalogTables.{CatalogTables}
+use Rattle.mesa_catalog_records.specs.declared.ready.Ready.{Ready}
 use Rattle.mesa_catalog.specs.Kept.{IsKept}
-use Rattle.mesa_catalog.specs.Meaning.{AreCatalogTables, catalogue_of}
-use Rattle.mesa_catalog.specs.Named.{ids_brought}
-use Rattle.mesa_catalog.specs.Readied.{HasRoom, IsMade, IsReady, record_in}
+use Rattle.mesa_catalog_records.specs.Meaning.{AreCatalogTables, catalogue_of}
+use Rattle.mesa_catalog_records.specs.Named.{ids_brought}
+use Rattle.mesa_catalog_records.specs.Readied.{HasRoom, IsMade, IsReady, record_in}
 use Rattle.mesa_catalog.proofs.Counted.{named_or_brought}
-use Rattle.mesa_catalog.proofs.Ids.{below_counted, counted_below, ids_bring}
+use Rattle.mesa_catalog_records.proofs.Ids.{below_counted, counted_below, ids_bring}
 
 -- no id is greater than the greatest that was named, or that the record brings
 pub most_after : (c : Catalog) (r : Record) (old new : ℕ) → kind_fits c r ≡ true → old ≤ new → AllByRecursion (λ id. id ≤ old) (named c) → AllByRecursion (λ id. id ≤ new) (ids_brought r)

@@ -1,29 +1,22 @@
 -- The catalogue that a checkpoint states.
-use Rattle.std.proofs.Common.{◌≡◌, ℕ, zero, suc, append_assoc, ◌+◌, ◌≤◌, ◌<◌, List, [], ◌∷◌, ◌++◌, length, map, take, get_or, refl, sym, ◌∙◌, ap, arith, true}
-use Rattle.std.specs.Prelude.{◌&&◌, nat_le, not, flat_map, slice_get, is_some, is_none, Option, None, Some}
+use Rattle.std.proofs.Common.{◌≡◌, ℕ, ◌+◌, ◌≤◌, ◌<◌, List, [], ◌∷◌, ◌++◌, length, map, take, get_or, sym, ◌∙◌, ap, arith, true}
+use Rattle.std.specs.Prelude.{◌&&◌, nat_le, None}
 use Rattle.std.specs.List.{AllByRecursion}
 use Rattle.std.proofs.lemmas.Bool.Decides.{nat_tests}
 use Rattle.std.proofs.lemmas.List.{length-map, map_push, take_more}
-use Rattle.mesa_record.specs.declared.checkpoint.Checkpoint.{Checkpoint}
-use Rattle.mesa_table_records.specs.mesa_store_spec.Checkpoint.{stated, meta_stated}
-use Rattle.mesa_table_records.specs.mesa_store_spec.CheckpointFits.{counts_fit, ids_fit, oldest_fits}
-use Rattle.mesa_table_records.specs.mesa_store_spec.Fitting.{max_runs, names_in}
-use Rattle.mesa_table_records.specs.mesa_model.Warehouse.{max_tables, max_versions}
-use Rattle.mesa_table_records.specs.mesa_store_spec.Ids.{named}
-use Rattle.mesa_table_records.specs.mesa_catalog_table.declared.table.Table.{Table}
-use Rattle.mesa_table_records.specs.mesa_catalog_table.Meaning.{IsTable, meta_of}
-use Rattle.mesa_table_records.proofs.mesa_catalog_table.Named.{flat_map-map}
-use Rattle.mesa_table_records.proofs.Restored.{there}
-use Rattle.mesa_table_records.proofs.mesa_catalog_table.Tests.{both}
-use Rattle.mesa_catalog.specs.declared.catalog_tables.CatalogTables.{CatalogTables}
+use Rattle.mesa_catalog_records.specs.mesa_record.declared.checkpoint.Checkpoint.{Checkpoint}
+use Rattle.mesa_catalog_records.specs.mesa_store_spec.Checkpoint.{stated, meta_stated}
+use Rattle.mesa_catalog_records.specs.mesa_store_spec.CheckpointFits.{counts_fit, ids_fit, oldest_fits}
+use Rattle.mesa_catalog_records.specs.mesa_store_spec.Fitting.{max_runs}
+use Rattle.mesa_catalog_records.specs.mesa_model.Warehouse.{max_tables, max_versions}
+use Rattle.mesa_catalog_records.specs.mesa_store_spec.Ids.{named}
+use Rattle.mesa_catalog_records.specs.mesa_catalog_table.Meaning.{IsTable, meta_of}
+use Rattle.mesa_catalog_records.proofs.mesa_table_records.Restored.{there}
+use Rattle.mesa_catalog_records.proofs.mesa_catalog_table.Tests.{both}
+use Rattle.mesa_catalog_records.specs.declared.catalog_tables.CatalogTables.{CatalogTables}
 use Rattle.mesa_catalog.specs.Kept.{IsKept}
-use Rattle.mesa_catalog.specs.Meaning.{AreCatalogTables, catalogue_of}
-use Rattle.mesa_catalog.specs.Restored.{table_names}
+use Rattle.mesa_catalog_records.specs.Meaning.{AreCatalogTables, catalogue_of}
 use Rattle.mesa_catalog.proofs.RestoredIds.{stands_once}
-
--- the names of all tables and views
-pub names_held : (next : ℕ) (tables : List Table) → flat_map names_in (map (meta_of next) tables) ≡ flat_map table_names tables
-names_held next tables = flat_map-map names_in (meta_of next) tables
 
 -- Tables that were made of those that a checkpoint states.
 pub record AreRestored (k : Checkpoint) (s : CatalogTables) : Type 0 where
@@ -67,21 +60,3 @@ pub mapped_more : {X Y Z : Type 0} (f : X → Y) (g : Y → Z) (xs : List X) (i 
 mapped_more f g xs i x h is =
     ap (λ ys. map g (map f ys)) (take_more xs i x h ∙ ap (λ y. take i xs ++ y ∷ []) (sym is))
     ∙ ap (map g) (map_push f (take i xs) x) ∙ map_push g (map f (take i xs)) (f x)
-
--- ---- names
-
-take_suc : {X : Type 0} (xs : List X) (i : ℕ) (x : X) → slice_get xs i ≡ Some x → take (suc i) xs ≡ take i xs ++ x ∷ []
-take_suc [] i x e = absurd (cc)
-take_suc (y ∷ ys) zero x e = let same : y ≡ x = cc in ap (λ z. z ∷ []) same
-take_suc (y ∷ ys) (suc i) x e = ap (λ zs. y ∷ zs) (take_suc ys i x e)
-
--- a name, and those so far behind it, with one more
-pub named_more : (start now later names : List (List ℕ)) (first name : List ℕ) (i : ℕ) → slice_get names i ≡ Some name → now ≡ start ++ first ∷ take i names → later ≡ now ++ name ∷ [] → later ≡ start ++ first ∷ take (i + 1) names
-named_more start now later names first name i got was more =
-    let next : suc i ≡ i + 1 = omega arith in
-    more ∙ ap (λ ns. ns ++ name ∷ []) was ∙ append_assoc start (first ∷ take i names) (name ∷ [])
-    ∙ ap (λ ns. start ++ first ∷ ns) (sym (take_suc names i name got) ∙ ap (λ n. take n names) next)
-
-pub none_not : {X : Type 0} (o : Option X) → not (is_some o) ≡ is_none o
-none_not (Some x) = refl
-none_not None = refl

@@ -7,12 +7,12 @@ use Rattle.std.specs.List.Sorted.{IsNonDecreasingBy}
 use Rattle.std.proofs.lemmas.Bool.Decides.{nat_tests}
 use Rattle.std.proofs.lemmas.List.Sorted.{sum_by-IsPermutation}
 use Rattle.std.proofs.lemmas.List.{map-id}
-use Rattle.mesa_table_records.specs.mesa_store_spec.Fitting.{run_of_id}
-use Rattle.mesa_table_records.specs.mesa_store_spec.Ids.{times}
-use Rattle.mesa_table_records.specs.mesa_catalog_table.Files.{RiseFrom}
-use Rattle.mesa_table_records.proofs.mesa_catalog_table.Tests.{both}
+use Rattle.mesa_catalog_records.specs.mesa_store_spec.Fitting.{run_of_id}
+use Rattle.mesa_catalog_records.specs.mesa_store_spec.Ids.{times}
+use Rattle.mesa_catalog_records.specs.mesa_catalog_table.Files.{RiseFrom}
+use Rattle.mesa_catalog_records.proofs.mesa_catalog_table.Tests.{both}
 use Rattle.mesa_catalog.specs.Restored.{ids_above, ids_rise}
-use Rattle.mesa_catalog.proofs.Ids.{times_cons}
+use Rattle.mesa_catalog_records.proofs.Ids.{times_cons}
 use Rattle.mesa_catalog.proofs.Sorting.{rise_sorted}
 
 -- ---- tests of all

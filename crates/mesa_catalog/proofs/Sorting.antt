@@ -5,17 +5,17 @@ use Rattle.std.specs.List.Sorted.{IsNonDecreasingBy}
 use Rattle.std.proofs.lemmas.Bool.Decides.{nat_tests}
 use Rattle.std.proofs.lemmas.List.Sorted.{IsPermutation-map, sum_by-IsPermutation}
 use Rattle.std.proofs.lemmas.Simd.{map-map}
-use Rattle.mesa_table_records.specs.mesa_store_spec.Catalog.{Catalog}
-use Rattle.mesa_table_records.specs.mesa_store_spec.Fitting.{live_files, meta_live}
-use Rattle.mesa_table_records.specs.mesa_store_spec.Ids.{named, times}
-use Rattle.mesa_table_records.specs.mesa_catalog_table.declared.recorded.Recorded.{Recorded}
-use Rattle.mesa_table_records.specs.mesa_catalog_table.declared.table.Table.{Table}
-use Rattle.mesa_table_records.specs.mesa_catalog_table.Files.{AreRecorded, RiseFrom, recorded_id, recorded_of}
-use Rattle.mesa_table_records.specs.mesa_catalog_table.Meaning.{meta_of}
-use Rattle.mesa_table_records.proofs.mesa_catalog_table.Named.{flat_map-map, map-flat_map}
-use Rattle.mesa_catalog.specs.declared.catalog_tables.CatalogTables.{CatalogTables}
-use Rattle.mesa_catalog.specs.Meaning.{catalogue_of}
-use Rattle.mesa_catalog.proofs.Ids.{times_cons}
+use Rattle.mesa_catalog_records.specs.mesa_store_spec.Catalog.{Catalog}
+use Rattle.mesa_catalog_records.specs.mesa_store_spec.Fitting.{live_files, meta_live}
+use Rattle.mesa_catalog_records.specs.mesa_store_spec.Ids.{named, times}
+use Rattle.mesa_catalog_records.specs.mesa_catalog_table.declared.recorded.Recorded.{Recorded}
+use Rattle.mesa_catalog_records.specs.mesa_catalog_table.declared.table.Table.{Table}
+use Rattle.mesa_catalog_records.specs.mesa_catalog_table.Files.{AreRecorded, RiseFrom, recorded_id, recorded_of}
+use Rattle.mesa_catalog_records.specs.mesa_catalog_table.Meaning.{meta_of}
+use Rattle.mesa_catalog_records.proofs.mesa_catalog_table.Named.{flat_map-map, map-flat_map}
+use Rattle.mesa_catalog_records.specs.declared.catalog_tables.CatalogTables.{CatalogTables}
+use Rattle.mesa_catalog_records.specs.Meaning.{catalogue_of}
+use Rattle.mesa_catalog_records.proofs.Ids.{times_cons}
 
 counted_at : {X : Type 0} (n : X → ℕ) (xs : List X) (i : ℕ) (d : X) → i < length xs → 0 < times (n (get_or xs i d)) (map n xs)
 counted_at n [] i d h = absurd (omega arith)

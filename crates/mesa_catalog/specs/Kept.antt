@@ -1,13 +1,13 @@
 -- What a catalogue is, and what holds of its parts.
 use Rattle.std.specs.Prelude.{ℕ, ◌≤◌, Option, None, IfSome, option_map}
 use Rattle.std.specs.List.{AllByRecursion}
-use Rattle.mesa_record.specs.declared.record.Record.{Record}
-use Rattle.mesa_table_records.specs.mesa_store_spec.Catalog.{Catalog}
-use Rattle.mesa_table_records.specs.mesa_store_spec.Ids.{named, times}
-use Rattle.mesa_catalog.specs.declared.catalog_tables.CatalogTables.{CatalogTables}
-use Rattle.mesa_catalog.specs.declared.ready.Ready.{Ready}
-use Rattle.mesa_catalog.specs.Meaning.{AreCatalogTables, catalogue_of}
-use Rattle.mesa_catalog.specs.Readied.{IsReady, record_in}
+use Rattle.mesa_catalog_records.specs.mesa_record.declared.record.Record.{Record}
+use Rattle.mesa_catalog_records.specs.mesa_store_spec.Catalog.{Catalog}
+use Rattle.mesa_catalog_records.specs.mesa_store_spec.Ids.{named, times}
+use Rattle.mesa_catalog_records.specs.declared.catalog_tables.CatalogTables.{CatalogTables}
+use Rattle.mesa_catalog_records.specs.declared.ready.Ready.{Ready}
+use Rattle.mesa_catalog_records.specs.Meaning.{AreCatalogTables, catalogue_of}
+use Rattle.mesa_catalog_records.specs.Readied.{IsReady, record_in}
 
 -- A catalogue, and the record for which all memory is there that taking it in needs, if there is one.
 pub record Reserved : Type 0 where

@@ -1,25 +1,11 @@
 -- What a catalogue is asked for.
-use Rattle.std.specs.Prelude.{ℕ, ◌+◌, List, [], ◌∷◌, map, length, sum_by, Option, None}
-use Rattle.std.specs.Option.{option_or}
+use Rattle.std.specs.Prelude.{ℕ, ◌+◌, map, length, sum_by}
 use Rattle.mesa_schema.specs.Changes.{epoch_of}
 use Rattle.mesa_batch.specs.Glance.{Known, Sight}
-use Rattle.mesa_record.specs.declared.record.Record.{Record}
-use Rattle.mesa_record.specs.declared.record.Record.TheVariants as record_of
-use Rattle.mesa_table_records.specs.mesa_store_spec.Catalog.{Catalog, TableMeta}
-use Rattle.mesa_table_records.specs.mesa_catalog_table.declared.relation.Relation.{Relation}
-use Rattle.mesa_table_records.specs.mesa_catalog_table.Lookups.{relation_in}
-use Rattle.mesa_table_records.specs.mesa_catalog_table.declared.table.Table.{Table}
-
--- ---- relations
-
--- the same among the tables from a number on
-abbrev pub relation_from : ℕ → List ℕ → List TableMeta → Option Relation
-relation_from number name [] = None
-relation_from number name (t ∷ tables) = option_or (relation_in number name t) (relation_from (number + 1) name tables)
-
--- The table or the view of a name: tables and views share one space of names.
-abbrev pub relation_of : Catalog → List ℕ → Option Relation
-relation_of c name = relation_from 0 name c.tables
+use Rattle.mesa_catalog_records.specs.mesa_record.declared.record.Record.{Record}
+use Rattle.mesa_catalog_records.specs.mesa_record.declared.record.Record.TheVariants as record_of
+use Rattle.mesa_catalog_records.specs.mesa_store_spec.Catalog.{Catalog, TableMeta}
+use Rattle.mesa_catalog_records.specs.mesa_catalog_table.declared.table.Table.{Table}
 
 -- ---- the generation
 

@@ -1,17 +1,14 @@
 // The catalogue.
 ghost use Rattle.std.specs.Prelude.{◌≡◌, ◌+◌, None, Some, OnOk, OnErr, IsTrue, IfOk};
 ghost use Rattle.mesa_span.specs.Ranges.{base_before};
-ghost use Rattle.mesa_table_records.specs.mesa_store_spec.Catalog.{applied, empty_catalog};
-ghost use Rattle.mesa_table_records.specs.mesa_store_spec.Fitting.{brings_new_files, fits as fits_catalog, kind_fits};
+ghost use Rattle.mesa_catalog_records.specs.mesa_store_spec.Catalog.{applied, empty_catalog};
+ghost use Rattle.mesa_catalog_records.specs.mesa_store_spec.Fitting.{brings_new_files, fits as fits_catalog, kind_fits};
 ghost use Rattle.mesa_catalog.specs.Lookups.{generation_of, turns_generation};
 
-use crate::catalog_tables::CatalogTables;
-use crate::copying::share_tables;
-use crate::newness::{brings_new, brings_rising, greatest_with};
-use crate::ready::Ready;
-use crate::readying::make_room;
-use mesa_record::Record;
-use mesa_table_records::NoRows;
+use mesa_catalog_records::{
+    CatalogTables, NoRows, Ready, Record, brings_new, brings_rising, greatest_with, make_room,
+    share_tables,
+};
 use std::alloc::{AllocError, Global};
 use std::marker::Model;
 

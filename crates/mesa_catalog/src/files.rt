@@ -1,20 +1,16 @@
 // The files that a catalogue names.
-ghost use Rattle.std.specs.Prelude.{◌≡◌, ◌++◌, ◌≤◌, ◌^◌, ℕ, flat_map, map, true, IfOk, IsTrue, OnOk};
+ghost use Rattle.std.specs.Prelude.{◌≡◌, ◌++◌, ◌≤◌, ◌^◌, ℕ, flat_map, map, IfOk, IsTrue, OnOk};
 ghost use Rattle.std.specs.List.{AllByRecursion};
-ghost use Rattle.mesa_table_records.specs.mesa_store_spec.Catalog.{meta_at};
-ghost use Rattle.mesa_table_records.specs.mesa_store_spec.Fitting.{fits as fits_catalog, is_there, kind_fits, meta_live};
-ghost use Rattle.mesa_table_records.specs.mesa_store_spec.Ids.{dropped_ids, named, recast_dropped};
-ghost use Rattle.mesa_table_records.specs.mesa_catalog_table.declared.table.Table.{Table as Held};
-ghost use Rattle.mesa_table_records.specs.mesa_catalog_table.Files.{AreRecorded, recorded_of};
-ghost use Rattle.mesa_table_records.specs.mesa_catalog_table.Meaning.{IsTable, meta_of};
-ghost use Rattle.mesa_table_records.specs.mesa_catalog_table.Named.{table_ids};
-ghost use Rattle.mesa_catalog.specs.Meaning.{AreCatalogTables, catalogue_of};
+ghost use Rattle.mesa_catalog_records.specs.mesa_store_spec.Fitting.{fits as fits_catalog, meta_live};
+ghost use Rattle.mesa_catalog_records.specs.mesa_store_spec.Ids.{dropped_ids, named};
+ghost use Rattle.mesa_catalog_records.specs.mesa_catalog_table.declared.table.Table.{Table as Held};
+ghost use Rattle.mesa_catalog_records.specs.mesa_catalog_table.Files.{AreRecorded, recorded_of};
+ghost use Rattle.mesa_catalog_records.specs.mesa_catalog_table.Meaning.{IsTable, meta_of};
+ghost use Rattle.mesa_catalog_records.specs.mesa_catalog_table.Named.{table_ids};
 
 use crate::Catalog;
-use crate::catalog_tables::CatalogTables;
+use mesa_catalog_records::{Record, Recorded, Table};
 use mesa_file::FileId;
-use mesa_record::Record;
-use mesa_table_records::{Recorded, Table};
 use std::alloc::{AllocError, Global};
 
 impl Catalog {
@@ -45,46 +41,6 @@ impl Catalog {
         let mut ids = Vec::new(alloc);
         self.catalog_tables.push_dropped(r, &mut ids)?;
         Ok(ids)
-    }
-}
-
-impl CatalogTables {
-    fn push_dropped(&self, r: &Record, ids: &mut Vec<FileId>) -> Result<(), AllocError>
-        requires live_files { AreCatalogTables self.now }
-        requires fits { IsTrue (kind_fits (catalogue_of self.now) r.now) }
-        ensures { OnOk result (ids.new.items ≡ ids.old.items ++ dropped_ids (catalogue_of self.now) r.now) }
-    {
-        match r {
-            Record::Swap {
-                table,
-                base,
-                to,
-                ..
-            } => {
-                if *base {
-                    self.table(*table).push_ids(*to, ids)
-                } else {
-                    Ok(())
-                }
-            }
-            Record::Recast(told) => self.push_recast_ids(told.table, ids),
-            Record::Run { .. }
-            | Record::Table { .. }
-            | Record::View { .. }
-            | Record::Alter { .. }
-            | Record::Publish { .. }
-            | Record::Expire { .. }
-            | Record::ExpireTable { .. }
-            | Record::Checkpoint(_) => Ok(()),
-        }
-    }
-
-    fn push_recast_ids(&self, table: u16, ids: &mut Vec<FileId>) -> Result<(), AllocError>
-        requires live_files { AreCatalogTables self.now }
-        requires there { is_there (catalogue_of self.now) table ≡ true }
-        ensures { OnOk result (ids.new.items ≡ ids.old.items ++ recast_dropped (meta_at (catalogue_of self.now) table)) }
-    {
-        self.table(table).push_recast_ids(ids)
     }
 }
 

@@ -3,17 +3,18 @@ ghost use Rattle.std.specs.Prelude.{◌≡◌, ◌<◌, ◌≤◌, ◌^◌, IfOk
 ghost use Rattle.std.specs.Option.{option_copied};
 ghost use Rattle.mesa_span.specs.Ranges.{IsInOrder};
 ghost use Rattle.mesa_batch.specs.Numbers.{known_of};
-ghost use Rattle.mesa_table_records.specs.mesa_store_spec.Catalog.{ranges_of, meta_at};
-ghost use Rattle.mesa_table_records.specs.mesa_catalog_table.Meaning.{IsTable, meta_of};
-ghost use Rattle.mesa_table_records.specs.mesa_catalog_table.Ranged.{delta_at};
-ghost use Rattle.mesa_catalog.specs.Lookups.{changes_of, generation_of, known_in, relation_of, sight_of};
+ghost use Rattle.mesa_catalog_records.specs.mesa_store_spec.Catalog.{ranges_of, meta_at};
+ghost use Rattle.mesa_catalog_records.specs.mesa_catalog_table.Meaning.{IsTable, meta_of};
+ghost use Rattle.mesa_catalog_records.specs.mesa_catalog_table.Ranged.{delta_at};
+ghost use Rattle.mesa_catalog.specs.Lookups.{changes_of, generation_of, known_in, sight_of};
+ghost use Rattle.mesa_catalog_records.specs.Names.{relation_of};
 
 use crate::Catalog;
 use mesa_batch::{Glance, Glanced};
+use mesa_catalog_records::{Delta, Relation, Table, ranges};
 use mesa_list::TryCopy;
 use mesa_schema::{Evolving, Name, Totals};
 use mesa_span::Ranges;
-use mesa_table_records::{Delta, Relation, Table, ranges};
 use std::alloc::{AllocError, Global};
 use std::sync::Arc;
 

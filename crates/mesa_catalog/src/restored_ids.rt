@@ -1,15 +1,14 @@
 // The ids of the files that a checkpoint names.
 ghost use Rattle.std.specs.Prelude.{◌≡◌, ◌≤◌, is_some, nat_le, IfOk, IfSome};
 ghost use Rattle.std.specs.List.{AllByRecursion, list_all};
-ghost use Rattle.mesa_table_records.specs.mesa_store_spec.CheckpointFits.{ids_fit};
-ghost use Rattle.mesa_table_records.specs.mesa_store_spec.Fitting.{run_of_id};
-ghost use Rattle.mesa_table_records.specs.mesa_store_spec.Ids.{named};
-ghost use Rattle.mesa_catalog.specs.Meaning.{AreCatalogTables, catalogue_of};
+ghost use Rattle.mesa_catalog_records.specs.mesa_store_spec.CheckpointFits.{ids_fit};
+ghost use Rattle.mesa_catalog_records.specs.mesa_store_spec.Fitting.{run_of_id};
+ghost use Rattle.mesa_catalog_records.specs.mesa_store_spec.Ids.{named};
+ghost use Rattle.mesa_catalog_records.specs.Meaning.{AreCatalogTables, catalogue_of};
 ghost use Rattle.mesa_catalog.specs.Restored.{ids_rise};
 
-use crate::catalog_tables::CatalogTables;
 use crate::files::push_ids;
-use crate::newness::IDS_OF_RUN;
+use mesa_catalog_records::{CatalogTables, IDS_OF_RUN};
 use mesa_file::FileId;
 use std::alloc::{AllocError, Global};
 

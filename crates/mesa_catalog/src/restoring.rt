@@ -1,24 +1,21 @@
 // The catalogue that a checkpoint states. Names, columns, files and totals are moved, not copied.
-ghost use Rattle.std.specs.Prelude.{◌≡◌, ◌≢◌, ◌++◌, false, flat_map, map, option_map, IfErr, IfOk, IsTrue, OnOk};
+ghost use Rattle.std.specs.Prelude.{◌≡◌, ◌≢◌, false, map, option_map, IfErr, IfOk, IsTrue, OnOk};
 ghost use Rattle.std.specs.List.{AllByRecursion, list_all};
-ghost use Rattle.mesa_table_records.specs.mesa_store_spec.Checkpoint.{stated, meta_stated};
-ghost use Rattle.mesa_table_records.specs.mesa_store_spec.CheckpointFits.{checkpoint_fits, counts_fit as counts_are_right, names_differ as all_differ, number_fits as number_is_right, table_fits, tables_fit};
-ghost use Rattle.mesa_table_records.specs.mesa_store_spec.Journaled.{stated_if};
-ghost use Rattle.mesa_table_records.specs.declared.restoring.RestoreError.TheVariants as RestoreError;
-ghost use Rattle.mesa_table_records.specs.mesa_catalog_table.Meaning.{IsTable, meta_of};
+ghost use Rattle.mesa_catalog_records.specs.mesa_store_spec.Checkpoint.{stated, meta_stated};
+ghost use Rattle.mesa_catalog_records.specs.mesa_store_spec.CheckpointFits.{checkpoint_fits, counts_fit as counts_are_right, number_fits as number_is_right, table_fits, tables_fit};
+ghost use Rattle.mesa_catalog_records.specs.mesa_store_spec.Journaled.{stated_if};
+ghost use Rattle.mesa_catalog_records.specs.mesa_table_records.declared.restoring.RestoreError.TheVariants as RestoreError;
+ghost use Rattle.mesa_catalog_records.specs.mesa_catalog_table.Meaning.{IsTable, meta_of};
 ghost use Rattle.mesa_catalog.specs.Kept.{unreserved};
-ghost use Rattle.mesa_catalog.specs.Meaning.{catalogue_of};
-ghost use Rattle.mesa_catalog.specs.Restored.{table_names};
 
 use crate::Catalog;
-use crate::catalog_tables::{CatalogTables, MAX_TABLES};
-use crate::fitting::MAX_RUNS;
 use crate::restored_ids::greatest_id;
+use mesa_catalog_records::{
+    CatalogTables, Checkpoint, CheckpointTable, MAX_RUNS, MAX_TABLES, NoRows, RestoreError, Table,
+    restore,
+};
 use mesa_disk::Area;
-use mesa_list::{Items, TryCopy};
-use mesa_record::{Checkpoint, CheckpointTable};
-use mesa_schema::{Name, repeated_place};
-use mesa_table_records::{NoRows, RestoreError, Table, restore};
+use mesa_list::Items;
 use std::alloc::{AllocError, Global};
 use std::collections::VecDeque;
 
@@ -117,34 +114,4 @@ fn restore_tables(
         tables.push(restore(alloc, floor, next, table)?)?;
     }
     Ok(tables)
-}
-
-impl CatalogTables {
-    // Whether no two tables or views have the same name. There are at most 32 tables with 8 views each, so that one look at the names before each is fast.
-    fn names_differ(&self, alloc: Global) -> Result<bool, AllocError>
-        ensures { IfOk result (λ differ. differ ≡ all_differ (catalogue_of self.now)) }
-    {
-        let names = names_of(alloc, &self.tables)?;
-        Ok(repeated_place(&names).is_none())
-    }
-}
-
-fn names_of(alloc: Global, tables: &[Table]) -> Result<Vec<Name>, AllocError>
-    ensures { IfOk result (λ names. names.items ≡ flat_map table_names tables.now) }
-{
-    let mut names = Vec::new(alloc);
-    for table in tables {
-        push_names(table, &mut names)?;
-    }
-    Ok(names)
-}
-
-fn push_names(table: &Table, names: &mut Vec<Name>) -> Result<(), AllocError>
-    ensures { OnOk result (names.new.items ≡ names.old.items ++ table_names table.now) }
-{
-    names.push(table.name.copy()?)?;
-    for view in 0..table.evolving.views() {
-        names.push(table.evolving.view_name(view).copy()?)?;
-    }
-    Ok(())
 }

@@ -1,14 +1,13 @@
 // The checkpoint of a catalogue.
 ghost use Rattle.std.specs.Prelude.{◌≡◌, ◌<◌, ◌^◌, ℕ, IfOk, map};
 ghost use Rattle.std.specs.List.{AllByRecursion};
-ghost use Rattle.mesa_record.specs.declared.record.Record.TheVariants as record_of;
-ghost use Rattle.mesa_table_records.specs.mesa_store_spec.Checkpoint.{checkpoint_of, stating_table};
-ghost use Rattle.mesa_table_records.specs.mesa_catalog_table.Meaning.{IsTable, meta_of};
+ghost use Rattle.mesa_catalog_records.specs.mesa_record.declared.record.Record.TheVariants as record_of;
+ghost use Rattle.mesa_catalog_records.specs.mesa_store_spec.Checkpoint.{checkpoint_of, stating_table};
+ghost use Rattle.mesa_catalog_records.specs.mesa_catalog_table.Meaning.{IsTable, meta_of};
 
 use crate::Catalog;
+use mesa_catalog_records::{Checkpoint, CheckpointTable, Record, Table, state};
 use mesa_list::Items;
-use mesa_record::{Checkpoint, CheckpointTable, Record};
-use mesa_table_records::{Table, state};
 use std::alloc::{AllocError, Global};
 
 impl Catalog {

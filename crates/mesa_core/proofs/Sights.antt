@@ -11,7 +11,7 @@ use Rattle.mesa_disk.specs.Story.{Story}
 use Rattle.mesa_core.specs.Known.{lineage_in}
 use Rattle.mesa_recast_turns.specs.mesa_history_spec.Run.{State}
 use Rattle.mesa_engine.specs.mesa_store_spec.Catalog.{Catalog, no_meta, meta_at}
-use Rattle.mesa_recast_turns.proofs.mesa_catalog.TableMetas.{all_at}
+use Rattle.mesa_recast_turns.proofs.mesa_catalog_records.TableMetas.{all_at}
 use Rattle.mesa_engine.specs.mesa_store_spec.Shape.{IsShaped}
 use Rattle.mesa_engine.specs.EngineState.{EngineState, projections}
 use Rattle.mesa_engine.specs.Vault.{Starts, IsVault, IsVaultAt, outset_of}

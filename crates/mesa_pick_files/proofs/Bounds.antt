@@ -23,7 +23,7 @@ use Rattle.mesa_validate.specs.mesa_filter.Query.{are_places}
 use Rattle.mesa_query.specs.mesa_answer.Answering.{KeepsSums}
 use Rattle.mesa_query.proofs.mesa_answer.Bounds.{bound_regrouped, full_regrouped}
 use Rattle.mesa_query.proofs.mesa_answer.Picked.{chosen-map}
-use Rattle.mesa_validate.proofs.mesa_catalog.Loads.{found_passes}
+use Rattle.mesa_validate.proofs.mesa_catalog_records.Loads.{found_passes}
 use Rattle.mesa_delta.specs.declared.input.Input.{Input}
 use Rattle.mesa_disk.specs.Image.{Image}
 use Rattle.mesa_validate.specs.mesa_store_spec.Catalog.{Delta, TableMeta}

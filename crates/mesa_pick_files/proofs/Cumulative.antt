@@ -7,7 +7,7 @@ use Rattle.mesa_schema.specs.Changes.{columns_of}
 use Rattle.mesa_schema.specs.Folded.{folded}
 use Rattle.mesa_schema.proofs.Lists.{all_found}
 use Rattle.mesa_schema.proofs.Refolds.{refolded}
-use Rattle.mesa_validate.proofs.mesa_catalog.Loads.{found_passes}
+use Rattle.mesa_validate.proofs.mesa_catalog_records.Loads.{found_passes}
 use Rattle.mesa_span.specs.Plan.{longest}
 use Rattle.mesa_span.proofs.Longest.{longest_is}
 use Rattle.mesa_span.proofs.Reachable.{reachable_in_order}

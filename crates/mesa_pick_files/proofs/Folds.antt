@@ -20,7 +20,7 @@ use Rattle.mesa_schema.proofs.GroupedFolds.{groups_folded}
 use Rattle.mesa_schema.proofs.Lists.{all_found}
 use Rattle.mesa_schema.proofs.Passing.{passed_first}
 use Rattle.mesa_query.proofs.mesa_answer.Picked.{chosen-map}
-use Rattle.mesa_validate.proofs.mesa_catalog.Loads.{found_passes}
+use Rattle.mesa_validate.proofs.mesa_catalog_records.Loads.{found_passes}
 use Rattle.mesa_validate.specs.mesa_store_spec.Catalog.{Delta}
 use Rattle.mesa_validate.specs.mesa_store_spec.Contents.{Rows, present, rows_if_any}
 use Rattle.mesa_validate.specs.mesa_store_spec.Sound.{AreGrouped, IsGrouped, IsGroupedAs}

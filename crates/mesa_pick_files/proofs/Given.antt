@@ -8,7 +8,7 @@ use Rattle.mesa_schema.specs.Columns.{Columns}
 use Rattle.mesa_schema.specs.declared.rows.Row.{Row}
 use Rattle.mesa_schema.specs.declared.views.View.{View}
 use Rattle.mesa_schema.proofs.Lists.{all_found}
-use Rattle.mesa_validate.proofs.mesa_catalog.Loads.{found_passes}
+use Rattle.mesa_validate.proofs.mesa_catalog_records.Loads.{found_passes}
 use Rattle.mesa_query.specs.mesa_block.Layout.{Layout}
 use Rattle.mesa_delta.specs.File.{IsFile, file_bytes}
 use Rattle.mesa_delta.specs.Spread.{blocks_of}
@@ -19,8 +19,7 @@ use Rattle.mesa_validate.specs.mesa_store_spec.Contents.{Rows}
 use Rattle.mesa_validate.specs.mesa_store_spec.Fitting.{LiveFile, columns_seen, delta_live, files_live, view_live}
 use Rattle.mesa_validate.specs.mesa_store_spec.Sound.{IsTold, bytes_of}
 use Rattle.mesa_validate.proofs.mesa_store_spec.Lists.{all_unmap, is_equal}
-use Rattle.mesa_query.specs.mesa_merge.Inputs.{AreTold, known_of, knowns_of}
-use Rattle.mesa_query.specs.mesa_merge.Inputs.{IsTold as IsToldInput}
+use Rattle.mesa_query.specs.mesa_merge.Inputs.{AreTold, known_of, knowns_of, IsTold as IsToldInput}
 use Rattle.mesa_pick_files.specs.Read.{own_file, relation_read, view_read}
 use Rattle.mesa_pick_files.specs.Told.{parts_known}
 use Rattle.mesa_pick_files.proofs.Reading.{IsThere}

@@ -1,4 +1,4 @@
-pub use Rattle.mesa_validate.proofs.mesa_catalog as mesa_catalog
+pub use Rattle.mesa_validate.proofs.mesa_catalog_records as mesa_catalog_records
 pub use Rattle.mesa_schema.proofs as mesa_schema
 pub use Rattle.mesa_span.proofs as mesa_span
 pub mod Parted

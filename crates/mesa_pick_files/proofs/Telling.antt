@@ -29,7 +29,7 @@ use Rattle.mesa_validate.specs.mesa_store_spec.Planned.{planned}
 use Rattle.mesa_validate.proofs.mesa_store_spec.Formed.{all_formed, rows_formed}
 use Rattle.mesa_validate.proofs.mesa_store_spec.Lists.{all_unflat, all_unmap, both_true}
 use Rattle.mesa_validate.proofs.mesa_store_spec.Plans.{planned_folds}
-use Rattle.mesa_validate.proofs.mesa_catalog.TableMetas.{all_at}
+use Rattle.mesa_validate.proofs.mesa_catalog_records.TableMetas.{all_at}
 use Rattle.mesa_query.specs.mesa_merge.Inputs.{Known, knowns_of}
 use Rattle.mesa_pick_files.specs.Read.{IsPinnedFor, relation_read, view_read}
 use Rattle.mesa_pick_files.specs.Told.{AreOfRelation, TellContent, Tells, parts_known, parts_under}

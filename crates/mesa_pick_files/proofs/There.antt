@@ -9,7 +9,7 @@ use Rattle.mesa_list.specs.Bytes.{same_bytes}
 use Rattle.mesa_schema.specs.Changes.{Lineage}
 use Rattle.mesa_schema.specs.Columns.{place_of}
 use Rattle.mesa_schema.specs.declared.views.View.{View}
-use Rattle.mesa_validate.specs.mesa_catalog.Lookups.{relation_from, relation_of}
+use Rattle.mesa_validate.specs.mesa_catalog_records.Names.{relation_from, relation_of}
 use Rattle.mesa_validate.specs.mesa_store_spec.Catalog.{Catalog, TableMeta, no_meta, meta_at}
 use Rattle.mesa_pick_files.proofs.Reading.{IsThere}
 use Rattle.mesa_catalog_table.specs.Lookups.{relation_in, view_names}

@@ -1,5 +1,6 @@
 pub use Rattle.mesa_query.specs.mesa_answer as mesa_answer
 pub use Rattle.mesa_query.specs.mesa_block as mesa_block
+pub use Rattle.mesa_validate.specs.mesa_catalog_records as mesa_catalog_records
 pub use Rattle.mesa_catalog_table.specs as mesa_catalog_table
 pub use Rattle.mesa_validate.specs.mesa_commit as mesa_commit
 pub use Rattle.mesa_delta.specs as mesa_delta

@@ -1,4 +1,4 @@
-pub use Rattle.mesa_pick_files.proofs.mesa_catalog as mesa_catalog
+pub use Rattle.mesa_pick_files.proofs.mesa_catalog_records as mesa_catalog_records
 pub mod Looks
 pub mod Pins
 pub mod Plans

@@ -7,8 +7,8 @@ use Rattle.mesa_read_turns.specs.Seeing.{catalogue_asked, pinned_asked}
 use Rattle.mesa_pick_files.proofs.Contents.{HasContents, kept_catalog, pinned_contents, present_contents}
 use Rattle.mesa_read_turns.proofs.Sees.{asked_there}
 use Rattle.mesa_read_turns.proofs.Versions.{common_most, version_there}
-use Rattle.mesa_pick_files.proofs.mesa_catalog.Loads.{find_mapped, found_holds}
-use Rattle.mesa_pick_files.proofs.mesa_catalog.TableMetas.{all_at}
+use Rattle.mesa_pick_files.proofs.mesa_catalog_records.Loads.{find_mapped, found_holds}
+use Rattle.mesa_pick_files.proofs.mesa_catalog_records.TableMetas.{all_at}
 use Rattle.mesa_filter.specs.declared.words.QueryWords.{QueryWords}
 use Rattle.mesa_filter.specs.declared.words.VersionWord.{VersionWord}
 use Rattle.mesa_filter.specs.declared.words.VersionWord.TheVariants as asks

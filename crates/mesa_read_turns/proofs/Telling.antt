@@ -8,8 +8,8 @@ use Rattle.mesa_pick_files.proofs.Contents.{columns_found, seen_columns, seen_co
 use Rattle.mesa_read_turns.proofs.Opens.{Answers, one_answer, opened_from}
 use Rattle.mesa_read_turns.proofs.States.{sees_state, version_range}
 use Rattle.mesa_pick_files.proofs.There.{name_there}
-use Rattle.mesa_pick_files.proofs.mesa_catalog.Loads.{found_holds}
-use Rattle.mesa_pick_files.proofs.mesa_catalog.TableMetas.{all_at}
+use Rattle.mesa_pick_files.proofs.mesa_catalog_records.Loads.{found_holds}
+use Rattle.mesa_pick_files.proofs.mesa_catalog_records.TableMetas.{all_at}
 use Rattle.mesa_engine.specs.mesa_commit.Images.{Has}
 use Rattle.mesa_disk.specs.Image.{Image}
 use Rattle.mesa_disk.specs.Story.{Story, Unmoved}

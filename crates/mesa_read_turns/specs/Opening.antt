@@ -3,7 +3,7 @@ use Rattle.std.specs.Prelude.{◌≡◌, ℕ, List, map, Bool, false, Option, No
 use Rattle.mesa_binding.specs.declared.failure.Failure.{Failure as AskedFailure}
 use Rattle.mesa_binding.specs.declared.failure.Failure.TheVariants as asked
 use Rattle.mesa_read_turns.specs.Seeing.{catalogue_asked, pinned_asked}
-use Rattle.mesa_engine.specs.mesa_catalog.Lookups.{relation_of}
+use Rattle.mesa_pick_files.specs.mesa_catalog_records.Names.{relation_of}
 use Rattle.mesa_disk.specs.Image.{Image}
 use Rattle.mesa_filter.specs.Filter.{are_within}
 use Rattle.mesa_filter.specs.Query.{BuiltQuery, IsQueryOf, group_kinds}

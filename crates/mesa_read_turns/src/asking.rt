@@ -3,7 +3,7 @@ ghost use Rattle.std.specs.Prelude.{◌≡◌, None, Ok, Some, IfErr, IfOk};
 ghost use Rattle.mesa_binding.specs.Told.{IsDue};
 ghost use Rattle.mesa_binding.specs.declared.failure.Failure.TheVariants.{Memory as WantOfMemory};
 ghost use Rattle.mesa_read_turns.specs.Seeing.{catalogue_asked, pinned_asked};
-ghost use Rattle.mesa_engine.specs.mesa_catalog.Lookups.{relation_of};
+ghost use Rattle.mesa_pick_files.specs.mesa_catalog_records.Names.{relation_of};
 ghost use Rattle.mesa_filter.specs.Query.{IsQueryOf};
 ghost use Rattle.mesa_engine.specs.EngineState.{books_of};
 ghost use Rattle.mesa_model.specs.Query.{query_answer};

@@ -1,4 +1,4 @@
-pub use Rattle.mesa_work_turns.proofs.mesa_catalog as mesa_catalog
+pub use Rattle.mesa_work_turns.proofs.mesa_catalog_records as mesa_catalog_records
 pub use Rattle.mesa_work_turns.proofs.mesa_copy as mesa_copy
 pub use Rattle.mesa_work_turns.proofs.mesa_file_records as mesa_file_records
 pub use Rattle.mesa_work_turns.proofs.mesa_invariant_spec as mesa_invariant_spec

@@ -19,8 +19,9 @@ use Rattle.mesa_store_spec.specs.Shape.{IsCatalog, IsShaped}
 use Rattle.mesa_store_spec.specs.Sound.{HasSoundRows}
 use Rattle.mesa_store_spec.specs.Planned.{planned}
 use Rattle.mesa_store_spec.proofs.Lists.{all_unflat}
-use Rattle.mesa_catalog.specs.Lookups.{known_as, relation_of as place_named}
-use Rattle.mesa_catalog.proofs.TableMetas.{all_at}
+use Rattle.mesa_catalog.specs.Lookups.{known_as}
+use Rattle.mesa_pick_files.specs.mesa_catalog_records.Names.{relation_of as place_named}
+use Rattle.mesa_pick_files.proofs.mesa_catalog_records.TableMetas.{all_at}
 use Rattle.mesa_recover.specs.Opening.{IsSoundStart}
 use Rattle.mesa_pick_files.specs.Files.{want_in}
 use Rattle.mesa_pick_files.proofs.Among.{all_planned}

@@ -6,7 +6,7 @@ ghost use Rattle.mesa_disk.specs.Story.{Unmoved};
 ghost use Rattle.mesa_filter.specs.Query.{IsQueryOf};
 ghost use Rattle.mesa_store_spec.specs.Catalog.{meta_at};
 ghost use Rattle.mesa_query.specs.mesa_scan.Cursors.{reader_in};
-ghost use Rattle.mesa_catalog.specs.Lookups.{relation_of};
+ghost use Rattle.mesa_pick_files.specs.mesa_catalog_records.Names.{relation_of};
 ghost use Rattle.mesa_open_files.specs.GivingBack.{pinned_inputs};
 ghost use Rattle.mesa_validate.specs.Found.{columns_at};
 ghost use Rattle.mesa_store_digest.specs.Latest.{HasLookReason, IsLatest, all_asked};

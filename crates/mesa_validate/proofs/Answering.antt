@@ -27,7 +27,8 @@ use Rattle.mesa_model.specs.Relations.{Relation, relation_columns, relation_cont
 use Rattle.mesa_model.specs.Warehouse.{Store, Table, Warehouse, no_table, table_at}
 use Rattle.mesa_catalog.specs.mesa_store_spec.Catalog.{TableMeta, Catalog, no_meta, meta_at}
 use Rattle.mesa_catalog.specs.mesa_catalog_table.declared.relation.Relation.{Relation as Place}
-use Rattle.mesa_catalog.specs.Lookups.{known_as, relation_from as place_from, relation_of as place_named}
+use Rattle.mesa_catalog.specs.Lookups.{known_as}
+use Rattle.mesa_catalog.specs.mesa_catalog_records.Names.{relation_from as place_from, relation_of as place_named}
 use Rattle.mesa_catalog.specs.mesa_catalog_table.Lookups.{view_names}
 use Rattle.mesa_binding.specs.declared.failure.Failure.{Failure}
 use Rattle.mesa_binding.specs.Built.{IsBuiltOf}

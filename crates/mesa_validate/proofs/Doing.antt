@@ -25,8 +25,8 @@ use Rattle.mesa_model.specs.Versions.{expire_all, expire_table, store_from, tabl
 use Rattle.mesa_model.specs.Warehouse.{Warehouse, max_tables, table_at, with_table}
 use Rattle.mesa_catalog.specs.mesa_store_spec.Catalog.{TableMeta, Catalog, no_meta, meta_at}
 use Rattle.mesa_catalog.specs.mesa_store_spec.Fitting.{names_in}
-use Rattle.mesa_catalog.specs.Lookups.{relation_of}
-use Rattle.mesa_catalog.proofs.Relations.{known_name}
+use Rattle.mesa_catalog.specs.mesa_catalog_records.Names.{relation_of}
+use Rattle.mesa_catalog.proofs.mesa_catalog_records.Relations.{known_name}
 use Rattle.mesa_binding.specs.declared.failure.Failure.{Failure}
 use Rattle.mesa_binding.specs.declared.failure.Failure.TheVariants.{Memory, Refused}
 use Rattle.mesa_binding.specs.Asked.{change_allowed, columns_checked, more_views_checked}

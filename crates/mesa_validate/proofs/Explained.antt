@@ -22,7 +22,7 @@ use Rattle.mesa_model.specs.Warehouse.{Table, Warehouse, table_at}
 use Rattle.mesa_catalog.specs.mesa_history_spec.Machine.{Machine, explained, ranges_at}
 use Rattle.mesa_catalog.specs.mesa_store_spec.Catalog.{Catalog, no_meta, ranges_of, meta_at}
 use Rattle.mesa_catalog.specs.mesa_catalog_table.declared.relation.Relation.{Relation as Place}
-use Rattle.mesa_catalog.specs.Lookups.{relation_of as place_named}
+use Rattle.mesa_catalog.specs.mesa_catalog_records.Names.{relation_of as place_named}
 use Rattle.mesa_binding.specs.declared.failure.Failure.{Failure}
 use Rattle.mesa_binding.specs.declared.failure.Failure.TheVariants as failure
 use Rattle.mesa_binding.specs.Told.{IsDue}

@@ -8,7 +8,7 @@ use Rattle.mesa_schema.specs.Columns.{place_of}
 use Rattle.mesa_catalog.specs.mesa_store_spec.Catalog.{Catalog, no_meta, meta_at}
 use Rattle.mesa_catalog.specs.mesa_catalog_table.declared.relation.Relation.{Relation}
 use Rattle.mesa_catalog.specs.mesa_catalog_table.Lookups.{relation_in, view_names}
-use Rattle.mesa_catalog.specs.Lookups.{relation_from}
+use Rattle.mesa_catalog.specs.mesa_catalog_records.Names.{relation_from}
 
 -- no table is left
 pub found_nowhere : (c : Catalog) (name : List ℕ) (number : ℕ) → length c.tables ≤ number → relation_from number name (drop number c.tables) ≡ None

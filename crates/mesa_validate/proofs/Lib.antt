@@ -1,5 +1,5 @@
 pub use Rattle.mesa_catalog.proofs.mesa_batch as mesa_batch
-pub use Rattle.mesa_catalog.proofs as mesa_catalog
+pub use Rattle.mesa_catalog.proofs.mesa_catalog_records as mesa_catalog_records
 pub use Rattle.mesa_order.proofs as mesa_order
 pub use Rattle.mesa_catalog.proofs.mesa_store_spec as mesa_store_spec
 pub mod Doing

@@ -23,8 +23,9 @@ use Rattle.mesa_model.specs.Versions.{common_oldest, oldest_among, version_asked
 use Rattle.mesa_model.specs.Warehouse.{max_pins, Table, Warehouse, no_table, table_at}
 use Rattle.mesa_catalog.specs.mesa_store_spec.Catalog.{TableMeta, Catalog, no_meta, meta_at}
 use Rattle.mesa_catalog.specs.mesa_store_spec.Fitting.{names_in}
-use Rattle.mesa_catalog.specs.Lookups.{known_as, relation_of}
-use Rattle.mesa_catalog.proofs.Relations.{known_name}
+use Rattle.mesa_catalog.specs.Lookups.{known_as}
+use Rattle.mesa_catalog.specs.mesa_catalog_records.Names.{relation_of}
+use Rattle.mesa_catalog.proofs.mesa_catalog_records.Relations.{known_name}
 use Rattle.mesa_validate.specs.Found.{of_catalog, without_rows}
 use Rattle.mesa_validate.specs.Seen.{HasCatalog, greatest_in, known_of, number_of}
 

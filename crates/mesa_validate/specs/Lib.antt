@@ -1,5 +1,6 @@
 pub use Rattle.mesa_catalog.specs.mesa_batch as mesa_batch
 pub use Rattle.mesa_catalog.specs as mesa_catalog
+pub use Rattle.mesa_catalog.specs.mesa_catalog_records as mesa_catalog_records
 pub use Rattle.mesa_catalog.specs.mesa_commit as mesa_commit
 pub use Rattle.mesa_filter.specs as mesa_filter
 pub use Rattle.mesa_catalog.specs.mesa_history_spec as mesa_history_spec

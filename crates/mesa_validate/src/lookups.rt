@@ -2,7 +2,7 @@
 ghost use Rattle.std.specs.Prelude.{◌≡◌, ◌<◌, IfSome, length};
 ghost use Rattle.mesa_schema.specs.Columns.{place_of};
 ghost use Rattle.mesa_catalog.specs.mesa_store_spec.Catalog.{meta_at};
-ghost use Rattle.mesa_catalog.specs.Lookups.{relation_of};
+ghost use Rattle.mesa_catalog.specs.mesa_catalog_records.Names.{relation_of};
 ghost use Rattle.mesa_catalog.specs.mesa_catalog_table.Lookups.{view_names};
 ghost use Rattle.mesa_validate.specs.Seen.{number_of};
 

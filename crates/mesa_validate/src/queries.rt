@@ -5,7 +5,7 @@ ghost use Rattle.mesa_filter.specs.Query.{IsQueryOf};
 ghost use Rattle.mesa_model.specs.Query.{query_answer};
 ghost use Rattle.mesa_model.specs.Warehouse.{Warehouse};
 ghost use Rattle.mesa_catalog.specs.mesa_store_spec.Catalog.{meta_at};
-ghost use Rattle.mesa_catalog.specs.Lookups.{relation_of};
+ghost use Rattle.mesa_catalog.specs.mesa_catalog_records.Names.{relation_of};
 ghost use Rattle.mesa_binding.specs.Told.{IsDue};
 ghost use Rattle.mesa_validate.specs.Found.{IsAnswered, IsFound, Sees, columns_at, version_in};
 

@@ -1,7 +1,6 @@
 -- How the grant of a work or a recast keeps a vault.
 use Rattle.std.proofs.Common.{◌≡◌, ◌∙◌, ℕ, ◌<◌, ◌^◌, ◌≤◌, ◌+◌, List, [], ◌∷◌, ◌++◌, length, Bool, true, false, ◌||◌, not, sym, ap, subst, arith, Option, None, Some, Result, Ok, Err, inl, inr, refl}
-use Rattle.std.specs.Prelude.{vec_capacity}
-use Rattle.std.specs.Prelude.{◌⊎◌}
+use Rattle.std.specs.Prelude.{vec_capacity, ◌⊎◌}
 use Rattle.std.proofs.lemmas.Bool.Decides.{leb_tells}
 use Rattle.std.proofs.lemmas.List.{length-map}
 use Rattle.mesa_io.specs.Causes.{Rose, last}
@@ -14,7 +13,7 @@ use Rattle.mesa_write_turns.specs.mesa_history_spec.Run.{First, Granted, Finishe
 use Rattle.mesa_write_turns.specs.mesa_history_spec.Turns.{IsDue}
 use Rattle.mesa_engine.specs.mesa_store_spec.Catalog.{Catalog, no_meta, meta_at}
 use Rattle.mesa_engine.specs.mesa_store_spec.Shape.{IsCatalog, IsShaped}
-use Rattle.mesa_read_turns.proofs.mesa_catalog.TableMetas.{all_at}
+use Rattle.mesa_read_turns.proofs.mesa_catalog_records.TableMetas.{all_at}
 use Rattle.mesa_lease.specs.Book.{granted}
 use Rattle.mesa_model.specs.Warehouse.{Warehouse}
 use Rattle.mesa_model.specs.declared.commands.Command.{Command}

@@ -1,4 +1,4 @@
-pub use Rattle.mesa_read_turns.proofs.mesa_catalog as mesa_catalog
+pub use Rattle.mesa_read_turns.proofs.mesa_catalog_records as mesa_catalog_records
 pub use Rattle.mesa_engine.proofs.mesa_commit as mesa_commit
 pub use Rattle.mesa_copy.proofs as mesa_copy
 pub use Rattle.mesa_write_turns.proofs.mesa_file_records as mesa_file_records

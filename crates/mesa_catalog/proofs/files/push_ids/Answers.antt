@@ -1,9 +1,9 @@
 use Rattle.std.proofs.Common.{◌++◌, ◌-◌, ◌^◌, ◌∙◌, ap, sym, subst, arith}
-use Rattle.mesa_table_records.specs.mesa_catalog_table.Meaning.{IsTable}
-use Rattle.mesa_table_records.specs.mesa_catalog_table.Named.{table_ids}
-use Rattle.mesa_table_records.proofs.mesa_catalog_table.Pushes.{pushed_more}
-use Rattle.mesa_catalog.proofs.Dropped.{all_held}
-use Rattle.mesa_catalog.proofs.TableMetas.{all_at}
+use Rattle.mesa_catalog_records.specs.mesa_catalog_table.Meaning.{IsTable}
+use Rattle.mesa_catalog_records.specs.mesa_catalog_table.Named.{table_ids}
+use Rattle.mesa_catalog_records.proofs.mesa_catalog_table.Pushes.{pushed_more}
+use Rattle.mesa_catalog_records.proofs.Dropped.{all_held}
+use Rattle.mesa_catalog_records.proofs.TableMetas.{all_at}
 use Rattle.mesa_catalog.proofs.files.push_ids.Goals as goal
 
 pub loop-table-preserved : goal.loop-table-preserved

@@ -1,6 +1,6 @@
 use Rattle.std.proofs.Common.{◌≡◌, ◌++◌, take}
 use Rattle.std.specs.Prelude.{flat_map}
-use Rattle.mesa_table_records.specs.mesa_catalog_table.Named.{table_ids}
+use Rattle.mesa_catalog_records.specs.mesa_catalog_table.Named.{table_ids}
 use Rattle.mesa_catalog.proofs.files.push_ids.Given as goal
 
 -- the ids of the tables so far

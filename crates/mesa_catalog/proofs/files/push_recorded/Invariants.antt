@@ -1,9 +1,9 @@
 use Rattle.std.proofs.Common.{◌≡◌, ℕ, ◌++◌, map, take}
 use Rattle.std.specs.Prelude.{flat_map}
-use Rattle.mesa_table_records.specs.mesa_store_spec.Fitting.{meta_live}
-use Rattle.mesa_table_records.specs.mesa_catalog_table.declared.table.Table.{Table}
-use Rattle.mesa_table_records.specs.mesa_catalog_table.Files.{recorded_of}
-use Rattle.mesa_table_records.specs.mesa_catalog_table.Meaning.{meta_of}
+use Rattle.mesa_catalog_records.specs.mesa_store_spec.Fitting.{meta_live}
+use Rattle.mesa_catalog_records.specs.mesa_catalog_table.declared.table.Table.{Table}
+use Rattle.mesa_catalog_records.specs.mesa_catalog_table.Files.{recorded_of}
+use Rattle.mesa_catalog_records.specs.mesa_catalog_table.Meaning.{meta_of}
 use Rattle.mesa_catalog.proofs.files.push_recorded.Given as goal
 
 -- the files of the tables so far

@@ -2,13 +2,13 @@ use Rattle.std.proofs.Common.{ℕ, ◌++◌, ◌∙◌, ◌≤◌, ap, sym, subs
 use Rattle.std.specs.Prelude.{◌==◌, ◌&&◌, flat_map, nat_le, is_some, IfSome}
 use Rattle.std.specs.List.{AllByRecursion, list_all}
 use Rattle.std.proofs.lemmas.List.Sorted.{IsNonDecreasingBy-from_sort_by_key}
-use Rattle.mesa_table_records.specs.mesa_store_spec.Fitting.{run_of_id}
-use Rattle.mesa_table_records.specs.mesa_store_spec.Ids.{named, times}
-use Rattle.mesa_table_records.specs.mesa_catalog_table.Meaning.{IsTable}
-use Rattle.mesa_table_records.specs.mesa_catalog_table.Named.{table_ids}
-use Rattle.mesa_catalog.specs.Meaning.{catalogue_of}
+use Rattle.mesa_catalog_records.specs.mesa_store_spec.Fitting.{run_of_id}
+use Rattle.mesa_catalog_records.specs.mesa_store_spec.Ids.{named, times}
+use Rattle.mesa_catalog_records.specs.mesa_catalog_table.Meaning.{IsTable}
+use Rattle.mesa_catalog_records.specs.mesa_catalog_table.Named.{table_ids}
+use Rattle.mesa_catalog_records.specs.Meaning.{catalogue_of}
 use Rattle.mesa_catalog.specs.Restored.{ids_rise}
-use Rattle.mesa_catalog.proofs.Ids.{named_held}
+use Rattle.mesa_catalog_records.proofs.Ids.{named_held}
 use Rattle.mesa_catalog.proofs.RestoredIds.{ids_decided, ids_refused, if_then_some, some_then}
 use Rattle.mesa_catalog.proofs.restored_ids.greatest_id.Goals as goal
 

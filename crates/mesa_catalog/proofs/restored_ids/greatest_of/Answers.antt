@@ -1,8 +1,8 @@
 use Rattle.std.proofs.Common.{◌≤◌, ◌++◌, ◌∷◌, [], ◌∙◌, ap, sym, subst, arith, take}
 use Rattle.std.specs.List.{AllByRecursion}
 use Rattle.std.proofs.lemmas.List.{take_more}
-use Rattle.mesa_catalog.proofs.Ids.{all_below}
-use Rattle.mesa_catalog.proofs.TableMetas.{all_pushed}
+use Rattle.mesa_catalog_records.proofs.Ids.{all_below}
+use Rattle.mesa_catalog_records.proofs.TableMetas.{all_pushed}
 use Rattle.mesa_catalog.proofs.restored_ids.greatest_of.Goals as goal
 
 pub loop-id-preserved : goal.loop-id-preserved

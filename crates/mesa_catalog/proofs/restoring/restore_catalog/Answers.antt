@@ -1,9 +1,9 @@
 use Rattle.std.proofs.Common.{ℕ, ◌∙◌, ◌≤◌, refl, ap, subst, sym}
 use Rattle.std.specs.Prelude.{is_some, IfSome}
 use Rattle.std.specs.List.{AllByRecursion}
-use Rattle.mesa_table_records.specs.mesa_store_spec.Ids.{named}
-use Rattle.mesa_catalog.specs.declared.catalog_tables.CatalogTables.{CatalogTables}
-use Rattle.mesa_catalog.specs.Meaning.{catalogue_of}
+use Rattle.mesa_catalog_records.specs.mesa_store_spec.Ids.{named}
+use Rattle.mesa_catalog_records.specs.declared.catalog_tables.CatalogTables.{CatalogTables}
+use Rattle.mesa_catalog_records.specs.Meaning.{catalogue_of}
 use Rattle.mesa_catalog.proofs.Restored.{AreRestored, kept_restored, catalog_tables_restored}
 use Rattle.mesa_catalog.proofs.restoring.restore_catalog.Goals as goal
 

@@ -2,11 +2,11 @@ use Rattle.std.proofs.Common.{◌≡◌, [], ◌∙◌, ap, sym, subst, arith}
 use Rattle.std.specs.List.{AllByRecursion, list_all}
 use Rattle.std.proofs.lemmas.Result.{err_from_is_err_and}
 use Rattle.std.proofs.lemmas.List.{nil_from_length}
-use Rattle.mesa_table_records.specs.mesa_store_spec.Checkpoint.{meta_stated}
-use Rattle.mesa_table_records.specs.mesa_store_spec.CheckpointFits.{table_fits}
-use Rattle.mesa_table_records.specs.mesa_catalog_table.Meaning.{IsTable, meta_of}
-use Rattle.mesa_table_records.proofs.Taken.{first_fails, first_passes, moved_all, moved_on}
-use Rattle.mesa_catalog.proofs.TableMetas.{all_pushed}
+use Rattle.mesa_catalog_records.specs.mesa_store_spec.Checkpoint.{meta_stated}
+use Rattle.mesa_catalog_records.specs.mesa_store_spec.CheckpointFits.{table_fits}
+use Rattle.mesa_catalog_records.specs.mesa_catalog_table.Meaning.{IsTable, meta_of}
+use Rattle.mesa_catalog_records.proofs.mesa_table_records.Taken.{first_fails, first_passes, moved_all, moved_on}
+use Rattle.mesa_catalog_records.proofs.TableMetas.{all_pushed}
 use Rattle.mesa_catalog.proofs.restoring.restore_tables.Goals as goal
 
 pub tables-preserved : goal.tables-preserved

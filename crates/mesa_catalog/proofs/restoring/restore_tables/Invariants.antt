@@ -1,9 +1,9 @@
 use Rattle.std.proofs.Common.{◌≡◌, ◌++◌, map}
 use Rattle.std.specs.VecDeque.{deque_len}
 use Rattle.std.specs.List.{AllByRecursion, list_all}
-use Rattle.mesa_table_records.specs.mesa_store_spec.Checkpoint.{meta_stated}
-use Rattle.mesa_table_records.specs.mesa_store_spec.CheckpointFits.{table_fits}
-use Rattle.mesa_table_records.specs.mesa_catalog_table.Meaning.{IsTable, meta_of}
+use Rattle.mesa_catalog_records.specs.mesa_store_spec.Checkpoint.{meta_stated}
+use Rattle.mesa_catalog_records.specs.mesa_store_spec.CheckpointFits.{table_fits}
+use Rattle.mesa_catalog_records.specs.mesa_catalog_table.Meaning.{IsTable, meta_of}
 use Rattle.mesa_catalog.proofs.restoring.restore_tables.Given as goal
 
 abbrev pub decreases-tables : goal.decreases-tables

@@ -1,9 +1,9 @@
 use Rattle.std.proofs.Common.{◌++◌, ◌∷◌, [], ◌∙◌, ap, sym, subst, map}
 use Rattle.std.proofs.lemmas.List.{take_all}
-use Rattle.mesa_table_records.specs.mesa_store_spec.Checkpoint.{stating_table}
-use Rattle.mesa_table_records.specs.mesa_catalog_table.Meaning.{IsTable, meta_of}
+use Rattle.mesa_catalog_records.specs.mesa_store_spec.Checkpoint.{stating_table}
+use Rattle.mesa_catalog_records.specs.mesa_catalog_table.Meaning.{IsTable, meta_of}
 use Rattle.mesa_catalog.proofs.Restored.{mapped_more}
-use Rattle.mesa_catalog.proofs.TableMetas.{all_at}
+use Rattle.mesa_catalog_records.proofs.TableMetas.{all_at}
 use Rattle.mesa_catalog.proofs.stating.state_tables.Goals as goal
 
 pub state-requires : goal.state-requires

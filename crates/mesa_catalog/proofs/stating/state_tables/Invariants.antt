@@ -1,7 +1,7 @@
 use Rattle.std.proofs.Common.{◌≡◌, ℕ, map, take}
 use Rattle.std.specs.List.{AllByRecursion}
-use Rattle.mesa_table_records.specs.mesa_store_spec.Checkpoint.{stating_table}
-use Rattle.mesa_table_records.specs.mesa_catalog_table.Meaning.{IsTable, meta_of}
+use Rattle.mesa_catalog_records.specs.mesa_store_spec.Checkpoint.{stating_table}
+use Rattle.mesa_catalog_records.specs.mesa_catalog_table.Meaning.{IsTable, meta_of}
 use Rattle.mesa_catalog.proofs.stating.state_tables.Given as goal
 
 -- what is stated of the tables so far

@@ -2,7 +2,7 @@ use Rattle.std.proofs.Common.{◌≡◌, ◌∙◌, ◌<◌, ◌≤◌, ℕ, Lis
 use Rattle.std.specs.Prelude.{IfSome, Option}
 use Rattle.std.specs.List.{AllByRecursion}
 use Rattle.mesa_read_turns.specs.Opening.{read_in}
-use Rattle.mesa_pick_files.proofs.mesa_catalog.TableMetas.{all_at}
+use Rattle.mesa_pick_files.proofs.mesa_catalog_records.TableMetas.{all_at}
 use Rattle.mesa_engine.specs.mesa_store_spec.Catalog.{Catalog, Delta, TableMeta, no_meta, meta_at}
 use Rattle.mesa_engine.specs.mesa_store_spec.Fitting.{deltas_of}
 use Rattle.mesa_engine.specs.mesa_store_spec.Shape.{IsCatalog, IsShaped}

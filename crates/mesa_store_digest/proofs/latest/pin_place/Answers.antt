@@ -1,7 +1,7 @@
 use Rattle.std.proofs.Common.{◌≡◌, ◌+◌, ◌<◌, ◌≤◌, length, ap, ◌∙◌, sym, subst, Some, Err}
 use Rattle.std.specs.Prelude.{IfSome, map}
 use Rattle.std.specs.List.{AllByRecursion}
-use Rattle.mesa_catalog.proofs.TableMetas.{all_at}
+use Rattle.mesa_pick_files.proofs.mesa_catalog_records.TableMetas.{all_at}
 use Rattle.mesa_filter.specs.Query.{IsQueryOf}
 use Rattle.mesa_store_spec.specs.Catalog.{Delta, TableMeta, no_meta, meta_at}
 use Rattle.mesa_store_spec.specs.Fitting.{deltas_of}

@@ -2,7 +2,7 @@ use Rattle.std.proofs.Common.{◌≡◌, ◌∙◌, ap, sym, None, Some, Ok}
 use Rattle.std.proofs.lemmas.Result.{err_from_is_err_and}
 use Rattle.mesa_span.specs.Plan.{plan}
 use Rattle.mesa_model.specs.declared.replies.Reply.TheVariants as reply
-use Rattle.mesa_catalog.specs.Lookups.{relation_of}
+use Rattle.mesa_catalog.specs.mesa_catalog_records.Names.{relation_of}
 use Rattle.mesa_validate.proofs.Explained.{nothing_explained, plan_explained, unexplained, unordered}
 use Rattle.mesa_model.specs.Versions.{version_asked}
 use Rattle.mesa_validate.proofs.Seen.{oldest_there}

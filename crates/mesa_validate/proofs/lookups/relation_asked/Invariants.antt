@@ -1,5 +1,5 @@
 use Rattle.std.proofs.Common.{◌≡◌, drop}
-use Rattle.mesa_catalog.specs.Lookups.{relation_from, relation_of}
+use Rattle.mesa_catalog.specs.mesa_catalog_records.Names.{relation_from, relation_of}
 use Rattle.mesa_validate.proofs.lookups.relation_asked.Given as goal
 
 -- the tables that are left decide

@@ -5,7 +5,7 @@ use Rattle.mesa_list.specs.Checks.{refused_as}
 use Rattle.mesa_schema.specs.Columns.{Columns}
 use Rattle.mesa_filter.specs.Asked.{asked_of}
 use Rattle.mesa_model.specs.Refusals.{query_refusal}
-use Rattle.mesa_catalog.specs.Lookups.{relation_of}
+use Rattle.mesa_catalog.specs.mesa_catalog_records.Names.{relation_of}
 use Rattle.mesa_binding.specs.Told.{IsDue}
 use Rattle.mesa_validate.proofs.Answering.{nothing_found, unasked}
 use Rattle.mesa_validate.proofs.queries.checked_relation.Goals as goal

@@ -5,7 +5,7 @@ use Rattle.mesa_schema.specs.Names.{is_name}
 use Rattle.mesa_record.specs.declared.record.Record.TheVariants as record_of
 use Rattle.mesa_model.specs.declared.replies.Reply.TheVariants as reply
 use Rattle.mesa_model.specs.Warehouse.{max_tables}
-use Rattle.mesa_catalog.specs.Lookups.{relation_of}
+use Rattle.mesa_catalog.specs.mesa_catalog_records.Names.{relation_of}
 use Rattle.mesa_validate.proofs.Doing.{bad_table, full_table, ruled_table, taken_table}
 use Rattle.mesa_validate.proofs.schemas.table.Goals as goal
 

@@ -9,7 +9,7 @@ use Rattle.mesa_schema.specs.Views.{max_views}
 use Rattle.mesa_schema.proofs.LineageRules.{present_schema}
 use Rattle.mesa_record.specs.declared.record.Record.TheVariants as record_of
 use Rattle.mesa_model.specs.declared.replies.Reply.TheVariants as reply
-use Rattle.mesa_catalog.specs.Lookups.{relation_of}
+use Rattle.mesa_catalog.specs.mesa_catalog_records.Names.{relation_of}
 use Rattle.mesa_catalog.specs.mesa_store_spec.Catalog.{meta_at}
 use Rattle.mesa_binding.specs.Asked.{more_views_checked}
 use Rattle.mesa_binding.specs.Told.{IsDue}

@@ -1,5 +1,5 @@
 use Rattle.std.proofs.Common.{◌∙◌, ap}
-use Rattle.mesa_table_records.specs.mesa_store_spec.Fitting.{kind_fits}
+use Rattle.mesa_catalog_records.specs.mesa_store_spec.Fitting.{kind_fits}
 use Rattle.mesa_catalog.specs.Kept.{Reserved}
 use Rattle.mesa_catalog.proofs.catalog.Catalog.allows.Goals as goal
 

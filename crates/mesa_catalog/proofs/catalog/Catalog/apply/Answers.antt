@@ -1,16 +1,16 @@
 use Rattle.std.proofs.Common.{◌≡◌, ◌∙◌, ◌+◌, ◌≤◌, ap, sym, subst}
 use Rattle.std.specs.Prelude.{Option, Some, IfSome, option_map}
-use Rattle.mesa_record.specs.declared.record.Record.{Record}
+use Rattle.mesa_catalog_records.specs.mesa_record.declared.record.Record.{Record}
 use Rattle.std.specs.List.{AllByRecursion}
-use Rattle.mesa_table_records.specs.mesa_store_spec.Catalog.{Catalog}
-use Rattle.mesa_table_records.specs.mesa_store_spec.Ids.{named, times}
+use Rattle.mesa_catalog_records.specs.mesa_store_spec.Catalog.{Catalog}
+use Rattle.mesa_catalog_records.specs.mesa_store_spec.Ids.{named, times}
 use Rattle.mesa_catalog.specs.Kept.{Reserved}
-use Rattle.mesa_catalog.specs.declared.ready.Ready.{Ready}
+use Rattle.mesa_catalog_records.specs.declared.ready.Ready.{Ready}
 use Rattle.mesa_catalog.specs.Lookups.{generation_of, turns_generation}
-use Rattle.mesa_catalog.specs.Meaning.{catalogue_of}
-use Rattle.mesa_catalog.specs.Readied.{IsReady, record_in}
-use Rattle.mesa_catalog.specs.Named.{ids_brought}
-use Rattle.mesa_catalog.proofs.Applies.{kind_of_fits}
+use Rattle.mesa_catalog_records.specs.Meaning.{catalogue_of}
+use Rattle.mesa_catalog_records.specs.Readied.{IsReady, record_in}
+use Rattle.mesa_catalog_records.specs.Named.{ids_brought}
+use Rattle.mesa_catalog_records.proofs.Applies.{kind_of_fits}
 use Rattle.mesa_catalog.proofs.Counted.{still_once}
 use Rattle.mesa_catalog.proofs.Keeping.{most_after}
 use Rattle.mesa_catalog.proofs.Generation.{generation_turned}

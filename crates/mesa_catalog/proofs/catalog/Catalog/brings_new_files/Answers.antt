@@ -1,9 +1,9 @@
 use Rattle.std.proofs.Common.{◌≤◌, ◌∙◌, ap, sym, subst}
 use Rattle.std.specs.List.{AllByRecursion}
-use Rattle.mesa_table_records.specs.mesa_store_spec.Fitting.{brings_new_files}
+use Rattle.mesa_catalog_records.specs.mesa_store_spec.Fitting.{brings_new_files}
 use Rattle.mesa_catalog.specs.Kept.{Reserved}
-use Rattle.mesa_catalog.specs.Named.{held_ids, ids_brought}
-use Rattle.mesa_catalog.proofs.Ids.{brings_held, named_held, rising_new}
+use Rattle.mesa_catalog_records.specs.Named.{held_ids, ids_brought}
+use Rattle.mesa_catalog_records.proofs.Ids.{brings_held, named_held, rising_new}
 use Rattle.mesa_catalog.proofs.catalog.Catalog.brings_new_files.Goals as goal
 
 pub returns-then-brings_rising : goal.returns-then-brings_rising

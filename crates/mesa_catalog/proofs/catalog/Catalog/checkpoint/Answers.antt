@@ -1,8 +1,8 @@
 use Rattle.std.proofs.Common.{◌∙◌, ap, map, sym, subst, arith}
 use Rattle.std.specs.List.{AllByRecursion}
-use Rattle.mesa_record.specs.declared.record.Record.TheVariants as record_of
-use Rattle.mesa_table_records.specs.mesa_store_spec.Checkpoint.{stating_table}
-use Rattle.mesa_table_records.specs.mesa_catalog_table.Meaning.{IsTable, meta_of}
+use Rattle.mesa_catalog_records.specs.mesa_record.declared.record.Record.TheVariants as record_of
+use Rattle.mesa_catalog_records.specs.mesa_store_spec.Checkpoint.{stating_table}
+use Rattle.mesa_catalog_records.specs.mesa_catalog_table.Meaning.{IsTable, meta_of}
 use Rattle.mesa_catalog.specs.Kept.{Reserved}
 use Rattle.mesa_catalog.proofs.catalog.Catalog.checkpoint.Goals as goal
 

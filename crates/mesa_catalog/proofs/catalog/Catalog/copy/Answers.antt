@@ -2,12 +2,12 @@ use Rattle.std.proofs.Common.{◌≡◌, ◌≤◌, ◌∙◌, ap, sym, subst, a
 use Rattle.std.specs.Prelude.{None}
 use Rattle.std.specs.List.{AllByRecursion}
 use Rattle.std.proofs.lemmas.List.{length-map}
-use Rattle.mesa_table_records.specs.mesa_store_spec.Catalog.{Catalog}
-use Rattle.mesa_table_records.specs.mesa_store_spec.Ids.{named, times}
-use Rattle.mesa_table_records.specs.mesa_catalog_table.Meaning.{IsTable, meta_of}
-use Rattle.mesa_catalog.specs.declared.catalog_tables.CatalogTables.{CatalogTables}
+use Rattle.mesa_catalog_records.specs.mesa_store_spec.Catalog.{Catalog}
+use Rattle.mesa_catalog_records.specs.mesa_store_spec.Ids.{named, times}
+use Rattle.mesa_catalog_records.specs.mesa_catalog_table.Meaning.{IsTable, meta_of}
+use Rattle.mesa_catalog_records.specs.declared.catalog_tables.CatalogTables.{CatalogTables}
 use Rattle.mesa_catalog.specs.Kept.{Reserved}
-use Rattle.mesa_catalog.specs.Meaning.{catalogue_of}
+use Rattle.mesa_catalog_records.specs.Meaning.{catalogue_of}
 use Rattle.mesa_catalog.proofs.catalog.Catalog.copy.Goals as goal
 
 pub invariant_of-copy : goal.invariant_of-copy

@@ -1,7 +1,7 @@
 use Rattle.std.proofs.Common.{◌∙◌, ap, sym, subst}
-use Rattle.mesa_table_records.specs.mesa_store_spec.Catalog.{TableMeta}
-use Rattle.mesa_table_records.specs.mesa_catalog_table.Meaning.{IsTable, meta_of}
-use Rattle.mesa_table_records.specs.mesa_catalog_table.Ranged.{delta_at}
+use Rattle.mesa_catalog_records.specs.mesa_store_spec.Catalog.{TableMeta}
+use Rattle.mesa_catalog_records.specs.mesa_catalog_table.Meaning.{IsTable, meta_of}
+use Rattle.mesa_catalog_records.specs.mesa_catalog_table.Ranged.{delta_at}
 use Rattle.mesa_catalog.specs.Kept.{Reserved}
 use Rattle.mesa_catalog.proofs.catalog.Catalog.delta.Goals as goal
 

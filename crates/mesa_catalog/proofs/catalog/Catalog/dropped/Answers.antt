@@ -1,8 +1,8 @@
 use Rattle.std.proofs.Common.{◌∙◌, ap}
-use Rattle.mesa_table_records.specs.mesa_store_spec.Fitting.{fits}
+use Rattle.mesa_catalog_records.specs.mesa_store_spec.Fitting.{fits}
 use Rattle.mesa_catalog.specs.Kept.{Reserved}
-use Rattle.mesa_catalog.specs.Meaning.{catalogue_of}
-use Rattle.mesa_catalog.proofs.Applies.{kind_of_fits}
+use Rattle.mesa_catalog_records.specs.Meaning.{catalogue_of}
+use Rattle.mesa_catalog_records.proofs.Applies.{kind_of_fits}
 use Rattle.mesa_catalog.proofs.catalog.Catalog.dropped.Goals as goal
 
 pub push_dropped-requires-clause-fits : goal.push_dropped-requires-clause-fits

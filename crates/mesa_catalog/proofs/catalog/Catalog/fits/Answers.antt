@@ -1,5 +1,5 @@
 use Rattle.std.proofs.Common.{◌∙◌, sym}
-use Rattle.mesa_catalog.proofs.Applies.{fits_both, fits_not}
+use Rattle.mesa_catalog_records.proofs.Applies.{fits_both, fits_not}
 use Rattle.mesa_catalog.proofs.catalog.Catalog.fits.Goals as goal
 
 pub returns-then-allows : goal.returns-then-allows

@@ -2,7 +2,7 @@ use Rattle.std.proofs.Common.{◌∙◌, ap, map}
 use Rattle.mesa_catalog.specs.Kept.{Reserved}
 use Rattle.mesa_catalog.specs.Lookups.{known_as, known_in}
 use Rattle.mesa_catalog.proofs.Generation.{known_held}
-use Rattle.mesa_table_records.proofs.mesa_catalog_table.Tests.{if_ok_both}
+use Rattle.mesa_catalog_records.proofs.mesa_catalog_table.Tests.{if_ok_both}
 use Rattle.mesa_catalog.proofs.catalog.Catalog.glance.Goals as goal
 
 pub returns : goal.returns

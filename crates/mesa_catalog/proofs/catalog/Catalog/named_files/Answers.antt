@@ -1,11 +1,11 @@
 use Rattle.std.proofs.Common.{◌++◌, ◌∙◌, ap, sym, subst, arith}
 use Rattle.std.specs.Prelude.{flat_map}
 use Rattle.std.specs.List.{AllByRecursion}
-use Rattle.mesa_table_records.specs.mesa_store_spec.Ids.{named}
-use Rattle.mesa_table_records.specs.mesa_catalog_table.Meaning.{IsTable}
-use Rattle.mesa_table_records.specs.mesa_catalog_table.Named.{table_ids}
+use Rattle.mesa_catalog_records.specs.mesa_store_spec.Ids.{named}
+use Rattle.mesa_catalog_records.specs.mesa_catalog_table.Meaning.{IsTable}
+use Rattle.mesa_catalog_records.specs.mesa_catalog_table.Named.{table_ids}
 use Rattle.mesa_catalog.specs.Kept.{Reserved}
-use Rattle.mesa_catalog.proofs.Ids.{named_held}
+use Rattle.mesa_catalog_records.proofs.Ids.{named_held}
 use Rattle.mesa_catalog.proofs.catalog.Catalog.named_files.Goals as goal
 
 pub push_ids-requires : goal.push_ids-requires

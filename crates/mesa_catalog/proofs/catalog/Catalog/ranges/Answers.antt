@@ -1,8 +1,8 @@
 use Rattle.std.proofs.Common.{◌∙◌, ap, sym, arith, length}
 use Rattle.std.proofs.lemmas.Bool.Decides.{nat_tests}
-use Rattle.mesa_table_records.specs.mesa_store_spec.Catalog.{ranges_of, meta_at}
+use Rattle.mesa_catalog_records.specs.mesa_store_spec.Catalog.{ranges_of, meta_at}
 use Rattle.mesa_catalog.specs.Kept.{Reserved}
-use Rattle.mesa_table_records.proofs.mesa_catalog_table.Tests.{if_ok}
+use Rattle.mesa_catalog_records.proofs.mesa_catalog_table.Tests.{if_ok}
 use Rattle.mesa_catalog.proofs.catalog.Catalog.ranges.Goals as goal
 
 pub table-requires-clause-there : goal.table-requires-clause-there

@@ -2,13 +2,13 @@ use Rattle.std.proofs.Common.{List, ◌++◌, ◌∙◌, sym, subst, map, rules}
 use Rattle.std.specs.Prelude.{flat_map, IsPermutation}
 use Rattle.std.specs.List.{AllByRecursion}
 use Rattle.std.proofs.lemmas.List.Sorted.{IsNonDecreasingBy-from_sort_by_key}
-use Rattle.mesa_table_records.specs.mesa_store_spec.Fitting.{meta_live}
-use Rattle.mesa_table_records.specs.mesa_catalog_table.declared.recorded.Recorded.{Recorded}
-use Rattle.mesa_table_records.specs.mesa_catalog_table.declared.table.Table.{Table}
-use Rattle.mesa_table_records.specs.mesa_catalog_table.Files.{AreRecorded, recorded_id, recorded_of}
-use Rattle.mesa_table_records.specs.mesa_catalog_table.Meaning.{IsTable, meta_of}
+use Rattle.mesa_catalog_records.specs.mesa_store_spec.Fitting.{meta_live}
+use Rattle.mesa_catalog_records.specs.mesa_catalog_table.declared.recorded.Recorded.{Recorded}
+use Rattle.mesa_catalog_records.specs.mesa_catalog_table.declared.table.Table.{Table}
+use Rattle.mesa_catalog_records.specs.mesa_catalog_table.Files.{AreRecorded, recorded_id, recorded_of}
+use Rattle.mesa_catalog_records.specs.mesa_catalog_table.Meaning.{IsTable, meta_of}
 use Rattle.mesa_catalog.specs.Kept.{Reserved}
-use Rattle.mesa_catalog.specs.Meaning.{catalogue_of}
+use Rattle.mesa_catalog_records.specs.Meaning.{catalogue_of}
 use Rattle.mesa_catalog.proofs.Sorting.{recorded_tables, sorted_recorded}
 use Rattle.mesa_catalog.proofs.catalog.Catalog.recorded_files.Goals as goal
 

@@ -1,8 +1,8 @@
 use Rattle.std.proofs.Common.{◌≡◌, ◌∙◌, ap, sym, subst, true}
-use Rattle.mesa_table_records.specs.mesa_store_spec.Catalog.{Catalog}
-use Rattle.mesa_table_records.specs.mesa_store_spec.Fitting.{fits, kind_fits}
+use Rattle.mesa_catalog_records.specs.mesa_store_spec.Catalog.{Catalog}
+use Rattle.mesa_catalog_records.specs.mesa_store_spec.Fitting.{fits, kind_fits}
 use Rattle.mesa_catalog.specs.Kept.{Reserved}
-use Rattle.mesa_catalog.proofs.Applies.{kind_of_fits}
+use Rattle.mesa_catalog_records.proofs.Applies.{kind_of_fits}
 use Rattle.mesa_catalog.proofs.Keeping.{kept_roomier}
 use Rattle.mesa_catalog.proofs.catalog.Catalog.reserve.Goals as goal
 

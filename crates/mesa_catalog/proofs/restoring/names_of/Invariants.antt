@@ -1,8 +1,0 @@
-use Rattle.std.proofs.Common.{◌≡◌, ◌++◌, [], take}
-use Rattle.std.specs.Prelude.{flat_map}
-use Rattle.mesa_catalog.specs.Restored.{table_names}
-use Rattle.mesa_catalog.proofs.restoring.names_of.Given as goal
-
--- the names of the tables so far
-abbrev pub invariant-loop-table : goal.invariant-loop-table
-invariant-loop-table l = l.names.items ≡ [] ++ flat_map table_names (take l.table-index l.tables)
