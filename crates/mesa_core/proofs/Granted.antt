@@ -29,7 +29,7 @@ use Rattle.mesa_recast_turns.specs.mesa_invariant_spec.Works.{stage_if}
 use Rattle.mesa_engine.specs.Written.{written_at}
 use Rattle.mesa_core.specs.Handing.{IsGranted, store_after}
 use Rattle.mesa_core.specs.Standing.{IsCatalogAfter}
-use Rattle.mesa_core.proofs.Sights.{counted_is, lineage_is}
+use Rattle.mesa_core.proofs.Catalogue.{counted_is, lineage_is}
 
 -- the claim of a work is that of its session
 pub claim_if : {R : Type 0} (s : State) (number : ℕ) (running : Bool) (place : Place) (r : Option (Task R)) → OnSome r (running ≡ true) → place ≡ place_then (not running) number (stage_if claim_in Granted r) → HasClaimAt s place.stage → IfSome r (λ t. HasClaim s (claim_in t) t.work)

@@ -2,7 +2,7 @@ pub use Rattle.mesa_history_laws.proofs as mesa_history_laws
 pub use Rattle.mesa_engine.proofs.mesa_history_spec as mesa_history_spec
 pub mod Behind
 pub mod Turning
-pub mod Ending
+pub mod SessionEnds
 pub mod Dividing
 pub mod Answering
 pub mod Counting
@@ -16,7 +16,7 @@ pub mod Later
 pub mod Bounded
 pub mod Rooms
 pub mod Due
-pub mod Sights
+pub mod Catalogue
 pub mod Handed
 pub mod Granted
 pub mod RecastGranted

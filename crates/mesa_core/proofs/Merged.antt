@@ -35,7 +35,7 @@ use Rattle.mesa_recast_turns.specs.mesa_invariant_spec.Invariant.{run_at}
 use Rattle.mesa_engine.specs.Written.{written_at}
 use Rattle.mesa_core.specs.Handing.{IsGranted, store_after}
 use Rattle.mesa_core.specs.Standing.{IsCatalogAfter}
-use Rattle.mesa_core.proofs.Sights.{lineage_is}
+use Rattle.mesa_core.proofs.Catalogue.{lineage_is}
 
 -- ---- a delta
 

@@ -20,7 +20,7 @@ use Rattle.mesa_open_files.specs.declared.recasting.RecastRange.{RecastRange}
 use Rattle.mesa_recast_turns.specs.mesa_invariant_spec.Invariant.{run_at}
 use Rattle.mesa_core.specs.Handing.{IsRecastGranted, store_after}
 use Rattle.mesa_core.specs.Standing.{IsCatalogAfter}
-use Rattle.mesa_core.proofs.Sights.{counted_is, lineage_is}
+use Rattle.mesa_core.proofs.Catalogue.{counted_is, lineage_is}
 
 -- ranges that are known end where they end
 known_ends : {R : Type 0} (read : R → Option (List ℕ)) (next : ℕ) (xs : List (RecastRange R)) → AllByRecursion (λ (x : RecastRange R). x.to < next) xs → AllByRecursion (λ (x : KnownRange). x.to < next) (known_ranges read xs)

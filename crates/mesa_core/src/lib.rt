@@ -13,7 +13,7 @@ mod passes;
 mod queries;
 mod recasts;
 mod room;
-mod service;
+mod sights;
 mod standing;
 mod starting;
 mod tasks_known;
@@ -24,7 +24,7 @@ mod works;
 pub use mesa_engine::Who;
 pub use passes::{passes_are_divided, sessions_end, turns_go_on};
 pub use room::turns_of;
-pub use service::sights_last;
+pub use sights::sights_last;
 pub use tasks_known::{
     bounds_are_known, grants_are_known, leases_hold, merges_are_known, ranges_are_known,
     ranges_go_on, recasts_are_known, recasts_go_on, tables_go_on,

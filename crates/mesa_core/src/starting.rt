@@ -3,7 +3,7 @@ ghost use Rattle.std.specs.Prelude.{◌≡◌, ◌<◌, ◌≤◌, ◌^◌, [], 
 ghost use Rattle.std.specs.List.{AllByRecursion};
 ghost use Rattle.mesa_core.specs.Vault.{AllTold};
 ghost use Rattle.mesa_engine.specs.Beginning.{IsBegun};
-ghost use Rattle.mesa_engine.specs.Ending.{ReadsState};
+ghost use Rattle.mesa_engine.specs.DiskState.{ReadsState};
 ghost use Rattle.mesa_engine.specs.Engine.{most_turns, starts_of};
 ghost use Rattle.mesa_io.specs.Causes.{last, Rose};
 ghost use Rattle.mesa_recast_turns.specs.mesa_history_spec.Legal.{AllFit, fits_sink};

@@ -7,7 +7,7 @@ pub mod Lists
 pub mod Standing
 pub mod Holding
 pub mod Accepting
-pub mod Quiet
+pub mod ReadOnly
 pub mod Filing
 pub mod Renaming
 pub mod RecordedStates
@@ -31,4 +31,4 @@ pub mod Undone
 pub mod Beginning
 pub mod Seeing
 pub mod Drafting
-pub mod Ending
+pub mod DiskState

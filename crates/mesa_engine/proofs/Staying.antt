@@ -17,7 +17,7 @@ use Rattle.mesa_engine.specs.Turned.{pin_now, pinned_state, is_held_pin, release
 use Rattle.mesa_engine.specs.Vault.{Origin, IsVersioned, IsVault}
 use Rattle.mesa_engine.proofs.Holding.{AreKept, hold_at, holds_stay, seen_more, pin_kept, query_kept, fewer_kept}
 use Rattle.mesa_engine.proofs.Pins.{pinned_as, released_as, counted_more}
-use Rattle.mesa_engine.proofs.Quiet.{kept_holds, quiet_vault}
+use Rattle.mesa_engine.proofs.ReadOnly.{kept_holds, quiet_vault}
 use Rattle.mesa_engine.proofs.RecordedStates.{more_given}
 use Rattle.mesa_engine.proofs.Standing.{held_stand, held_there}
 

@@ -20,4 +20,4 @@ pub mod Printing
 pub mod Engine
 pub mod Beginning
 pub mod Failing
-pub mod Ending
+pub mod DiskState

@@ -8,5 +8,5 @@ pub mod Digests
 pub mod Opens
 pub mod Sees
 pub mod States
-pub mod Telling
+pub mod FilesTell
 pub mod Versions

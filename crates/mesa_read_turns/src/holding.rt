@@ -14,7 +14,7 @@ ghost use Rattle.mesa_open_files.specs.Pins.{IsPinned};
 ghost use Rattle.mesa_engine.specs.mesa_invariant_spec.Queries.{HasNoAnswer};
 ghost use Rattle.mesa_engine.specs.mesa_invariant_spec.Invariant.{Counts};
 
-use crate::opening::files_asked;
+use crate::query_files::files_asked;
 use mesa_disk::Made;
 use mesa_engine::{Failure, Metadata};
 use mesa_filter::{QueryWords, VersionWord};

@@ -2,27 +2,27 @@
 //! which the first opens the files that answer it, and the last prints its page.
 #![tactic(auto)]
 
-mod asking;
-mod closing;
+mod allowed_query;
+mod closing_query;
 mod damages;
 mod explaining;
 mod giving_back;
 mod holding;
 mod looking;
-mod opening;
+mod opening_query;
 mod pinning;
-mod query_pinning;
+mod query_files;
 mod releasing;
 mod seeing;
 mod spans;
 
-pub use asking::{Asked, ask};
-pub use closing::close_query;
+pub use allowed_query::{Asked, ask};
+pub use closing_query::close_query;
 pub use damages::can_be_told;
 pub use explaining::explain;
 pub use giving_back::give_back;
 pub use looking::look;
+pub use opening_query::pin_query;
 pub use pinning::pin;
-pub use query_pinning::pin_query;
 pub use releasing::release;
 pub use seeing::{Seen, seen_by};

@@ -15,8 +15,8 @@ use Rattle.mesa_recover.specs.Opening.{IsSoundStart, ReadsAs}
 use Rattle.mesa_check.specs.Faults.{Fault}
 use Rattle.mesa_check.specs.Verdict.{IsFirstFault}
 use Rattle.mesa_shell.specs.Ports.{Ports}
-use Rattle.mesa_shell.specs.Exits.{verdict_status}
-use Rattle.mesa_shell.specs.Ending.{EndedReading, Ends, EndsCheck, HasLooked, Prints}
+use Rattle.mesa_shell.specs.ExitLines.{verdict_status}
+use Rattle.mesa_shell.specs.Exit.{EndedReading, Ends, EndsCheck, HasLooked, Prints}
 use Rattle.mesa_shell.specs.Completing.{Decides, IsUndamaged, NoneRose}
 use Rattle.mesa_shell.specs.declared.done.Devices.{Devices}
 use Rattle.mesa_shell.specs.declared.done.Done.{Done}

@@ -17,16 +17,16 @@ use Rattle.mesa_recover.specs.declared.error.OpenError.{OpenError}
 use Rattle.mesa_recover.specs.declared.error.OpenError.TheVariants as open_error
 use Rattle.mesa_recover.specs.Opening.{ReadsAs}
 use Rattle.mesa_shell.specs.Ports.{Ports, in_memory}
-use Rattle.mesa_shell.specs.Exits.{max_input}
+use Rattle.mesa_shell.specs.ExitLines.{max_input}
 use Rattle.mesa_shell.specs.Scripts.{IsSmall}
 use Rattle.mesa_shell.specs.StoreStart.{IsSoundStore, start_of}
 use Rattle.mesa_shell.specs.Run.{Ran}
-use Rattle.mesa_shell.specs.Ending.{Ended, EndedOpening, Ends, EndsForm, EndsGenerated, EndsInput, EndsScript, EndsText, HasRun, HasShown, Prints}
+use Rattle.mesa_shell.specs.Exit.{Ended, EndedOpening, Ends, EndsForm, EndsGenerated, EndsInput, EndsScript, EndsText, HasRun, HasShown, Prints}
 use Rattle.mesa_shell.specs.Completing.{AllQuiet, AsksFor, Completes, HasRoomToRun, NothingFailed}
 use Rattle.mesa_shell.specs.declared.done.Devices.{Devices}
 use Rattle.mesa_shell.specs.declared.done.Done.{Done}
 use Rattle.mesa_session.proofs.mesa_history_laws.Settled.{ends_unskipped, none_skipped}
-use Rattle.mesa_shell.proofs.Quiet.{all_quiet, not_risen, sessions_there}
+use Rattle.mesa_shell.proofs.NoFaults.{all_quiet, not_risen, sessions_there}
 use Rattle.mesa_shell.proofs.Readable.{reads_same, sound_fits, sound_whole}
 use Rattle.mesa_shell.proofs.Small.{scripts_small}
 use Rattle.mesa_shell.proofs.Undamaged.{sound_undamaged}

@@ -13,8 +13,8 @@ use Rattle.mesa_recover.specs.declared.error.OpenError.{OpenError}
 use Rattle.mesa_recover.specs.declared.error.OpenError.TheVariants as open_error
 use Rattle.mesa_recover.specs.Opening.{HasReason, IsRead}
 use Rattle.mesa_shell.specs.Ports.{Ports}
-use Rattle.mesa_shell.specs.Exits.{answered_status, digest_line, no_table_line, no_version_line, open_line, open_status, refused_status}
-use Rattle.mesa_shell.specs.Ending.{Ended, EndsDigest, EndsNamed}
+use Rattle.mesa_shell.specs.ExitLines.{answered_status, digest_line, no_table_line, no_version_line, open_line, open_status, refused_status}
+use Rattle.mesa_shell.specs.Exit.{Ended, EndsDigest, EndsNamed}
 use Rattle.mesa_shell.specs.Unopened.{HasSameCounts, IsUnread}
 use Rattle.mesa_shell.specs.declared.done.Devices.{Devices}
 use Rattle.mesa_shell.specs.declared.done.Done.{Done}

@@ -10,11 +10,11 @@ use Rattle.mesa_session.specs.mesa_history_spec.Rows.{Rows}
 use Rattle.mesa_engine.specs.mesa_store_spec.Catalog.{Catalog}
 use Rattle.mesa_recover.specs.declared.error.OpenError.{OpenError}
 use Rattle.mesa_shell.specs.Ports.{Ports}
-use Rattle.mesa_shell.specs.Exits.{memory_status, memory_line, open_line, open_status}
+use Rattle.mesa_shell.specs.ExitLines.{memory_status, memory_line, open_line, open_status}
 use Rattle.mesa_shell.specs.StoreStart.{AreTold, start_of}
 use Rattle.mesa_shell.specs.Run.{Ran}
 use Rattle.mesa_shell.specs.Unopened.{IsUnopened, StaysSound}
-use Rattle.mesa_shell.specs.Ending.{Ended, EndedOpening, EndsScript, LacksMemory}
+use Rattle.mesa_shell.specs.Exit.{Ended, EndedOpening, EndsScript, LacksMemory}
 use Rattle.mesa_shell.specs.declared.done.Devices.{Devices}
 use Rattle.mesa_shell.specs.declared.done.Done.{Done}
 

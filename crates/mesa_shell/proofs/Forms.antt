@@ -8,13 +8,13 @@ use Rattle.mesa_engine.specs.mesa_store_spec.Catalog.{Catalog}
 use Rattle.mesa_recover.specs.Opening.{IsSoundStart}
 use Rattle.mesa_shell.specs.Ports.{Ports}
 use Rattle.mesa_shell.specs.Completing.{AsksFor, Completes, Decides, HasRoomToRun, IsUndamaged, NoneRose, NothingFailed}
-use Rattle.mesa_shell.specs.Ending.{Ends, EndsForm}
+use Rattle.mesa_shell.specs.Exit.{Ends, EndsForm}
 use Rattle.mesa_shell.specs.Statuses.{Tells}
 use Rattle.mesa_shell.specs.declared.done.Devices.{Devices}
 use Rattle.mesa_shell.specs.declared.done.Done.{Done}
 use Rattle.mesa_shell.proofs.Checked.{decides, looks}
 use Rattle.mesa_shell.proofs.Completing.{completes}
-use Rattle.mesa_shell.proofs.Telling.{all_tells}
+use Rattle.mesa_shell.proofs.StatusTells.{all_tells}
 
 module _ {K D M B : Type 0} (ports : Ports K D M B) (given : Devices K D B) (done : Done K D B) (asked : Option Form) (input : Option (List ℕ)) (before now : ℕ) where
   -- how it ends, what its status tells, and what it comes to where nothing failed

@@ -7,10 +7,10 @@ pub mod Unmoved
 pub mod Ends
 pub mod Undamaged
 pub mod Readable
-pub mod Quiet
+pub mod NoFaults
 pub mod Completing
 pub mod Checked
-pub mod Telling
+pub mod StatusTells
 pub mod Named
 pub mod Alone
 pub mod Closed

@@ -26,7 +26,7 @@ use Rattle.mesa_shell.specs.Ports.{Ports, in_memory}
 use Rattle.mesa_shell.specs.StoreStart.{AreTold, IsSoundStore, start_of}
 use Rattle.mesa_shell.specs.Run.{Ran}
 use Rattle.mesa_shell.specs.Unopened.{StaysSound}
-use Rattle.mesa_shell.specs.Ending.{EndedOpening, Ends, EndsCheck, EndsDigest, EndsForm, EndsGenerated, EndsNamed, EndsRun, EndsScript, EndsText, HasRun, HasShown, LacksMemory}
+use Rattle.mesa_shell.specs.Exit.{EndedOpening, Ends, EndsCheck, EndsDigest, EndsForm, EndsGenerated, EndsNamed, EndsRun, EndsScript, EndsText, HasRun, HasShown, LacksMemory}
 use Rattle.mesa_shell.specs.Completing.{AsksFor}
 use Rattle.mesa_shell.specs.Life.{kept_next}
 use Rattle.mesa_shell.specs.Next.{CrashLeavesFront, GoesOn, HasFront, IsSoundWith, LeavesSound, OpensSound, RestLeavesSound, RunLeavesSound}
@@ -34,7 +34,7 @@ use Rattle.mesa_shell.specs.declared.done.Devices.{Devices}
 use Rattle.mesa_shell.specs.declared.done.Done.{Done}
 use Rattle.mesa_shell.proofs.Closed.{found_last, none_tried}
 use Rattle.mesa_shell.proofs.Readable.{reads_same}
-use Rattle.mesa_shell.proofs.Telling.{uncalled}
+use Rattle.mesa_shell.proofs.StatusTells.{uncalled}
 use Rattle.mesa_shell.proofs.Unmoved.{keeps_unmoved, sound_after}
 
 err_ok : (r : Result Script ScriptError) (e : ScriptError) (s : Script) → r ≡ Err e → r ≡ Ok s → ⊥

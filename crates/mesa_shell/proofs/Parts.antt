@@ -19,7 +19,7 @@ use Rattle.mesa_session.specs.mesa_invariant_spec.Invariant.{HasCounted as HasCo
 use Rattle.mesa_shell.specs.Counting.{HasBenchCounts}
 use Rattle.mesa_shell.specs.Run.{RanAnyhow}
 use Rattle.mesa_engine.specs.Vault.{IsRead}
-use Rattle.mesa_engine.specs.Ending.{ReadsState}
+use Rattle.mesa_engine.specs.DiskState.{ReadsState}
 
 -- ---- moments
 

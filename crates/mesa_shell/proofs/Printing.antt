@@ -8,7 +8,7 @@ use Rattle.mesa_session.specs.mesa_filter.Hex.{hex_digit, hex_of}
 use Rattle.mesa_print.specs.declared.printer.Printer.{Printer}
 use Rattle.mesa_print.specs.Printed.{Printed}
 use Rattle.mesa_shell.specs.Ports.{Ports}
-use Rattle.mesa_shell.specs.Ending.{Ended, Prints}
+use Rattle.mesa_shell.specs.Exit.{Ended, Prints}
 use Rattle.mesa_shell.specs.declared.done.Devices.{Devices}
 use Rattle.mesa_shell.specs.declared.done.Done.{Done}
 

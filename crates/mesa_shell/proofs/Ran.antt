@@ -24,7 +24,7 @@ use Rattle.mesa_shell.specs.Ports.{Ports}
 use Rattle.mesa_shell.specs.Run.{Ran, RanAnyhow, RanSoundly}
 use Rattle.mesa_shell.specs.StoreStart.{AreTold, IsSoundStore, start_of}
 use Rattle.mesa_shell.specs.Unopened.{StaysSound}
-use Rattle.mesa_shell.specs.Ending.{EndsScript}
+use Rattle.mesa_shell.specs.Exit.{EndsScript}
 use Rattle.mesa_shell.specs.declared.done.Devices.{Devices}
 use Rattle.mesa_shell.specs.declared.done.Done.{Done}
 use Rattle.mesa_shell.proofs.Alike.{kept_begun, start_begun}

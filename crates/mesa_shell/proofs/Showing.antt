@@ -15,10 +15,10 @@ use Rattle.mesa_session.specs.mesa_history_spec.Output.{IsOutput}
 use Rattle.mesa_engine.specs.mesa_store_spec.Catalog.{Catalog}
 use Rattle.mesa_generate.specs.Excerpt.{CutsOut, HasPlainNames}
 use Rattle.mesa_shell.specs.Ports.{ports}
-use Rattle.mesa_shell.specs.Exits.{gen_line, memory_line, memory_status}
+use Rattle.mesa_shell.specs.ExitLines.{gen_line, memory_line, memory_status}
 use Rattle.mesa_shell.specs.Run.{Ran, RanAnyhow, RanSoundly}
 use Rattle.mesa_shell.specs.StoreStart.{start_of}
-use Rattle.mesa_shell.specs.Ending.{EndsShown, HasShown, Prints, RanInMemory, Shows}
+use Rattle.mesa_shell.specs.Exit.{EndsShown, HasShown, Prints, RanInMemory, Shows}
 use Rattle.mesa_shell.specs.declared.done.Devices.{Devices}
 use Rattle.mesa_shell.specs.declared.done.Done.{Done}
 use Rattle.mesa_shell.proofs.Named.{start_plain}

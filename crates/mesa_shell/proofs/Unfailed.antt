@@ -19,12 +19,12 @@ use Rattle.mesa_parse.specs.declared.forms.Form.TheVariants as form
 use Rattle.mesa_session.specs.mesa_history_spec.Rows.{Rows}
 use Rattle.mesa_engine.specs.mesa_store_spec.Catalog.{Catalog}
 use Rattle.mesa_shell.specs.Ports.{Ports}
-use Rattle.mesa_shell.specs.Exits.{max_input}
+use Rattle.mesa_shell.specs.ExitLines.{max_input}
 use Rattle.mesa_shell.specs.StoreStart.{start_of}
 use Rattle.mesa_shell.specs.Run.{Ran}
 use Rattle.mesa_shell.specs.Alone.{RunsUnfailed, some_memory, tells_memory}
 use Rattle.mesa_shell.specs.Completing.{AllQuiet, HasRoomToRun, IsInput, NothingFailed, is_quiet}
-use Rattle.mesa_shell.specs.Ending.{Ends, EndsInput, EndsScript, EndsText}
+use Rattle.mesa_shell.specs.Exit.{Ends, EndsInput, EndsScript, EndsText}
 use Rattle.mesa_shell.specs.declared.done.Devices.{Devices}
 use Rattle.mesa_shell.specs.declared.done.Done.{Done}
 use Rattle.mesa_shell.proofs.Completing.{err_ok, ok_same, opening_short, printed_short, quiet, same}

@@ -12,8 +12,8 @@ use Rattle.mesa_recover.specs.declared.error.OpenError.TheVariants as open_error
 use Rattle.mesa_recover.specs.Opening.{HasReason, IsRead, ReadsAs}
 use Rattle.mesa_recover.proofs.Firsts.{unmoved_twice}
 use Rattle.mesa_shell.specs.Ports.{Ports}
-use Rattle.mesa_shell.specs.Exits.{open_line, open_status, verdict_line, verdict_status}
-use Rattle.mesa_shell.specs.Ending.{Ended, EndsCheck}
+use Rattle.mesa_shell.specs.ExitLines.{open_line, open_status, verdict_line, verdict_status}
+use Rattle.mesa_shell.specs.Exit.{Ended, EndsCheck}
 use Rattle.mesa_shell.specs.Unopened.{HasSameCounts, IsUnread}
 use Rattle.mesa_shell.specs.declared.done.Devices.{Devices}
 use Rattle.mesa_shell.specs.declared.done.Done.{Done}

@@ -14,10 +14,10 @@ use Rattle.mesa_parse.specs.declared.forms.Form.TheVariants as form
 use Rattle.mesa_session.specs.mesa_history_spec.Rows.{Rows}
 use Rattle.mesa_engine.specs.mesa_store_spec.Catalog.{Catalog}
 use Rattle.mesa_shell.specs.Ports.{Ports}
-use Rattle.mesa_shell.specs.Exits.{memory_status}
+use Rattle.mesa_shell.specs.ExitLines.{memory_status}
 use Rattle.mesa_shell.specs.StoreStart.{start_of}
 use Rattle.mesa_shell.specs.Completing.{HasRoomToRun, IsInput, NothingFailed}
-use Rattle.mesa_shell.specs.Ending.{Ends}
+use Rattle.mesa_shell.specs.Exit.{Ends}
 use Rattle.mesa_shell.specs.declared.done.Devices.{Devices}
 use Rattle.mesa_shell.specs.declared.done.Done.{Done}
 

@@ -20,7 +20,7 @@ use Rattle.mesa_engine.specs.mesa_store_spec.Catalog.{Catalog}
 use Rattle.mesa_recover.specs.Damages.{HasDamagedFile, HasMisfit, IsCutOff}
 use Rattle.mesa_recover.specs.Opening.{most_runs}
 use Rattle.mesa_shell.specs.Ports.{Ports}
-use Rattle.mesa_shell.specs.Exits.{max_input, memory_status, refused_status}
+use Rattle.mesa_shell.specs.ExitLines.{max_input, memory_status, refused_status}
 use Rattle.mesa_shell.specs.StoreStart.{IsSoundStore}
 use Rattle.mesa_shell.specs.declared.done.Devices.{Devices}
 use Rattle.mesa_shell.specs.declared.done.Done.{Done}

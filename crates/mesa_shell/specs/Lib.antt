@@ -1,11 +1,11 @@
 pub mod Ports
-pub mod Exits
+pub mod ExitLines
 pub mod Scripts
 pub mod StoreStart
 pub mod Counting
 pub mod Unopened
 pub mod Run
-pub mod Ending
+pub mod Exit
 pub mod Statuses
 pub mod Completing
 pub mod Next

@@ -11,7 +11,7 @@ use Rattle.mesa_session.specs.mesa_invariant_spec.Invariant.{run_at}
 use Rattle.mesa_shell.specs.Ports.{Ports}
 use Rattle.mesa_shell.specs.StoreStart.{state_of}
 use Rattle.mesa_shell.specs.Completing.{AsksFor}
-use Rattle.mesa_shell.specs.Ending.{Ends}
+use Rattle.mesa_shell.specs.Exit.{Ends}
 use Rattle.mesa_shell.specs.Life.{Stretch, kept_after, kept_at_first, life_content, warehouse_of}
 use Rattle.mesa_shell.specs.Next.{GoesOnAtRest, IsSoundWith}
 use Rattle.mesa_shell.specs.declared.done.Devices.{Devices}

@@ -16,7 +16,7 @@ use Rattle.mesa_engine.specs.mesa_store_spec.Sound.{StandsFor}
 use Rattle.mesa_shell.specs.Ports.{Ports}
 use Rattle.mesa_shell.specs.StoreStart.{AreTold, IsSoundStore, start_of}
 use Rattle.mesa_shell.specs.Life.{kept_next}
-use Rattle.mesa_shell.specs.Ending.{Ends}
+use Rattle.mesa_shell.specs.Exit.{Ends}
 use Rattle.mesa_shell.specs.Completing.{AsksFor}
 use Rattle.mesa_shell.specs.declared.done.Devices.{Devices}
 use Rattle.mesa_shell.specs.declared.done.Done.{Done}

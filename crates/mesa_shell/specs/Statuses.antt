@@ -22,11 +22,11 @@ use Rattle.mesa_check.specs.Verdict.{IsFirstFault}
 use Rattle.mesa_store_digest.specs.Latest.{relation_named}
 use Rattle.mesa_store_digest.specs.Looked.{IsDigestOf}
 use Rattle.mesa_shell.specs.Ports.{Ports}
-use Rattle.mesa_shell.specs.Exits.{digest_line, max_input, refused_status, usage_status, script_status, source_status, sink_status, length_status, open_status, status_of, verdict_status}
+use Rattle.mesa_shell.specs.ExitLines.{digest_line, max_input, refused_status, usage_status, script_status, source_status, sink_status, length_status, open_status, status_of, verdict_status}
 use Rattle.mesa_shell.specs.StoreStart.{start_of}
 use Rattle.mesa_shell.specs.Run.{Ran}
 use Rattle.mesa_shell.specs.Unopened.{HasSameCounts}
-use Rattle.mesa_shell.specs.Ending.{HasFailed, IsDamagedWithin, IsWhole, RanInMemory}
+use Rattle.mesa_shell.specs.Exit.{HasFailed, IsDamagedWithin, IsWhole, RanInMemory}
 use Rattle.mesa_shell.specs.declared.done.Devices.{Devices}
 use Rattle.mesa_shell.specs.declared.done.Done.{Done}
 

@@ -1,7 +1,7 @@
 // Checks of a store.
 ghost use Rattle.std.specs.Prelude.{◌≡◌, ◌≢◌, Err, IfErr, IfOk};
 ghost use Rattle.mesa_disk.specs.Story.{Unmoved};
-ghost use Rattle.mesa_shell.specs.Ending as spec;
+ghost use Rattle.mesa_shell.specs.Exit as spec;
 ghost use Rattle.mesa_recover.specs.Opening.{HasReason, ReadsAs};
 ghost use Rattle.mesa_recover.specs.declared.error.OpenError.TheVariants as open_error;
 ghost use Rattle.mesa_check.specs.Verdict.{IsFirstFault, fault_told};

@@ -1,11 +1,11 @@
 // What a call tells that printed the digests of a relation.
 ghost use Rattle.std.specs.Prelude.{◌≡◌, ◌++◌, codes, decimal};
-ghost use Rattle.mesa_shell.specs.Ending as spec;
-ghost use Rattle.mesa_shell.specs.Exits.{answered_status, digest_line, digests_text};
+ghost use Rattle.mesa_shell.specs.Exit as spec;
+ghost use Rattle.mesa_shell.specs.ExitLines.{answered_status, digest_line, digests_text};
 ghost use Rattle.mesa_shell.specs.Ports.{ports};
 ghost use Rattle.mesa_print.specs.Printed.{Printed};
 
-use crate::ending::without_run;
+use crate::exit::without_run;
 use crate::lines::put_hex;
 use crate::{Devices, Done, statuses};
 use mesa_digest::DigestPair;

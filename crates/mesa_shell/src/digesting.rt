@@ -1,5 +1,5 @@
 // Digests of a relation.
-ghost use Rattle.mesa_shell.specs.Ending as spec;
+ghost use Rattle.mesa_shell.specs.Exit as spec;
 ghost use Rattle.mesa_shell.specs.Ports.{ports};
 
 use crate::checking::disk_of;

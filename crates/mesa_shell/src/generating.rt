@@ -1,7 +1,7 @@
 // Runs of the script that a seed gives.
 ghost use Rattle.std.specs.Prelude.{◌≡◌, ◌≤◌, ◌++◌, ℕ, List, Ok, false, true, length, if◌then◌else◌};
-ghost use Rattle.mesa_shell.specs.Ending as spec;
-ghost use Rattle.mesa_shell.specs.Exits.{gen_line, memory_line, memory_status};
+ghost use Rattle.mesa_shell.specs.Exit as spec;
+ghost use Rattle.mesa_shell.specs.ExitLines.{gen_line, memory_line, memory_status};
 ghost use Rattle.mesa_shell.specs.Ports.{ports};
 ghost use Rattle.mesa_shell.specs.Scripts.{IsSmall};
 ghost use Rattle.mesa_generate.specs.Excerpt.{CutsOut};

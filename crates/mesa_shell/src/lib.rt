@@ -6,7 +6,7 @@ mod checking;
 mod digest_lines;
 mod digesting;
 mod done;
-mod ending;
+mod exit;
 mod generating;
 mod indexing;
 mod lines;
@@ -20,7 +20,7 @@ mod verdict_line;
 
 pub use digest_lines::ended_digest;
 pub use done::{Devices, Done};
-pub use ending::{ended, ended_checked, ended_opening, ended_refused, lacks_memory, run_status};
+pub use exit::{ended, ended_checked, ended_opening, ended_refused, lacks_memory, run_status};
 pub use mesa_session::{Gate, OpenGate, Point};
 pub use shell::{MAX_INPUT, mesa};
 pub use small_scripts::{

@@ -5,7 +5,7 @@ ghost use Rattle.mesa_session.specs.mesa_filter.Hex.{hex_of};
 ghost use Rattle.mesa_print.specs.Printed.{Printed};
 ghost use Rattle.mesa_script.specs.Errors.{error_text, reason_word as word_of};
 ghost use Rattle.mesa_script.specs.Replies.{damage_text, seen_text};
-ghost use Rattle.mesa_shell.specs.Exits.{open_text};
+ghost use Rattle.mesa_shell.specs.ExitLines.{open_text};
 
 use mesa_file::{Damage, FileId, Seen};
 use mesa_io::Sink;

@@ -4,7 +4,7 @@ ghost use Rattle.mesa_engine.specs.mesa_store_spec.Catalog.{Catalog as AnyCatalo
 ghost use Rattle.mesa_model.specs.declared.commands.Script.{Script as AnyScript};
 ghost use Rattle.mesa_session.specs.mesa_history_spec.Rows.{Rows};
 ghost use Rattle.mesa_shell.specs.Completing.{AsksFor, Completes, Decides, HasRoomToRun, IsUndamaged, NoneRose, NothingFailed};
-ghost use Rattle.mesa_shell.specs.Ending as spec;
+ghost use Rattle.mesa_shell.specs.Exit as spec;
 ghost use Rattle.mesa_shell.specs.Ports.{ports};
 ghost use Rattle.mesa_shell.specs.Scripts.{IsSmall};
 ghost use Rattle.mesa_shell.specs.Statuses.{Tells};

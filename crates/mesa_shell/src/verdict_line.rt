@@ -1,6 +1,6 @@
 // What a check tells of a store.
 ghost use Rattle.std.specs.Prelude.{◌++◌, codes, decimal};
-ghost use Rattle.mesa_shell.specs.Exits.{shown_key, verdict_text};
+ghost use Rattle.mesa_shell.specs.ExitLines.{shown_key, verdict_text};
 ghost use Rattle.mesa_session.specs.mesa_filter.Hex.{hex_of};
 ghost use Rattle.mesa_print.specs.Printed.{Printed};
 ghost use Rattle.mesa_check.specs.Verdict.{fault_told};

@@ -1,4 +1,4 @@
-use Rattle.mesa_core.proofs.Ending.{ended_whole, ended_cut}
+use Rattle.mesa_core.proofs.SessionEnds.{ended_whole, ended_cut}
 use Rattle.mesa_core.proofs.passes.sessions_end.Goals as goal
 
 pub returns : goal.returns

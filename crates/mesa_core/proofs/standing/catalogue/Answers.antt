@@ -3,7 +3,7 @@ use Rattle.mesa_engine.specs.Engine.{Standing, starts_of}
 use Rattle.mesa_engine.specs.Vault.{Starts}
 use Rattle.mesa_recast_turns.specs.mesa_history_spec.Rows.{no_rows}
 use Rattle.mesa_core.specs.Standing.{IsCatalogAfter}
-use Rattle.mesa_core.proofs.Sights.{catalogue_is}
+use Rattle.mesa_core.proofs.Catalogue.{catalogue_is}
 use Rattle.mesa_core.proofs.standing.catalogue.Goals as goal
 
 pub returns : goal.returns

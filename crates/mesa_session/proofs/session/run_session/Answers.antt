@@ -7,7 +7,7 @@ use Rattle.mesa_core.specs.mesa_history_spec.Rows.{no_rows}
 use Rattle.mesa_core.specs.Passes.{Mine}
 use Rattle.mesa_core.proofs.Answering.{answers_both}
 use Rattle.mesa_core.proofs.Dividing.{gains}
-use Rattle.mesa_core.proofs.Ending.{ended_cut, ended_whole}
+use Rattle.mesa_core.proofs.SessionEnds.{ended_cut, ended_whole}
 use Rattle.mesa_core.proofs.Turning.{took_both, took_fewer}
 use Rattle.mesa_session.proofs.session.run_session.Goals as goal
 

@@ -2,7 +2,7 @@ use Rattle.std.proofs.Common.{◌≡◌, inl, inr, refl, sym, ap, subst, Some}
 use Rattle.std.specs.Prelude.{if◌then◌else◌}
 use Rattle.mesa_io.specs.Memory.{SinkState}
 use Rattle.mesa_shell.specs.Ports.{ports}
-use Rattle.mesa_shell.specs.Ending.{EndsShown}
+use Rattle.mesa_shell.specs.Exit.{EndsShown}
 use Rattle.mesa_shell.specs.declared.done.Devices.{Devices}
 use Rattle.mesa_shell.proofs.Ends.{ended_with, short_of_memory, unopened}
 use Rattle.mesa_shell.proofs.Ran.{refused_told, unrun_sound, whole_run}

@@ -1,5 +1,5 @@
 use Rattle.std.proofs.Common.{◌≡◌, true, false, sym, ap, subst, ◌∙◌}
-use Rattle.mesa_shell.specs.Exits.{gen_line, memory_line}
+use Rattle.mesa_shell.specs.ExitLines.{gen_line, memory_line}
 use Rattle.mesa_shell.specs.Ports.{ports}
 use Rattle.mesa_shell.specs.declared.done.Done.{Done}
 use Rattle.mesa_generate.specs.Excerpt.{CutsOut}

@@ -1,7 +1,7 @@
 use Rattle.std.proofs.Common.{inr, refl, sym, ◌∙◌, ap, subst, Some, None}
 use Rattle.mesa_parse.specs.declared.forms.Form.{Form}
 use Rattle.mesa_parse.specs.declared.forms.Form.TheVariants as form
-use Rattle.mesa_shell.specs.Ending.{EndsCheck, EndsDigest, EndsGenerated, EndsRun}
+use Rattle.mesa_shell.specs.Exit.{EndsCheck, EndsDigest, EndsGenerated, EndsRun}
 use Rattle.mesa_shell.specs.Ports.{ports}
 use Rattle.mesa_shell.proofs.Forms.{answered, answered_as}
 use Rattle.mesa_shell.proofs.shell.mesa.Goals as goal

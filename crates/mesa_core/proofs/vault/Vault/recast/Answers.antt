@@ -25,7 +25,7 @@ use Rattle.mesa_recast_turns.specs.mesa_invariant_spec.Works.{closing_stage}
 use Rattle.mesa_core.specs.Handing.{AllAreRested, IsRecastGranted, IsRecastHeld}
 use Rattle.mesa_core.specs.Vault.{Stand}
 use Rattle.mesa_core.proofs.Due.{due_of, sort_of}
-use Rattle.mesa_core.proofs.Sights.{lineage_is}
+use Rattle.mesa_core.proofs.Catalogue.{lineage_is}
 use Rattle.mesa_core.proofs.Unmade.{made_differed, made_is, made_read, made_whole, on_ok}
 use Rattle.mesa_core.proofs.vault.Vault.recast.Goals as goal
 

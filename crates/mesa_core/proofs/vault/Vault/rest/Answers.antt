@@ -11,7 +11,7 @@ use Rattle.mesa_recast_turns.specs.mesa_invariant_spec.Turns.{Shown, SomeRose}
 use Rattle.mesa_core.specs.Handing.{AllAreRested, IsRecastGranted, IsRecastHeld}
 use Rattle.mesa_core.specs.Vault.{Stand}
 use Rattle.mesa_core.proofs.RecastHeld.{held_longer, rested_known}
-use Rattle.mesa_core.proofs.Sights.{counted_is, lineage_is}
+use Rattle.mesa_core.proofs.Catalogue.{counted_is, lineage_is}
 use Rattle.mesa_core.proofs.vault.Vault.rest.Goals as goal
 
 pub held-requires-clause-granted : goal.held-requires-clause-granted

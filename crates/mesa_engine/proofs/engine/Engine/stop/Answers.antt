@@ -7,7 +7,7 @@ use Rattle.mesa_invariant_spec.specs.Invariant.{run_at}
 use Rattle.mesa_catalog.specs.mesa_history_spec.Rows.{no_rows}
 use Rattle.mesa_engine.specs.Vault.{Starts}
 use Rattle.mesa_engine.specs.Engine.{Standing, starts_of}
-use Rattle.mesa_engine.proofs.Ending.{reads_state}
+use Rattle.mesa_engine.proofs.DiskState.{reads_state}
 use Rattle.mesa_engine.proofs.engine.Engine.stop.Goals as goal
 
 pub returns-clause-legal : goal.returns-clause-legal

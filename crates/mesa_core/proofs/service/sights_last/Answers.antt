@@ -1,5 +1,0 @@
-use Rattle.mesa_core.proofs.Lasting.{lasts}
-use Rattle.mesa_core.proofs.service.sights_last.Goals as goal
-
-pub returns : goal.returns
-returns c = lasts

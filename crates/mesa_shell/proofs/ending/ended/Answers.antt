@@ -1,8 +1,0 @@
-use Rattle.mesa_shell.specs.Ports.{ports}
-use Rattle.mesa_shell.proofs.Printing.{printed_ends}
-use Rattle.mesa_shell.proofs.ending.ended.Goals as goal
-
-pub returns-clause-ended : goal.returns-clause-ended
-returns-clause-ended g c =
-    let w = c.without_run.ensures in
-    printed_ends (ports g.K.Sink.held g.K.Sink.faults g.D.Disk.story g.M.Made.bytes g.B.Bench.faults) c.args.given c.without_run.result _ _ _ c.put.ensures w.status w.out w.benches w.history
