@@ -68,25 +68,7 @@ impl<'s, N: Naming, M: Made, D: DeltaDisk<M>, K: Sink> Vault<'s, N, M, D, K> {
         recasts_are_known(&task);
         Some(task)
     }
-}
 
-impl<'s, N: Naming, M: Made, D: Disk<M>, K: Sink> Vault<'s, N, M, D, K> {
-    /// A recast's turn once its ranges are rewritten: its lease holds anew.
-    pub fn renew_recast(&mut self, who: Who, task: Recast<D::Reader>) -> Option<Recast<D::Reader>>
-        requires due { Asks N.script (run_at N.script (N.start no_rows) self.old.shown.history) who.session who.command (Granted (claim_of_recast task)) is_recast }
-        requires granted { WasGranted (IsRecastGranted D.Reader.bytes N.script N.start N.origin N.sound) self.old.shown.history (known_recast D.Reader.bytes task) }
-        requires room { length self.old.shown.history < N.room }
-        ensures turn { Takes N.script (N.start no_rows) self.old.shown self.new.shown who.session who.command kind.Renew (stage_if claim_of_recast Renewed result) }
-        ensures disk { AnswersDisk N.script (N.start no_rows) self.old.shown self.new.shown (SomeRose self.old.faults self.new.faults) }
-        ensures ran { OnSome result (self.old.shown.running ≡ true) }
-        ensures same { IfSome result (λ t. t ≡ task) }
-    {
-        let words = recast_of(self.script, who);
-        renew_recast(&mut self.engine, who, words, task)
-    }
-}
-
-impl<'s, N: Naming, M: Made, D: DeltaDisk<M>, K: Sink> Vault<'s, N, M, D, K> {
     /// What a recast does before its close, in the same turn: the files of the batches that came since its grant are opened, as long as its table is the one that was granted. It adds no entry. A call of the disk that failed is answered by the close behind it.
     pub fn rest(
         &mut self,
@@ -130,6 +112,20 @@ impl<'s, N: Naming, M: Made, D: DeltaDisk<M>, K: Sink> Vault<'s, N, M, D, K> {
 }
 
 impl<'s, N: Naming, M: Made, D: Disk<M>, K: Sink> Vault<'s, N, M, D, K> {
+    /// A recast's turn once its ranges are rewritten: its lease holds anew.
+    pub fn renew_recast(&mut self, who: Who, task: Recast<D::Reader>) -> Option<Recast<D::Reader>>
+        requires due { Asks N.script (run_at N.script (N.start no_rows) self.old.shown.history) who.session who.command (Granted (claim_of_recast task)) is_recast }
+        requires granted { WasGranted (IsRecastGranted D.Reader.bytes N.script N.start N.origin N.sound) self.old.shown.history (known_recast D.Reader.bytes task) }
+        requires room { length self.old.shown.history < N.room }
+        ensures turn { Takes N.script (N.start no_rows) self.old.shown self.new.shown who.session who.command kind.Renew (stage_if claim_of_recast Renewed result) }
+        ensures disk { AnswersDisk N.script (N.start no_rows) self.old.shown self.new.shown (SomeRose self.old.faults self.new.faults) }
+        ensures ran { OnSome result (self.old.shown.running ≡ true) }
+        ensures same { IfSome result (λ t. t ≡ task) }
+    {
+        let words = recast_of(self.script, who);
+        renew_recast(&mut self.engine, who, words, task)
+    }
+
     /// A recast's last turn: what its ranges were rewritten to, once its lease was renewed, or why they weren't.
     pub fn recast(
         &mut self,
