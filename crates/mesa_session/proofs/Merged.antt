@@ -30,7 +30,7 @@ use Rattle.mesa_open_files.specs.Errors.{Differs}
 use Rattle.mesa_core.specs.Answers.{Owes}
 use Rattle.mesa_core.specs.Drafts.{owed_by_work}
 use Rattle.mesa_core.specs.Works.{IsDeltaOf, known_task}
-use Rattle.mesa_session.proofs.Damaged.{rose_failed}
+use Rattle.mesa_query.proofs.Differing.{rose_failed}
 
 -- ---- what is known
 

@@ -28,7 +28,7 @@ use Rattle.mesa_query.specs.Sums.{IsSumIn}
 use Rattle.mesa_core.specs.Damages.{IsUnread}
 use Rattle.mesa_core.specs.Pins.{IsAnswer, IsAnswerDamage, IsPageOver, heading_in, known_pin}
 use Rattle.mesa_query.specs.Same.{IsSamePin, readers_in}
-use Rattle.mesa_session.proofs.Damaged.{query_differs, rose_failed}
+use Rattle.mesa_query.proofs.Differing.{query_differs, rose_failed}
 
 -- ---- files of which the same is known
 

@@ -18,7 +18,7 @@ use Rattle.mesa_open_files.specs.declared.merging.CompactError.{CompactError}
 use Rattle.mesa_open_files.specs.declared.merging.CompactError.TheVariants as compact
 use Rattle.mesa_open_files.specs.declared.recasting.Recast.{Recast}
 use Rattle.mesa_open_files.specs.declared.recasting.Recasted.{Recasted}
-use Rattle.mesa_session.proofs.Damaged.{rose_failed}
+use Rattle.mesa_query.proofs.Differing.{rose_failed}
 
 -- no damage was met where none is told
 pub none_met : (o : Option Damage) → ((d : Damage) → o ≡ Some d → ⊥) → o ≡ None
