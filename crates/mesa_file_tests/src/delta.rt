@@ -2,5 +2,6 @@
 mod digests;
 mod equal_keys;
 mod files;
+mod indexes;
 mod reading;
 mod writing;

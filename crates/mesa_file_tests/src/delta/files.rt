@@ -84,8 +84,8 @@ pub fn reference(
     }
 }
 
-// A disk with a file of these bytes.
-fn disk_with(rt: &impl Abort, alloc: Global, bytes: Vec<u8>) -> MemDisk {
+/// A disk with a file of these bytes.
+pub fn disk_with(rt: &impl Abort, alloc: Global, bytes: Vec<u8>) -> MemDisk {
     let file = (FileId::of(ONE_ID), ByteList::from_vec(bytes));
     let files = vec![in alloc; file].expect(rt, "memory");
     let (zero, one) = (Vec::new(alloc), Vec::new(alloc));

@@ -132,7 +132,7 @@ const QUERIES: &[u8] = b"table,t,k int,v sum\n\
      query,t\n\
      query,t\n";
 
-// The first read of a reader is of the file's tail, in the first turn of its query or work; the next is of a block.
+// A file's first reader in a run reads its tail, in the first turn of its query or work, and then blocks.
 const UNOPENED: Case<'static> = Case {
     name: "a work that can't open a file",
     read_fails: Some((RUN_1 + 1, 0)),
