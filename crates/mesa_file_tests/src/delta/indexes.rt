@@ -23,8 +23,9 @@ fn open_and_count(
         evolving,
         epoch: 0,
     };
-    let Met::Input(mut input) = open_one(alloc, disk, &wanted) else {
-        panic!(rt; "not opened");
+    let mut input = match open_one(alloc, disk, &wanted) {
+        Met::Input(input) => input,
+        Met::Damaged(_) | Met::Fault | Met::Memory => panic!(rt; "not opened"),
     };
     let Ok(block) = input.reader.block(0) else {
         panic!(rt; "no block");
@@ -60,4 +61,5 @@ fn keeps_an_index_until_its_file_is_removed(rt: HostRuntime) {
     }
     expect_same(&rt, &disk.remove(file.id).is_ok(), &true, &"removed");
     expect_kept(&rt, &disk, &file, &table, false);
+    drop(disk.into_inner());
 }
