@@ -1,3 +1,4 @@
+pub use Rattle.mesa_binding.specs as mesa_binding
 pub use Rattle.mesa_catalog.specs as mesa_catalog
 pub use Rattle.mesa_commit.specs as mesa_commit
 pub use Rattle.mesa_catalog.specs.mesa_history_spec as mesa_history_spec

@@ -53,3 +53,29 @@ impl Failure {
         }
     }
 }
+
+impl From<Refusal> for Failure {
+    ghost use Rattle.std.specs.Prelude.{◌≡◌};
+    ghost use Rattle.mesa_engine.specs.declared.failure.Failure.TheVariants.{Refused};
+
+    ghost from_gives = { λ refusal e. e ≡ Refused refusal };
+
+    fn from(refusal: Refusal) -> Self {
+        Failure::Refused(refusal)
+    }
+}
+
+// Why a turn does nothing, where the rules say why.
+impl From<mesa_binding::Failure> for Failure {
+    ghost use Rattle.std.specs.Prelude.{◌≡◌};
+    ghost use Rattle.mesa_engine.specs.Failure.{told_as};
+
+    ghost from_gives = { λ why e. e ≡ told_as why };
+
+    fn from(why: mesa_binding::Failure) -> Self {
+        match why {
+            mesa_binding::Failure::Refused(refusal) => Failure::Refused(refusal),
+            mesa_binding::Failure::Memory => Failure::Memory,
+        }
+    }
+}

@@ -27,6 +27,7 @@ pub use engine::Engine;
 pub use failure::Failure;
 pub use holders::Pin;
 pub use log::Log;
+pub use mesa_binding as binding;
 pub use mesa_catalog::{Begun, Catalog};
 pub use metadata::Metadata;
 pub use naming::Naming;

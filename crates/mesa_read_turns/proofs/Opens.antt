@@ -2,11 +2,11 @@
 use Rattle.std.proofs.Common.{◌≡◌, inl, inr, ℕ, ◌+◌, ◌<◌, ◌≤◌, ◌^◌, List, [], ◌∷◌, ◌++◌, length, Bool, true, false, ◌||◌, not, refl, sym, ◌∙◌, ap, subst, arith, Option, None, Some, Ok}
 use Rattle.std.specs.Prelude.{◌⊎◌, vec_capacity}
 use Rattle.std.proofs.lemmas.Bool.Decides.{leb_tells}
-use Rattle.mesa_binding.specs.Told.{IsDue as IsRefused}
-use Rattle.mesa_binding.specs.declared.failure.Failure.{Failure as AskedFailure}
-use Rattle.mesa_binding.specs.declared.failure.Failure.TheVariants as asked
+use Rattle.mesa_engine.specs.mesa_binding.Told.{IsDue as IsRefused}
+use Rattle.mesa_engine.specs.mesa_binding.declared.failure.Failure.{Failure as AskedFailure}
+use Rattle.mesa_engine.specs.mesa_binding.declared.failure.Failure.TheVariants as asked
 use Rattle.mesa_read_turns.specs.Closing.{cause_of}
-use Rattle.mesa_read_turns.specs.Opening.{asked_state, cause_refused}
+use Rattle.mesa_read_turns.specs.Opening.{asked_state}
 use Rattle.mesa_delta.specs.declared.error.FileError.{FileError}
 use Rattle.mesa_delta.specs.declared.error.FileError.TheVariants as file_error
 use Rattle.mesa_disk.specs.Story.{Story, Unmoved}
@@ -23,6 +23,7 @@ use Rattle.mesa_engine.specs.mesa_history_spec.Run.{First, Answered, Finished, P
 use Rattle.mesa_engine.specs.mesa_history_spec.Turns.{IsDue}
 use Rattle.mesa_engine.proofs.Staying.{queried_vault, still_vault}
 use Rattle.mesa_engine.specs.EngineState.{EngineState, books_of}
+use Rattle.mesa_engine.specs.Failure.{cause_in, told_as}
 use Rattle.mesa_engine.specs.Vault.{Origin, Starts, IsVault, outset_of}
 use Rattle.mesa_engine.specs.Printing.{PrintsBlock}
 use Rattle.mesa_engine.specs.declared.log.Log.{Log}
@@ -47,12 +48,12 @@ use Rattle.mesa_engine.specs.mesa_invariant_spec.Invariant.{Outset, Counts, Keep
 -- ---- why a query isn't answered
 
 -- The rules answer none, or memory was wanting.
-pub has_no_asked : (l : EngineState) (s : ℕ) (words : QueryWords) (f : AskedFailure) → ((rows : Rows) → IsRefused (query_answer (books_of rows l).bare s words) f) → (f ≡ asked.Memory → l.closed ≡ None) → HasNoAnswer (books_of no_rows l) s words (cause_refused f)
+pub has_no_asked : (l : EngineState) (s : ℕ) (words : QueryWords) (f : AskedFailure) → ((rows : Rows) → IsRefused (query_answer (books_of rows l).bare s words) f) → (f ≡ asked.Memory → l.closed ≡ None) → HasNoAnswer (books_of no_rows l) s words (cause_in (told_as f))
 has_no_asked l s words (asked.Refused x) due was_open = (x, due no_rows, refl)
 has_no_asked l s words asked.Memory due was_open = was_open refl
 
 -- No fault is why.
-pub not_unread : (f : AskedFailure) → is_read_fault (cause_refused f) ≡ false
+pub not_unread : (f : AskedFailure) → is_read_fault (cause_in (told_as f)) ≡ false
 not_unread (asked.Refused x) = refl
 not_unread asked.Memory = refl
 
@@ -171,7 +172,7 @@ module _ {K : Type 0} (held : K → Option (List ℕ)) (faults : K → ℕ) (n :
 -- ---- damage
 
 -- the rules tell none
-pub rules_undamaged : (f : AskedFailure) → is_damaged (outcome_of (cause_refused f)) ≡ true → ⊥
+pub rules_undamaged : (f : AskedFailure) → is_damaged (outcome_of (cause_in (told_as f))) ≡ true → ⊥
 rules_undamaged (asked.Refused refusal) is = absurd cc
 rules_undamaged asked.Memory is = absurd cc
 

@@ -1,9 +1,9 @@
 -- How an explain keeps a vault.
 use Rattle.std.proofs.Common.{◌≡◌, ℕ, ◌<◌, ◌^◌, List, [], ◌∷◌, ◌++◌, length, Bool, true, false, ◌||◌, refl, sym, ap, Option, None, Some, Result, Ok, Err}
 use Rattle.std.specs.Option.{ok_or}
-use Rattle.mesa_binding.specs.Told.{IsDue as IsTold}
-use Rattle.mesa_binding.specs.declared.failure.Failure.{Failure}
-use Rattle.mesa_binding.specs.declared.failure.Failure.TheVariants as failure
+use Rattle.mesa_engine.specs.mesa_binding.Told.{IsDue as IsTold}
+use Rattle.mesa_engine.specs.mesa_binding.declared.failure.Failure.{Failure}
+use Rattle.mesa_engine.specs.mesa_binding.declared.failure.Failure.TheVariants as failure
 use Rattle.mesa_disk.specs.Story.{Story}
 use Rattle.mesa_engine.specs.Failing.{is_of_device}
 use Rattle.mesa_pick_files.specs.mesa_list.Checks.{◌>>=◌, ◌>>◌}
@@ -26,7 +26,6 @@ use Rattle.mesa_engine.specs.mesa_history_spec.Refused.{is_refusal}
 use Rattle.mesa_engine.specs.mesa_history_spec.Run.{First}
 use Rattle.mesa_engine.specs.mesa_history_spec.Turns.{IsDue}
 use Rattle.mesa_engine.specs.mesa_history_spec.Output.{block}
-use Rattle.mesa_read_turns.specs.Asked.{cause_asked}
 use Rattle.mesa_engine.specs.mesa_history_spec.Rows.{Rows}
 use Rattle.mesa_engine.specs.mesa_span.Plan.{plan}
 use Rattle.mesa_engine.specs.mesa_invariant_spec.Causes.{told_at}
@@ -37,6 +36,7 @@ use Rattle.mesa_engine.specs.mesa_invariant_spec.Invariant.{Outset, run_of}
 use Rattle.mesa_engine.proofs.mesa_invariant_spec.Reading.{explained_turn}
 use Rattle.mesa_engine.proofs.mesa_invariant_spec.Turning.{stays}
 use Rattle.mesa_engine.specs.EngineState.{EngineState, books_of}
+use Rattle.mesa_engine.specs.Failure.{cause_in, told_as}
 use Rattle.mesa_engine.specs.Vault.{Origin, IsVault}
 use Rattle.mesa_engine.proofs.Staying.{still_vault}
 
@@ -76,10 +76,10 @@ explained_vault o g sound l story held h running refused v s number low few m mo
 
 -- ---- why there is none
 
-pub no_plan : (a : Rows) (l : EngineState) (words : ExplainWords) (f : Failure) → l.closed ≡ None → IsTold (explained (books_of a l).bare (books_of a l).machine words) f → HasNoPlan (books_of a l) words (cause_asked f)
+pub no_plan : (a : Rows) (l : EngineState) (words : ExplainWords) (f : Failure) → l.closed ≡ None → IsTold (explained (books_of a l).bare (books_of a l).machine words) f → HasNoPlan (books_of a l) words (cause_in (told_as f))
 no_plan a l words (failure.Refused refusal) was_open is = (refusal, is, refl)
 no_plan a l words failure.Memory was_open is = was_open
 
-pub no_device : (f : Failure) → is_of_device (cause_asked f) ≡ false
+pub no_device : (f : Failure) → is_of_device (cause_in (told_as f)) ≡ false
 no_device (failure.Refused refusal) = refl
 no_device failure.Memory = refl

@@ -1,4 +1,3 @@
-pub mod Asked
 pub mod Closing
 pub mod Opening
 pub mod Seeing

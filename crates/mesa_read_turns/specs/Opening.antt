@@ -1,7 +1,5 @@
 -- What a query's first turn leaves.
 use Rattle.std.specs.Prelude.{◌≡◌, ℕ, List, map, Bool, false, Option, None, Some, IsTrue, Result, Ok, Err}
-use Rattle.mesa_binding.specs.declared.failure.Failure.{Failure as AskedFailure}
-use Rattle.mesa_binding.specs.declared.failure.Failure.TheVariants as asked
 use Rattle.mesa_read_turns.specs.Seeing.{catalogue_asked, pinned_asked}
 use Rattle.mesa_pick_files.specs.mesa_catalog_records.Names.{relation_of}
 use Rattle.mesa_disk.specs.Image.{Image}
@@ -17,7 +15,6 @@ use Rattle.mesa_engine.specs.Failure.{cause_in}
 use Rattle.mesa_engine.specs.declared.failure.Failure.{Failure}
 use Rattle.mesa_engine.specs.Memory.{hold_now}
 use Rattle.mesa_model.specs.Query.{Answer}
-use Rattle.mesa_model.specs.declared.replies.Reply.TheVariants as reply
 use Rattle.mesa_engine.specs.mesa_store_spec.Planned.{planned}
 use Rattle.mesa_pick_files.specs.Read.{IsPinnedFor, SomeUnsound, relation_read}
 use Rattle.mesa_pick_files.specs.Files.{want_in}
@@ -26,13 +23,8 @@ use Rattle.mesa_validate.specs.Ordered.{as_read}
 use Rattle.mesa_validate.specs.declared.found.Found.{Found}
 use Rattle.mesa_engine.specs.mesa_history_spec.Rows.{no_rows}
 use Rattle.mesa_open_files.specs.declared.querying.Pinned.{Pinned}
-use Rattle.mesa_engine.specs.mesa_invariant_spec.Causes.{Cause, NoMemory, Replies, is_read_fault, outcome_of}
+use Rattle.mesa_engine.specs.mesa_invariant_spec.Causes.{is_read_fault, outcome_of}
 use Rattle.mesa_engine.specs.mesa_invariant_spec.Undamaged.{is_damaged}
-
--- the cause for which the rules answer no query
-abbrev pub cause_refused : AskedFailure → Cause
-cause_refused (asked.Refused refusal) = Replies (reply.Refused refusal)
-cause_refused asked.Memory = NoMemory
 
 -- whether a fault of the disk is why there is nothing
 abbrev pub is_unread : {T : Type 0} → Result T Failure → Bool

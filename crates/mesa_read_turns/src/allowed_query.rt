@@ -1,7 +1,7 @@
 // What a query asks of a vault.
 ghost use Rattle.std.specs.Prelude.{◌≡◌, None, Ok, Some, IfErr, IfOk};
-ghost use Rattle.mesa_binding.specs.Told.{IsDue};
-ghost use Rattle.mesa_binding.specs.declared.failure.Failure.TheVariants.{Memory as WantOfMemory};
+ghost use Rattle.mesa_engine.specs.mesa_binding.Told.{IsDue};
+ghost use Rattle.mesa_engine.specs.mesa_binding.declared.failure.Failure.TheVariants.{Memory as WantOfMemory};
 ghost use Rattle.mesa_read_turns.specs.Seeing.{catalogue_asked, pinned_asked};
 ghost use Rattle.mesa_pick_files.specs.mesa_catalog_records.Names.{relation_of};
 ghost use Rattle.mesa_filter.specs.Query.{IsQueryOf};
@@ -11,7 +11,7 @@ ghost use Rattle.mesa_validate.specs.Found.{IsAnswered, Sees, columns_at, versio
 ghost use Rattle.mesa_engine.specs.mesa_history_spec.Rows.{Rows};
 
 use crate::{Seen, seen_by};
-use mesa_binding::Failure;
+use mesa_engine::binding::Failure;
 use mesa_engine::{Catalog, Metadata};
 use mesa_filter::QueryWords;
 use mesa_validate::Found;

@@ -10,7 +10,6 @@ ghost use Rattle.mesa_engine.specs.EngineState.{books_of};
 ghost use Rattle.mesa_engine.specs.Failure.{cause_in};
 ghost use Rattle.mesa_model.specs.declared.commands.Command.TheVariants as command;
 ghost use Rattle.mesa_model.specs.declared.entries.Kind.TheVariants as kind;
-ghost use Rattle.mesa_read_turns.specs.Asked.{cause_asked};
 ghost use Rattle.mesa_script.specs.Rows.{body_of};
 ghost use Rattle.mesa_engine.specs.mesa_history_spec.Rows.{no_rows};
 ghost use Rattle.mesa_engine.specs.mesa_invariant_spec.Changes.{HasNoPlan};
@@ -30,16 +29,6 @@ struct Told {
     lines: Vec<u8>,
 }
 
-// Why the rules tell no plan.
-fn failed(failure: mesa_binding::Failure) -> Failure
-    ensures { cause_in result ≡ cause_asked failure }
-{
-    match failure {
-        mesa_binding::Failure::Refused(refusal) => Failure::Refused(refusal),
-        mesa_binding::Failure::Memory => Failure::Memory,
-    }
-}
-
 // What is told of how a query would be answered, or why it isn't told.
 fn planned(alloc: Global, metadata: &Metadata, words: &ExplainWords) -> Result<Told, Failure>
     requires { IsCatalog metadata.now.state.catalogue }
@@ -51,10 +40,7 @@ fn planned(alloc: Global, metadata: &Metadata, words: &ExplainWords) -> Result<T
     if let Some(position) = metadata.closed() {
         return Err(Failure::Refused(Refusal::Closed { position }));
     }
-    let reply = match mesa_validate::explain(alloc, metadata.catalog(), words) {
-        Ok(reply) => reply,
-        Err(failure) => return Err(failed(failure)),
-    };
+    let reply = mesa_validate::explain(alloc, metadata.catalog(), words)?;
     match lines_of(alloc, &reply) {
         Ok(lines) => Ok(Told { reply, lines }),
         Err(_) => Err(Failure::Memory),

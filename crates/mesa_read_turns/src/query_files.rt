@@ -1,7 +1,7 @@
 // The files of a session's query.
 ghost use Rattle.std.specs.Prelude.{◌≡◌, ◌≢◌, ◌<◌, true, IfErr, IfOk, IfSome, IsTrue, Some, length, map};
 ghost use Rattle.mesa_read_turns.specs.Closing.{cause_of};
-ghost use Rattle.mesa_read_turns.specs.Opening.{HasItsFiles, HasUnsoundFile, cause_refused, is_unread, read_in, tells_damage};
+ghost use Rattle.mesa_read_turns.specs.Opening.{HasItsFiles, HasUnsoundFile, is_unread, read_in, tells_damage};
 ghost use Rattle.mesa_read_turns.specs.Seeing.{catalogue_asked};
 ghost use Rattle.mesa_delta.specs.declared.error.FileError.TheVariants as file_error;
 ghost use Rattle.mesa_disk.specs.Story.{Unmoved};
@@ -51,10 +51,7 @@ pub(crate) fn files_asked<M: Made, D: DeltaDisk<M>>(
     ensures refused { IfErr result (λ failure. HasNoAnswer (books_of no_rows metadata.now.state) session words.now (cause_in failure)) }
     ensures unsound { IfErr result (λ failure. tells_damage failure ≡ true → HasUnsoundFile (D.story disk.old).told metadata.now.state session words.now) }
 {
-    let Asked { catalog, found } = match ask(alloc, metadata, session, words) {
-        Ok(asked) => asked,
-        Err(failure) => return Err(refused(failure)),
-    };
+    let Asked { catalog, found } = ask(alloc, metadata, session, words)?;
     match open_found(alloc, disk, catalog, found, at) {
         Ok(pinned) => Ok(pinned),
         Err(error) => {
@@ -93,16 +90,6 @@ fn open_found<M: Made, D: DeltaDisk<M>>(
             open_files(alloc, disk, table, found, at)
         }
         Err(AllocError) => Err(FileError::Memory),
-    }
-}
-
-// Why the rules answer no query.
-fn refused(failure: mesa_binding::Failure) -> Failure
-    ensures { cause_in result ≡ cause_refused failure }
-{
-    match failure {
-        mesa_binding::Failure::Refused(refusal) => Failure::Refused(refusal),
-        mesa_binding::Failure::Memory => Failure::Memory,
     }
 }
 

@@ -7,8 +7,8 @@ ghost use Rattle.mesa_work_turns.specs.mesa_history_spec.Rows.{no_rows};
 ghost use Rattle.mesa_open_files.specs.Recasts.{claim_of_recast, recast_in};
 ghost use Rattle.mesa_recast_turns.specs.Unfit.{HasNotRecast, unfit_of};
 
-use mesa_binding::{Failure, recast_failure};
 use mesa_engine::Metadata;
+use mesa_engine::binding::{Failure, recast_failure};
 use mesa_lease::TABLES;
 use mesa_model::Refusal;
 use mesa_open_files::Recast;

@@ -11,12 +11,13 @@ use Rattle.mesa_write_turns.specs.mesa_schema.declared.recasts.RecastError.{Reca
 use Rattle.mesa_write_turns.specs.mesa_schema.Changes.{epoch_of}
 use Rattle.mesa_write_turns.specs.mesa_schema.Columns.{place_of}
 use Rattle.mesa_write_turns.specs.mesa_schema.Recasts.{recast_checked}
-use Rattle.mesa_binding.specs.Told.{IsDue}
-use Rattle.mesa_binding.specs.declared.failure.Failure.{Failure}
-use Rattle.mesa_binding.specs.declared.failure.Failure.TheVariants as asked
+use Rattle.mesa_engine.specs.mesa_binding.Told.{IsDue}
+use Rattle.mesa_engine.specs.mesa_binding.declared.failure.Failure.{Failure}
+use Rattle.mesa_engine.specs.mesa_binding.declared.failure.Failure.TheVariants as asked
 use Rattle.mesa_write_turns.specs.mesa_history_spec.Machine.{Claim, Machine, Recasts, max_deltas, recast_claim_of, refuse_busy}
 use Rattle.mesa_lease.specs.Book.{holder}
 use Rattle.mesa_engine.specs.EngineState.{EngineState, books_of, projection_of}
+use Rattle.mesa_engine.specs.Failure.{cause_in, told_as}
 use Rattle.mesa_write_turns.specs.mesa_invariant_spec.Works.{HasNoClaim}
 use Rattle.mesa_engine.specs.mesa_store_spec.Catalog.{no_meta, ranges_of, start_in, meta_at}
 use Rattle.mesa_model.specs.Refusals.{no_such_table, recast_refusal, refuse_closed}
@@ -32,7 +33,6 @@ use Rattle.mesa_validate.specs.Recastings.{recast_due}
 use Rattle.mesa_validate.specs.Seen.{number_of}
 use Rattle.mesa_write_turns.specs.mesa_history_spec.Rows.{no_rows}
 use Rattle.mesa_span.specs.Ranges.{base_before, start_of}
-use Rattle.mesa_work_turns.specs.Claims.{cause_refused}
 
 -- ---- how many versions there are
 
@@ -112,7 +112,7 @@ module _ (l : EngineState) (at : ℕ) (words : RecastWords) where
             of_checked table (epoch_of (meta_at l.catalogue table).lineage) (recast_checked (meta_at l.catalogue table).lineage (recast_asked words)) (holder l.leases table at)
             (nat_lt max_deltas (l.catalogue.next - start_in (meta_at l.catalogue table))) is
 
-    pub denied : (failure : Failure) → IsDue (recast_due l.catalogue words) failure → HasNoClaim (books_of no_rows l) asked_of (cause_refused failure)
+    pub denied : (failure : Failure) → IsDue (recast_due l.catalogue words) failure → HasNoClaim (books_of no_rows l) asked_of (cause_in (told_as failure))
     denied (asked.Refused x) due = denied_as x due
     denied asked.Memory due = open'
 

@@ -8,14 +8,11 @@ use Rattle.mesa_engine.specs.mesa_store_spec.Catalog.{meta_at}
 use Rattle.mesa_engine.specs.EngineState.{EngineState}
 use Rattle.mesa_open_files.specs.declared.opening.Unopened.{Unopened}
 use Rattle.mesa_open_files.specs.declared.opening.Unopened.TheVariants as un
-use Rattle.mesa_binding.specs.declared.failure.Failure.{Failure}
-use Rattle.mesa_binding.specs.declared.failure.Failure.TheVariants as asked
 use Rattle.mesa_model.specs.Refusals.{refuse_closed}
 use Rattle.mesa_model.specs.declared.replies.Refusal.{Refusal}
 use Rattle.mesa_model.specs.declared.replies.Refusal.TheVariants as no
-use Rattle.mesa_model.specs.declared.replies.Reply.TheVariants as reply
 use Rattle.mesa_write_turns.specs.mesa_invariant_spec.Books.{Books}
-use Rattle.mesa_write_turns.specs.mesa_invariant_spec.Causes.{Cause, NoMemory, Replies, Unread}
+use Rattle.mesa_write_turns.specs.mesa_invariant_spec.Causes.{Cause, NoMemory, Unread}
 use Rattle.mesa_validate.specs.declared.recasting.Regrouping.{Regrouping}
 use Rattle.mesa_work_turns.specs.declared.claiming.Claimed.{Claimed}
 
@@ -31,11 +28,6 @@ recast_claim_as l x = record { table = x.table; lease = l.leases.granted + 1; er
 abbrev pub cause_met : Unopened → Cause
 cause_met un.Fault = Unread
 cause_met un.Memory = NoMemory
-
--- why the rules allow no recast
-abbrev pub cause_refused : Failure → Cause
-cause_refused (asked.Refused refusal) = Replies (reply.Refused refusal)
-cause_refused asked.Memory = NoMemory
 
 -- what the books say of a claim, by its table and the number of its lease
 abbrev pub lease_checked : Books → ℕ → ℕ → ℕ → Result (Unit {0}) Refusal

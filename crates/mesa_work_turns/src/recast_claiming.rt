@@ -9,7 +9,7 @@ ghost use Rattle.mesa_engine.specs.Failure.{cause_in};
 ghost use Rattle.mesa_write_turns.specs.mesa_schema.Recasts.{recast_checked};
 ghost use Rattle.mesa_write_turns.specs.mesa_history_spec.Rows.{no_rows};
 ghost use Rattle.mesa_write_turns.specs.mesa_invariant_spec.Works.{HasNoClaim};
-ghost use Rattle.mesa_work_turns.specs.Claims.{cause_refused, recast_claim_as};
+ghost use Rattle.mesa_work_turns.specs.Claims.{recast_claim_as};
 
 use mesa_engine::{Catalog, Failure, Metadata};
 use mesa_lease::TABLES;
@@ -42,10 +42,7 @@ pub(crate) fn claim_recast(
         return Err(Failure::Refused(Refusal::Closed { position }));
     }
     let catalog = metadata.catalog();
-    let asked = match recast(alloc, catalog, words) {
-        Ok(asked) => asked,
-        Err(failure) => return Err(refused(failure)),
-    };
+    let asked = recast(alloc, catalog, words)?;
     if let Some(lease) = metadata.holder(asked.table, position) {
         return Err(Failure::Busy { lease });
     }
@@ -71,15 +68,5 @@ fn versions(catalog: &Catalog) -> u64
     match catalog.newest() {
         Some(newest) => newest as u64 + 1,
         None => 0,
-    }
-}
-
-// Why the rules allow no recast.
-fn refused(failure: mesa_binding::Failure) -> Failure
-    ensures { cause_in result ≡ cause_refused failure }
-{
-    match failure {
-        mesa_binding::Failure::Refused(refusal) => Failure::Refused(refusal),
-        mesa_binding::Failure::Memory => Failure::Memory,
     }
 }

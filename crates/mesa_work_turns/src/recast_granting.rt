@@ -25,8 +25,8 @@ ghost use Rattle.mesa_engine.specs.Written.{written_at};
 
 use crate::granting::{failure_of, lease};
 use crate::recast_claiming::claim_recast;
-use mesa_binding::RecastNames;
 use mesa_disk::Made;
+use mesa_engine::binding::RecastNames;
 use mesa_engine::{Engine, Naming, Who};
 use mesa_io::Sink;
 use mesa_lease::TABLES;

@@ -7,8 +7,8 @@ use Rattle.std.proofs.lemmas.Simd.{map-map}
 use Rattle.mesa_file_records.specs.mesa_list.Checks.{◌>>◌}
 use Rattle.mesa_engine.specs.mesa_commit.Turn.{told_files}
 use Rattle.mesa_disk.specs.declared.moving.Adoption.{Adoption}
-use Rattle.mesa_binding.specs.declared.failure.Failure.{Failure as Unruled}
-use Rattle.mesa_binding.specs.declared.failure.Failure.TheVariants as unruled
+use Rattle.mesa_engine.specs.mesa_binding.declared.failure.Failure.{Failure as Unruled}
+use Rattle.mesa_engine.specs.mesa_binding.declared.failure.Failure.TheVariants as unruled
 use Rattle.mesa_model.specs.declared.commands.Command.{Command}
 use Rattle.mesa_model.specs.declared.commands.Command.TheVariants as command
 use Rattle.mesa_model.specs.declared.commands.Script.{Script}
@@ -37,9 +37,9 @@ use Rattle.mesa_engine.specs.mesa_invariant_spec.Turns.{Shown, IsSeen, Takes, en
 use Rattle.mesa_engine.specs.mesa_invariant_spec.Invariant.{run_at}
 use Rattle.mesa_engine.proofs.mesa_invariant_spec.Going.{publish_takes, simple_takes}
 use Rattle.mesa_engine.specs.EngineState.{EngineState, books_of, projection_of}
-use Rattle.mesa_engine.specs.Failure.{cause_in}
+use Rattle.mesa_engine.specs.Failure.{cause_in, told_as}
 use Rattle.mesa_engine.specs.Failing.{HasNotDone, deciding_kind, deciding_stage}
-use Rattle.mesa_write_turns.specs.Ruling.{IsAllowed, IsRefused, told_as}
+use Rattle.mesa_write_turns.specs.Ruling.{IsAllowed, IsRefused}
 use Rattle.mesa_write_turns.specs.Writing.{Brings, CanWrite, Does, HasRecord}
 
 -- ---- the rules

@@ -5,15 +5,12 @@ use Rattle.mesa_model.specs.declared.commands.Script.{Script}
 use Rattle.mesa_model.specs.declared.entries.Kind.TheVariants as kind
 use Rattle.mesa_file_records.specs.mesa_history_spec.Run.{First, Run}
 use Rattle.mesa_file_records.specs.mesa_history_spec.Turns.{IsDue}
-use Rattle.mesa_binding.specs.declared.failure.Failure.{Failure as Unruled}
-use Rattle.mesa_binding.specs.declared.failure.Failure.TheVariants as unruled
 use Rattle.mesa_record.specs.Rules.{keeps_rules}
 use Rattle.mesa_engine.specs.mesa_store_spec.Fitting.{fits}
 use Rattle.mesa_file_records.specs.mesa_history_spec.Rows.{no_rows}
 use Rattle.mesa_engine.specs.EngineState.{EngineState, books_of}
 use Rattle.mesa_engine.specs.Failure.{cause_in}
 use Rattle.mesa_engine.specs.declared.failure.Failure.{Failure}
-use Rattle.mesa_engine.specs.declared.failure.Failure.TheVariants as failure
 use Rattle.mesa_engine.specs.Memory.{Memory}
 use Rattle.mesa_validate.specs.declared.ruled.Ruled.{Ruled}
 use Rattle.mesa_engine.specs.Failing.{HasNotDone, deciding_kind, deciding_stage, is_of_device}
@@ -38,8 +35,3 @@ pub record IsRuledBy (script : Script) (r : Run) (session number : ℕ) (says : 
   pub simple : deciding_stage asked ≡ First
   pub decides : kind.Decide ≡ deciding_kind asked
   pub rules : (m : Memory) (ruled : Result Ruled Failure) → says m ruled → IfOk ruled (IsAllowed m.state asked) × IfErr ruled (IsRefused m.state asked)
-
--- why a turn does nothing, where the rules say why
-abbrev pub told_as : Unruled → Failure
-told_as (unruled.Refused refusal) = failure.Refused refusal
-told_as unruled.Memory = failure.Memory

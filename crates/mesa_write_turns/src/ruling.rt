@@ -3,23 +3,13 @@ ghost use Rattle.std.specs.Prelude.{◌≡◌, ℕ, IfErr, IfOk, None, OnOk, Som
 ghost use Rattle.mesa_engine.specs.declared.failure.Failure.TheVariants as failure;
 ghost use Rattle.mesa_model.specs.declared.commands.Command.TheVariants as command;
 ghost use Rattle.mesa_model.specs.declared.replies.Refusal.TheVariants as no;
-ghost use Rattle.mesa_write_turns.specs.Ruling.{IsAllowed, IsRefused, told_as};
+ghost use Rattle.mesa_write_turns.specs.Ruling.{IsAllowed, IsRefused};
 
 use mesa_engine::{Failure, Metadata};
 use mesa_model::{AlterWords, Refusal, TableWords, ViewWords};
 use mesa_schema::Words;
 use mesa_validate::Ruled;
 use std::alloc::Global;
-
-// Why a turn does nothing, where the rules say why.
-fn told(why: mesa_binding::Failure) -> Failure
-    ensures { result ≡ told_as why }
-{
-    match why {
-        mesa_binding::Failure::Refused(refusal) => Failure::Refused(refusal),
-        mesa_binding::Failure::Memory => Failure::Memory,
-    }
-}
 
 // Refuses whatever is asked of a vault that has closed.
 fn check_open(metadata: &Metadata) -> Result<(), Failure>
@@ -42,10 +32,7 @@ pub(crate) fn rule_table(
     ensures refused { IfErr result (IsRefused metadata.now.state (command.Table words.now)) }
 {
     check_open(metadata)?;
-    match mesa_validate::table(alloc, metadata.catalog(), words) {
-        Ok(ruled) => Ok(ruled),
-        Err(why) => Err(told(why)),
-    }
+    Ok(mesa_validate::table(alloc, metadata.catalog(), words)?)
 }
 
 // A view that is asked for.
@@ -58,10 +45,7 @@ pub(crate) fn rule_view(
     ensures refused { IfErr result (IsRefused metadata.now.state (command.View words.now)) }
 {
     check_open(metadata)?;
-    match mesa_validate::view(alloc, metadata.catalog(), words) {
-        Ok(ruled) => Ok(ruled),
-        Err(why) => Err(told(why)),
-    }
+    Ok(mesa_validate::view(alloc, metadata.catalog(), words)?)
 }
 
 // A change of a table's columns that is asked for.
@@ -74,10 +58,7 @@ pub(crate) fn rule_alter(
     ensures refused { IfErr result (IsRefused metadata.now.state (command.Alter words.now)) }
 {
     check_open(metadata)?;
-    match mesa_validate::alter(alloc, metadata.catalog(), words) {
-        Ok(ruled) => Ok(ruled),
-        Err(why) => Err(told(why)),
-    }
+    Ok(mesa_validate::alter(alloc, metadata.catalog(), words)?)
 }
 
 // An expiry of the versions below this one, of the table that is named or of all.
@@ -90,18 +71,9 @@ pub(crate) fn rule_expire(
     ensures refused { IfErr result (IsRefused metadata.now.state (command.Expire table.now version)) }
 {
     check_open(metadata)?;
+    let catalog = metadata.catalog();
     match table {
-        None => match mesa_validate::expire(metadata.catalog(), version) {
-            Ok(ruled) => Ok(ruled),
-            Err(refusal) => Err(Failure::Refused(refusal)),
-        },
-        Some(name) => match mesa_validate::expire_table(
-            metadata.catalog(),
-            name.as_slice(),
-            version,
-        ) {
-            Ok(ruled) => Ok(ruled),
-            Err(why) => Err(told(why)),
-        },
+        None => Ok(mesa_validate::expire(catalog, version)?),
+        Some(name) => Ok(mesa_validate::expire_table(catalog, name.as_slice(), version)?),
     }
 }
