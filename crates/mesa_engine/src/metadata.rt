@@ -1,11 +1,12 @@
 // A vault's memory, and what it is asked.
-ghost use Rattle.std.specs.Prelude.{◌≡◌, ◌+◌, ◌<◌, ◌≤◌, ◌^◌, find, length, option_map, None};
+ghost use Rattle.std.specs.Prelude.{◌≡◌, ◌+◌, ◌<◌, ◌≤◌, ◌^◌, ℕ, find, length, option_map, None, Some, IfErr, OnOk};
 ghost use Rattle.mesa_catalog.specs.Lookups.{generation_of};
 ghost use Rattle.mesa_lease.specs.Book.{holder};
 ghost use Rattle.mesa_engine.specs.EngineState.{next_id};
 ghost use Rattle.mesa_engine.specs.Turned.{is_held_pin};
 ghost use Rattle.mesa_engine.specs.Meaning.{pin_as};
 ghost use Rattle.mesa_engine.specs.Memory.{opened_state};
+ghost use Rattle.mesa_model.specs.declared.replies.Refusal.TheVariants as no;
 
 use crate::holders::{Holders, Pin};
 use mesa_catalog::Catalog;
@@ -13,6 +14,7 @@ use mesa_commit::{Dropped, Hold};
 use mesa_disk::Area;
 use mesa_file::FileId;
 use mesa_lease::{Leases, TABLES};
+use mesa_model::Refusal;
 use std::alloc::Global;
 use std::marker::Model;
 
@@ -134,11 +136,15 @@ impl Metadata {
         self.catalog.generation()
     }
 
-    /// The position of the turn that closed the vault, if it is closed.
-    pub fn closed(&self) -> Option<u64>
-        ensures { result ≡ self.now.state.closed }
+    /// Refuses whatever is asked of a vault that has closed.
+    pub fn check_open(&self) -> Result<(), Refusal>
+        ensures opened { OnOk result (self.now.state.closed ≡ None) }
+        ensures closed { IfErr result (λ x. (position : ℕ) × (self.now.state.closed ≡ Some position) × (x ≡ no.Closed position)) }
     {
-        self.closed
+        match self.closed {
+            Some(position) => Err(Refusal::Closed { position }),
+            None => Ok(()),
+        }
     }
 
     /// The journal's area.

@@ -20,7 +20,7 @@ use crate::spans::lines_of;
 use mesa_disk::{Disk, Made};
 use mesa_engine::{Engine, Failure, Metadata, Naming, Who};
 use mesa_io::Sink;
-use mesa_model::{ExplainWords, Kind, Outcome, Refusal, Reply};
+use mesa_model::{ExplainWords, Kind, Outcome, Reply};
 use std::alloc::Global;
 
 // A reply, and the lines behind its head line.
@@ -37,9 +37,7 @@ fn planned(alloc: Global, metadata: &Metadata, words: &ExplainWords) -> Result<T
     ensures refused { IfErr result (λ failure. HasNoPlan (books_of no_rows metadata.now.state) words.now (cause_in failure)) }
     ensures quiet { IfErr result (λ failure. is_of_device (cause_in failure) ≡ false) }
 {
-    if let Some(position) = metadata.closed() {
-        return Err(Failure::Refused(Refusal::Closed { position }));
-    }
+    metadata.check_open()?;
     let reply = mesa_validate::explain(alloc, metadata.catalog(), words)?;
     match lines_of(alloc, &reply) {
         Ok(lines) => Ok(Told { reply, lines }),

@@ -23,9 +23,7 @@ fn version_for(metadata: &Metadata, asked: VersionWord) -> Result<u32, Refusal>
     ensures opened { OnOk result (metadata.now.state.closed ≡ None) }
     ensures refused { IfErr result (λ x. (session : ℕ) → make_pin (books_of no_rows metadata.now.state).bare session asked ≡ Err x) }
 {
-    if let Some(position) = metadata.closed() {
-        return Err(Refusal::Closed { position });
-    }
+    metadata.check_open()?;
     mesa_validate::pin(metadata.catalog(), asked, metadata.pins())
 }
 

@@ -1,5 +1,5 @@
 // A pin's release.
-ghost use Rattle.std.specs.Prelude.{◌≡◌, ◌<◌, length, IfNone, IfSome, None, Err};
+ghost use Rattle.std.specs.Prelude.{◌≡◌, ◌<◌, length, IfErr, OnOk, None, Err};
 ghost use Rattle.mesa_engine.specs.mesa_history_spec.Run.{First, Finished};
 ghost use Rattle.mesa_engine.specs.mesa_history_spec.Turns.{IsDue};
 ghost use Rattle.mesa_engine.specs.EngineState.{books_of};
@@ -16,19 +16,17 @@ use mesa_engine::{Engine, Failure, Metadata, Naming, Who};
 use mesa_io::Sink;
 use mesa_model::{Kind, Outcome, Refusal, Reply};
 
-// Why a session's pin isn't released, if it isn't.
-fn unreleased(metadata: &Metadata, session: u16, token: u32) -> Option<Refusal>
-    ensures refused { IfSome result (λ x. release_pin (books_of no_rows metadata.now.state).bare session token ≡ Err x) }
-    ensures released { IfNone result (ReleasesPin (books_of no_rows metadata.now.state) session token) }
-    ensures opened { IfNone result (metadata.now.state.closed ≡ None) }
+// Whether a session's pin may be released, or why it isn't.
+fn check_release(metadata: &Metadata, session: u16, token: u32) -> Result<(), Refusal>
+    ensures refused { IfErr result (λ x. release_pin (books_of no_rows metadata.now.state).bare session token ≡ Err x) }
+    ensures released { OnOk result (ReleasesPin (books_of no_rows metadata.now.state) session token) }
+    ensures opened { OnOk result (metadata.now.state.closed ≡ None) }
 {
-    if let Some(position) = metadata.closed() {
-        return Some(Refusal::Closed { position });
-    }
+    metadata.check_open()?;
     if metadata.pin_of(session, token).is_none() {
-        return Some(Refusal::NoPin { token });
+        return Err(Refusal::NoPin { token });
     }
-    None
+    Ok(())
 }
 
 /// The turn of a release: the session's pin goes, and what it held may be removed by a later turn.
@@ -48,7 +46,7 @@ pub fn release<N: Naming, M: Made, D: Disk<M>, K: Sink>(
         engine.skip(who, Kind::Decide);
         return;
     }
-    if let Some(refusal) = unreleased(&engine.metadata, who.session, token) {
+    if let Err(refusal) = check_release(&engine.metadata, who.session, token) {
         return engine.fail(who, Kind::Decide, Failure::Refused(refusal));
     }
     engine.metadata.release(who.session, token);

@@ -27,9 +27,7 @@ pub fn seen_by<'a>(
     ensures pinned { IfOk result (λ seen. seen.pinned ≡ pinned_asked metadata.now.state session asked) }
     ensures refused { IfErr result (λ x. (rows : Rows) (words : AnyWords) → words.version ≡ asked → query_answer (books_of rows metadata.now.state).bare session words ≡ Err x) }
 {
-    if let Some(position) = metadata.closed() {
-        return Err(Refusal::Closed { position });
-    }
+    metadata.check_open()?;
     let VersionWord::Pin(token) = asked else {
         return Ok(Seen {
             catalog: metadata.catalog(),

@@ -27,7 +27,7 @@ fn may_rest<R>(metadata: &Metadata, task: &Recast<R>) -> bool
     requires { task.now.table < length metadata.now.state.catalogue.tables }
     ensures { IsTrue result ↔ MayRest metadata.now.state task.now }
 {
-    metadata.closed().is_none()
+    metadata.check_open().is_ok()
         && task.damage.is_none()
         && metadata.catalog().evolving(task.table).epoch() == task.epoch
 }

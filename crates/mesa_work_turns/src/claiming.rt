@@ -37,9 +37,7 @@ pub(crate) fn claim(metadata: &Metadata, name: &[u8], position: u64) -> Result<C
     ensures refused { IfErr result (λ f. HasNoClaim (books_of no_rows metadata.now.state) (claim_of (books_of no_rows metadata.now.state).bare (books_of no_rows metadata.now.state).machine position name.now) (cause_in f)) }
     ensures quiet { IfErr result (λ f. is_of_device (cause_in f) ≡ false) }
 {
-    if let Some(position) = metadata.closed() {
-        return Err(Failure::Refused(Refusal::Closed { position }));
-    }
+    metadata.check_open()?;
     let catalog = metadata.catalog();
     let Some(table) = table_number(catalog, name) else {
         return Err(Failure::Refused(Refusal::NoTable { row: None }));

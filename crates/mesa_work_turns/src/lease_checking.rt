@@ -14,9 +14,7 @@ pub fn check(metadata: &Metadata, table: u16, lease: u64, position: u64) -> Resu
     ensures held { OnOk result (lease_checked (books_of no_rows metadata.now.state) position table lease ≡ Ok tt) }
     ensures refused { IfErr result (λ x. lease_checked (books_of no_rows metadata.now.state) position table lease ≡ Err x) }
 {
-    if let Some(position) = metadata.closed() {
-        return Err(Refusal::Closed { position });
-    }
+    metadata.check_open()?;
     let holder = metadata.holder(table, position);
     match holder {
         Some(number) => {

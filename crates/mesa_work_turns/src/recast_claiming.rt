@@ -38,9 +38,7 @@ pub(crate) fn claim_recast(
     ensures refused { IfErr result (λ f. HasNoClaim (books_of no_rows metadata.now.state) (recast_claim_of (books_of no_rows metadata.now.state).bare (books_of no_rows metadata.now.state).machine position words.now) (cause_in f)) }
     ensures quiet { IfErr result (λ f. is_of_device (cause_in f) ≡ false) }
 {
-    if let Some(position) = metadata.closed() {
-        return Err(Failure::Refused(Refusal::Closed { position }));
-    }
+    metadata.check_open()?;
     let catalog = metadata.catalog();
     let asked = recast(alloc, catalog, words)?;
     if let Some(lease) = metadata.holder(asked.table, position) {

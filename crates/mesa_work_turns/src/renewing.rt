@@ -37,9 +37,7 @@ fn claims(metadata: &mut Metadata, table: u16, lease: u64, position: u64) -> Res
     ensures same { OnErr result (metadata.new.state ≡ metadata.old.state) }
     ensures leased { metadata.new.leased ≤ position + 1 }
 {
-    if let Some(position) = metadata.closed() {
-        return Err(Refusal::Closed { position });
-    }
+    metadata.check_open()?;
     match metadata.renew(table, lease, position) {
         Ok(()) => Ok(()),
         Err(lost) => Err(Refusal::Lost {

@@ -25,7 +25,7 @@ use mesa_disk::{Disk, Made};
 use mesa_engine::{Engine, Failure, Metadata, Naming, Who};
 use mesa_io::Sink;
 use mesa_lease::TABLES;
-use mesa_model::{Kind, Refusal, WorkWords};
+use mesa_model::{Kind, WorkWords};
 use mesa_open_files::{CompactError, Task, retire_task};
 use mesa_read_turns::can_be_told;
 
@@ -84,8 +84,8 @@ pub fn fall(
     ensures cause { cause_in result ≡ closing_cause metadata.old.state.closed error.now }
     ensures after { metadata.new ≡ with_state (closing_state metadata.old.state.closed error.now (moment == last) at table lease metadata.old.state) metadata.old }
 {
-    if let Some(position) = metadata.closed() {
-        return Failure::Refused(Refusal::Closed { position });
+    if let Err(refusal) = metadata.check_open() {
+        return Failure::Refused(refusal);
     }
     end_lease(metadata, table, lease, error, at, moment);
     failed(error)

@@ -42,6 +42,17 @@ pub(crate) enum Unready {
     Memory,
 }
 
+impl From<Refusal> for Unready {
+    ghost use Rattle.std.specs.Prelude.{◌≡◌};
+    ghost use Rattle.mesa_write_turns.specs.declared.publishing.Unready.TheVariants.{Refused};
+
+    ghost from_gives = { λ refusal e. e ≡ Refused refusal };
+
+    fn from(refusal: Refusal) -> Self {
+        Unready::Refused(refusal)
+    }
+}
+
 // Why rows make no batch, as it is told.
 fn refusal_of(error: BatchError) -> Refusal
     ensures { result ≡ batch_refusal error }
@@ -91,9 +102,7 @@ fn ready<M: Made>(
     ensures refused { IfErr result (λ e. HasFailed (books_of no_rows metadata.now.state) (command.Load rows.now) (λ w. load_batch w rows.now) (cause_of e)) }
     ensures draft { IfErr result (λ e. e ≡ why.Draft → made ≡ Err load.Draft) }
 {
-    if let Some(position) = metadata.closed() {
-        return Err(Unready::Refused(Refusal::Closed { position }));
-    }
+    metadata.check_open()?;
     let version = next_version(metadata.catalog());
     match made {
         Ok(prepared) => match mesa_file_records::publish(alloc, metadata, prepared) {

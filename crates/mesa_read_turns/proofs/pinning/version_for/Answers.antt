@@ -7,10 +7,10 @@ pub returns-clause-pinned : goal.returns-clause-pinned
 returns-clause-pinned c =
     let l = c.args.metadata.now.state in
     ok_so c.pin.result _ _ c.pin.ensures.pinned
-    (λ version does session. does _ session (catalog_there no_rows l c.catalog.result.now.catalogue c.catalog.ensures (sym c.closed.ensures ∙ c.in_default.is)) (pins_counted no_rows l ∙ sym c.pins.ensures))
+    (λ version does session. does _ session (catalog_there no_rows l c.catalog.result.now.catalogue c.catalog.ensures c.in_ok-check_open.ensures.opened) (pins_counted no_rows l ∙ sym c.pins.ensures))
 
 pub returns-clause-refused : goal.returns-clause-refused
 returns-clause-refused c =
     let l = c.args.metadata.now.state in
     err_so c.pin.result _ _ c.pin.ensures.refused
-    (λ x refuses session. refuses _ session (catalog_there no_rows l c.catalog.result.now.catalogue c.catalog.ensures (sym c.closed.ensures ∙ c.in_default.is)) (pins_counted no_rows l ∙ sym c.pins.ensures))
+    (λ x refuses session. refuses _ session (catalog_there no_rows l c.catalog.result.now.catalogue c.catalog.ensures c.in_ok-check_open.ensures.opened) (pins_counted no_rows l ∙ sym c.pins.ensures))

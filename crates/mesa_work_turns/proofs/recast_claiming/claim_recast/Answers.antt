@@ -13,29 +13,32 @@ use Rattle.mesa_write_turns.specs.mesa_history_spec.Machine.{Recasts}
 use Rattle.mesa_work_turns.proofs.RecastClaims.{busy, claimed, crowded, denied, over, shut, within}
 use Rattle.mesa_work_turns.proofs.recast_claiming.claim_recast.Goals as goal
 
-pub returns-in-Some-clause-refused : goal.returns-in-Some-clause-refused
-returns-in-Some-clause-refused c = shut c.args.metadata.now.state c.args.position c.args.words.now c.in-Some.position (sym c.closed.ensures ∙ c.in-Some.is)
+pub returns-in_err-check_open-clause-refused : goal.returns-in_err-check_open-clause-refused
+returns-in_err-check_open-clause-refused c =
+    let p = err_from_is_err_and c.from_residual.result c.from_residual.ensures.1 in
+    let why = c.in_err-check_open.ensures.closed in
+    rw (p.1, p.2, why.2) (shut c.args.metadata.now.state c.args.position c.args.words.now why.0 why.1)
 
 pub returns-in_err-asked-clause-refused : goal.returns-in_err-asked-clause-refused
 returns-in_err-asked-clause-refused c =
-    let p = err_from_is_err_and c.from_residual.result c.from_residual.ensures.1 in
+    let p = err_from_is_err_and c.from_residual-in_err-asked.result c.from_residual-in_err-asked.ensures.1 in
     let l = c.args.metadata.now.state in
     let why = c.in_err-asked.field-0.0 in
     let due = subst (λ (k : Catalog). IsDue (recast_due k c.args.words.now) why) c.catalog-catalog.ensures c.in_err-asked.ensures.refused in
-    rw (p.1, p.2) (denied l c.args.position c.args.words.now (sym c.closed.ensures ∙ c.in_default.is) why due)
+    rw (p.1, p.2) (denied l c.args.position c.args.words.now c.in_ok-check_open.ensures.opened why due)
 
 pub returns-in_err-asked-clause-quiet : goal.returns-in_err-asked-clause-quiet
 returns-in_err-asked-clause-quiet c =
-    let p = err_from_is_err_and c.from_residual.result c.from_residual.ensures.1 in
+    let p = err_from_is_err_and c.from_residual-in_err-asked.result c.from_residual-in_err-asked.ensures.1 in
     rw (p.1, p.2) (no_device c.in_err-asked.field-0.0)
 
-pub returns-in-Some-holder-clause-refused : goal.returns-in-Some-holder-clause-refused
-returns-in-Some-holder-clause-refused c =
+pub returns-in-Some-clause-refused : goal.returns-in-Some-clause-refused
+returns-in-Some-clause-refused c =
     let same = c.catalog-catalog.ensures in
     let table = c.in_ok-asked.asked.table in
     let there = ap (λ k. number_of k c.args.words.now.table) (sym same) ∙ c.in_ok-asked.ensures.table in
     let rule = subst (λ (k : Catalog). recast_checked (meta_at k table).lineage (recast_asked c.args.words.now) ≡ Ok tt) same c.in_ok-asked.ensures.checked in
-    busy c.args.metadata.now.state c.args.position c.args.words.now (sym c.closed.ensures ∙ c.in_default.is) table there rule c.in-Some-holder.lease (sym c.holder.ensures ∙ c.in-Some-holder.is)
+    busy c.args.metadata.now.state c.args.position c.args.words.now c.in_ok-check_open.ensures.opened table there rule c.in-Some.lease (sym c.holder.ensures ∙ c.in-Some.is)
 
 -- ---- the rules allow it, and no lease holds
 
@@ -54,7 +57,7 @@ returns-then-singletons-clause-refused c =
     let there = ap (λ k. number_of k c.args.words.now.table) (sym same) ∙ c.in_ok-asked.ensures.table in
     let rule = subst (λ (k : Catalog). recast_checked (meta_at k table).lineage (recast_asked c.args.words.now) ≡ Ok tt) same c.in_ok-asked.ensures.checked in
     let count = c.singletons.ensures ∙ ap (λ (k : Catalog). k.next - start_in (meta_at k table)) same in
-    crowded l c.args.position c.args.words.now (sym c.closed.ensures ∙ c.in_default.is) table there rule (sym c.holder.ensures ∙ c.in_default-holder.is) (over c.singletons.result (l.catalogue.next - start_in (meta_at l.catalogue table)) count c.if-singletons.true)
+    crowded l c.args.position c.args.words.now c.in_ok-check_open.ensures.opened table there rule (sym c.holder.ensures ∙ c.in_default.is) (over c.singletons.result (l.catalogue.next - start_in (meta_at l.catalogue table)) count c.if-singletons.true)
 
 pub returns-clause-claimed : goal.returns-clause-claimed
 returns-clause-claimed c =
@@ -66,5 +69,5 @@ returns-clause-claimed c =
     let rule = subst (λ (k : Catalog). recast_checked (meta_at k table).lineage (recast_asked c.args.words.now) ≡ Ok tt) same c.in_ok-asked.ensures.checked in
     let count = c.singletons.ensures ∙ ap (λ (k : Catalog). k.next - start_in (meta_at k table)) same in
     let names : recast_asked c.args.words.now ≡ record { keys = asked.names.keys; values = asked.names.values } = ap (λ (n : RecastNames). record { keys = n.keys; values = n.values }) (sym c.in_ok-asked.ensures.names) in
-    claimed l c.args.position c.args.words.now (sym c.closed.ensures ∙ c.in_default.is) table there rule (sym c.holder.ensures ∙ c.in_default-holder.is) (within c.singletons.result (l.catalogue.next - start_in (meta_at l.catalogue table)) count c.if-singletons.false)
+    claimed l c.args.position c.args.words.now c.in_ok-check_open.ensures.opened table there rule (sym c.holder.ensures ∙ c.in_default.is) (within c.singletons.result (l.catalogue.next - start_in (meta_at l.catalogue table)) count c.if-singletons.false)
     ∙ ap (λ (r : Recast). Ok (record { table = table; lease = l.leases.granted + 1; errand = Recasts (epoch_of (meta_at l.catalogue table).lineage) r })) names

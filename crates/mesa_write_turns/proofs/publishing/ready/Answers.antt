@@ -17,7 +17,7 @@ pub returns-in-Ok-publish-clause-ready : goal.returns-in-Ok-publish-clause-ready
 returns-in-Ok-publish-clause-ready g c =
     let l = c.args.metadata.now.state in
     let rows = c.args.rows.now in
-    let opened = sym c.closed.ensures ∙ c.in_default.is in
+    let opened = c.in_ok-check_open.ensures.opened in
     let pre = subst (λ m. HasPrepared g.M.Made.bytes g.M.Made.id_of (sight_of l.catalogue) rows m) c.in-Ok.is c.requires.made in
     let read = read_so l rows pre.0 pre.1 in
     can_publish l rows g.M.Made.bytes pre.0 c.in-Ok-publish.field-0 c.next_version-version.result c.len.result opened c.requires.room read (c.in-Ok-publish.ensures.published rows pre.0 read pre.2) (c.in-Ok-publish.ensures.loaded rows pre.0 read pre.2)
@@ -27,7 +27,7 @@ pub returns-in-Err-Refused-clause-refused : goal.returns-in-Err-Refused-clause-r
 returns-in-Err-Refused-clause-refused g c =
     let l = c.args.metadata.now.state in
     let rows = c.args.rows.now in
-    let opened = sym c.closed.ensures ∙ c.in_default.is in
+    let opened = c.in_ok-check_open.ensures.opened in
     let pre = subst (λ m. HasPrepared g.M.Made.bytes g.M.Made.id_of (sight_of l.catalogue) rows m) c.in-Ok.is c.requires.made in
     let read = read_so l rows pre.0 pre.1 in
     (c.in-Err-Refused.refusal, subst (λ e. IsDue (load_batch (bare_of l) rows) e) c.in-Err-Refused.field-0-is (c.in-Err-Refused.ensures.refused rows pre.0 opened read pre.2), refl)
@@ -37,4 +37,4 @@ returns-in-Err-clause-refused g c =
     let l = c.args.metadata.now.state in
     let rows = c.args.rows.now in
     subst (λ e. HasFailed (books_of no_rows l) (command.Load rows) (λ w. load_batch w rows) (cause_of e)) (sym c.unprepared.ensures)
-    (unready_fails l rows (sym c.closed.ensures ∙ c.in_default.is) c.in-Err.error (subst (λ m. HasPrepared g.M.Made.bytes g.M.Made.id_of (sight_of l.catalogue) rows m) c.in-Err.is c.requires.made))
+    (unready_fails l rows c.in_ok-check_open.ensures.opened c.in-Err.error (subst (λ m. HasPrepared g.M.Made.bytes g.M.Made.id_of (sight_of l.catalogue) rows m) c.in-Err.is c.requires.made))
