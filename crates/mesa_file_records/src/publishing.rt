@@ -31,9 +31,10 @@ use std::alloc::Global;
 // How many versions there may be.
 const MAX_VERSIONS: u32 = 0xffff_ffff;
 
-/// A batch that may be published: the record that does it, the files that it brings with their ids, and how many files the run has adopted with them.
+/// A batch that may be published: the version that it becomes, the record that does it, the files that it brings with their ids, and how many files the run has adopted with them.
 #[derive(Drop)]
 pub struct Published<M: Drop> {
+    pub version: u32,
     pub entry: Record,
     pub made: Vec<Adoption<M>>,
     pub adopted: u64,
@@ -51,6 +52,7 @@ pub fn publish<M: Made>(
     requires room { metadata.now.state.adopted + most_files < 2 ^ 40 }
     ensures published { IfOk result (λ p. (words : List AnyWords) (batch : List PlacedRow) → batch_of (tables_read metadata.now.state.catalogue) words ≡ Ok batch → IsPrepared M.bytes M.id_of (sight_of metadata.now.state.catalogue) batch prepared
         → IsPublished M.bytes metadata.now.state batch p) }
+    ensures version { IfOk result (λ p. p.version ≡ metadata.now.state.catalogue.next) }
     ensures loaded { OnOk result ((words : List AnyWords) (batch : List PlacedRow) → batch_of (tables_read metadata.now.state.catalogue) words ≡ Ok batch → IsPrepared M.bytes M.id_of (sight_of metadata.now.state.catalogue) batch prepared
         → IsLoaded metadata.now.state words batch) }
     ensures refused { IfErr result (λ e. (words : List AnyWords) (batch : List PlacedRow) → metadata.now.state.closed ≡ None → batch_of (tables_read metadata.now.state.catalogue) words ≡ Ok batch → IsPrepared M.bytes M.id_of (sight_of metadata.now.state.catalogue) batch prepared
@@ -68,6 +70,7 @@ pub fn publish<M: Made>(
     let parts = adopting.parts(catalog, prepared.parts)?;
     let adopted = adopted + adopting.made.len() as u64;
     Ok(Published {
+        version,
         entry: Record::Publish { version, parts },
         made: adopting.made,
         adopted,

@@ -1,5 +1,5 @@
 // A load's deciding turn.
-ghost use Rattle.std.specs.Prelude.{◌≡◌, ◌+◌, ◌<◌, ◌≤◌, ◌^◌, true, ℕ, List, Some, Err, IfErr, IfOk, length};
+ghost use Rattle.std.specs.Prelude.{◌≡◌, ◌+◌, ◌<◌, ◌^◌, true, ℕ, List, Some, Err, IfErr, IfOk, length};
 ghost use Rattle.mesa_engine.specs.mesa_catalog.Lookups.{sight_of};
 ghost use Rattle.mesa_disk.specs.Story.{Steps};
 ghost use Rattle.mesa_file_records.specs.mesa_history_spec.Run.{Finished, Looked};
@@ -11,7 +11,6 @@ ghost use Rattle.mesa_model.specs.declared.commands.Command.TheVariants as comma
 ghost use Rattle.mesa_model.specs.declared.entries.Kind.TheVariants as kind;
 ghost use Rattle.mesa_model.specs.Load.{load_batch};
 ghost use Rattle.mesa_model.specs.Refusals.{batch_refusal};
-ghost use Rattle.mesa_model.specs.Warehouse.{max_versions};
 ghost use Rattle.mesa_file_records.specs.mesa_history_spec.Rows.{Rows, no_rows};
 ghost use Rattle.mesa_engine.specs.mesa_commit.Holding.{Among};
 ghost use Rattle.mesa_engine.specs.mesa_invariant_spec.Causes.{Unwritten};
@@ -27,7 +26,7 @@ ghost use Rattle.mesa_write_turns.specs.Writing.{CanWrite, KeepsFiles};
 use crate::writing::{Change, write};
 use mesa_batch::{BatchError, LoadRows};
 use mesa_disk::{Disk, Made};
-use mesa_engine::{Catalog, Engine, Failure, Metadata, Naming, Who};
+use mesa_engine::{Engine, Failure, Metadata, Naming, Who};
 use mesa_file_records::{Published, Unpublished};
 use mesa_io::Sink;
 use mesa_model::{Kind, Refusal, Reply};
@@ -76,17 +75,6 @@ fn unprepared(error: LoadError) -> Unready
     }
 }
 
-// The number of the next version.
-fn next_version(catalog: &Catalog) -> u32
-    requires { catalog.now.catalogue.next ≤ max_versions }
-    ensures { result ≡ catalog.now.catalogue.next }
-{
-    match catalog.newest() {
-        None => 0,
-        Some(newest) => newest + 1,
-    }
-}
-
 // What publishes rows whose files are made, or why they aren't published.
 fn ready<M: Made>(
     alloc: Global,
@@ -103,11 +91,11 @@ fn ready<M: Made>(
     ensures draft { IfErr result (λ e. e ≡ why.Draft → made ≡ Err load.Draft) }
 {
     metadata.check_open()?;
-    let version = next_version(metadata.catalog());
     match made {
         Ok(prepared) => match mesa_file_records::publish(alloc, metadata, prepared) {
             Ok(
                 Published {
+                    version,
                     entry,
                     made,
                     adopted,

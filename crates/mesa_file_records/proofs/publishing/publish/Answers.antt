@@ -65,6 +65,9 @@ returns-clause-published g c =
     (λ i. record_of.Publish (version i) ((c.in_ok-parts.ensures.parts ∙ (λ j. parts_under (same j) (first j) parts)) i)) made
     (let ok = c.parts.new.self.made.ok in omega (arith, count, ok.0))
 
+pub returns-clause-version : goal.returns-clause-version
+returns-clause-version g c = c.in_ok-version.ensures.next.0 ∙ ap (λ (k : Catalog). k.next) c.catalog-catalog.ensures
+
 pub returns-clause-loaded : goal.returns-clause-loaded
 returns-clause-loaded g c =
     let l = c.args.metadata.now.state in

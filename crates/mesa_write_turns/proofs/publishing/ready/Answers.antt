@@ -1,6 +1,5 @@
-use Rattle.std.proofs.Common.{refl, sym, ◌∙◌, ap, subst}
+use Rattle.std.proofs.Common.{refl, sym, subst}
 use Rattle.mesa_engine.specs.mesa_catalog.Lookups.{sight_of}
-use Rattle.mesa_engine.specs.mesa_store_spec.Catalog.{Catalog}
 use Rattle.mesa_model.specs.declared.commands.Command.TheVariants as command
 use Rattle.mesa_file_records.specs.mesa_history_spec.Rows.{no_rows}
 use Rattle.mesa_engine.specs.mesa_invariant_spec.Changes.{HasFailed}
@@ -20,8 +19,8 @@ returns-in-Ok-publish-clause-ready g c =
     let opened = c.in_ok-check_open.ensures.opened in
     let pre = subst (λ m. HasPrepared g.M.Made.bytes g.M.Made.id_of (sight_of l.catalogue) rows m) c.in-Ok.is c.requires.made in
     let read = read_so l rows pre.0 pre.1 in
-    can_publish l rows g.M.Made.bytes pre.0 c.in-Ok-publish.field-0 c.next_version-version.result c.len.result opened c.requires.room read (c.in-Ok-publish.ensures.published rows pre.0 read pre.2) (c.in-Ok-publish.ensures.loaded rows pre.0 read pre.2)
-    (c.next_version-version.ensures ∙ ap (λ (k : Catalog). k.next) c.catalog.ensures) c.len.ensures
+    can_publish l rows g.M.Made.bytes pre.0 c.in-Ok-publish.field-0 c.in-Ok-publish.field-0.version c.len.result opened c.requires.room read (c.in-Ok-publish.ensures.published rows pre.0 read pre.2) (c.in-Ok-publish.ensures.loaded rows pre.0 read pre.2)
+    c.in-Ok-publish.ensures.version c.len.ensures
 
 pub returns-in-Err-Refused-clause-refused : goal.returns-in-Err-Refused-clause-refused
 returns-in-Err-Refused-clause-refused g c =
