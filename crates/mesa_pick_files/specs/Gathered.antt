@@ -12,6 +12,7 @@ use Rattle.mesa_open_files.specs.declared.opening.Unopened.{Unopened}
 use Rattle.mesa_open_files.specs.declared.opening.Unopened.TheVariants as un
 use Rattle.mesa_open_files.specs.declared.opening.Wanted.{Wanted}
 use Rattle.mesa_pick_files.specs.Files.{table_wanted, want_of}
+use Rattle.mesa_pick_files.specs.declared.gathering.Gathered.{Gathered}
 use Rattle.mesa_pick_files.specs.Folding.{folded_deltas}
 
 -- whether a fault of the disk or of a reader ended an opening
@@ -27,6 +28,10 @@ unread_view number = record { view = number; inputs = None }
 -- so many, from a number on
 abbrev pub unread_views : {R : Type 0} → ℕ → ℕ → List (TaskView R)
 unread_views from count = map unread_view (range_with_len from count)
+
+-- the task of a work on the table of a number, once it is granted with this lease
+abbrev pub task_with : {R : Type 0} → ℕ → Work → ℕ → Gathered R → Task R
+task_with number work lease g = record { table = number; work = work; lease = lease; epoch = g.epoch; inputs = g.inputs; views = g.views; damage = g.damage; spare = g.spare }
 
 -- A task has the table's files of the deltas that its work folds, in version order: all of them were opened, or those before the first that isn't the recorded one.
 pub record IsGathered {R : Type 0} (bytes : R → Option (List ℕ)) (faults : R → ℕ) (told : Option Image) (t : TableMeta) (work : Work) (task : Task R) : Type 0 where

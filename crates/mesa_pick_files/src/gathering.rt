@@ -11,36 +11,49 @@ ghost use Rattle.mesa_catalog_table.specs.Meaning.{IsTable, meta_of};
 ghost use Rattle.mesa_open_files.specs.Opening.{Counted};
 ghost use Rattle.mesa_open_files.specs.Spares.{HasSpares};
 ghost use Rattle.mesa_open_files.specs.Tasks.{IsTask};
-ghost use Rattle.mesa_pick_files.specs.Gathered.{IsGathered, is_fault_among, unread_views};
+ghost use Rattle.mesa_pick_files.specs.Gathered.{IsGathered, is_fault_among, task_with, unread_views};
 
 use crate::folding::folded;
 use crate::parts::{Part, Parts, open_parts};
 use crate::{Deltas, table_files};
 use mesa_catalog_table::Table;
+use mesa_delta::Input;
 use mesa_disk::Made;
-use mesa_open_files::{DeltaDisk, Spare, Task, Unopened};
+use mesa_file::Damage;
+use mesa_open_files::{DeltaDisk, Spare, TaskView, Unopened};
 use mesa_span::Work;
 use std::alloc::Global;
 
-/// The task of a work on the table of a number, which has no lease yet: the table's files of what it folds are open. They are opened once for each part of the merge, and at least once. The first file that isn't the recorded one ends the opening, and is told in the task. Each view's rows are to be derived from the table's.
+/// The open files of a range that is to be merged: all that a task has before its work is granted.
+#[derive(Drop)]
+pub struct Gathered<R> {
+    /// The epoch of the new delta's rows: the table's present one.
+    pub epoch: u32,
+    pub inputs: Vec<Input<R>>,
+    pub views: Vec<TaskView<R>>,
+    /// The first file that was absent or damaged.
+    pub damage: Option<Damage>,
+    /// Further readers of the same files.
+    pub spare: Vec<Spare<R>>,
+}
+
+/// Opens the table's files of what a work folds. They are opened once for each part of the merge, and at least once. The first file that isn't the recorded one ends the opening, and is told in what is gathered. Each view's rows are to be derived from the table's.
 pub fn gather<M: Made, D: DeltaDisk<M>>(
     alloc: Global,
     disk: &mut D,
     table: &Table,
-    number: u16,
     work: Work,
     parts: u8,
-) -> Result<Task<D::Reader>, Unopened>
+) -> Result<Gathered<D::Reader>, Unopened>
     requires { (next : ℕ) × (next < 2 ^ 32) × IsTable next table.now × AllByRecursion (λ d. d.epoch ≤ epoch_of table.now.evolving.value) (deltas_of (meta_of next table.now)) }
     ensures unmoved { Unmoved (D.story disk.old) (D.story disk.new) }
     ensures counted { Counted (D.story disk.old) (D.story disk.new) (is_fault_among result) }
-    ensures table { IfOk result (λ t. t.table ≡ number) }
-    ensures work { IfOk result (λ t. t.work ≡ work) }
-    ensures task { IfOk result (IsTask D.Reader.bytes table.now.evolving.value) }
-    ensures views { IfOk result (λ t. t.views.items ≡ unread_views 0 (length table.now.evolving.value.views)) }
-    ensures damage { IfOk result (λ t. IfSome t.damage (λ d. d.want ≢ d.found)) }
-    ensures spare { IfOk result (HasSpares D.Reader.bytes (parts - 1)) }
-    ensures files { (next : ℕ) → IsTable next table.now → IfOk result (IsGathered D.Reader.bytes D.Reader.faults (D.story disk.old).told (meta_of next table.now) work) }
+    ensures views { IfOk result (λ g. g.views.items ≡ unread_views 0 (length table.now.evolving.value.views)) }
+    ensures damage { IfOk result (λ g. IfSome g.damage (λ d. d.want ≢ d.found)) }
+    // Whichever number the table has and whichever lease it gets, this is a task of it.
+    ensures task { IfOk result (λ g. (number lease : ℕ) → IsTask D.Reader.bytes table.now.evolving.value (task_with number work lease g)) }
+    ensures spare { IfOk result (λ g. (number lease : ℕ) → HasSpares D.Reader.bytes (parts - 1) (task_with number work lease g)) }
+    ensures files { (next : ℕ) → IsTable next table.now → IfOk result (λ g. (number lease : ℕ) → IsGathered D.Reader.bytes D.Reader.faults (D.story disk.old).told (meta_of next table.now) work (task_with number work lease g)) }
 {
     let deltas = range_deltas(table, work);
     let Ok(wanted) = table_files(alloc, &table.evolving, &deltas) else {
@@ -51,10 +64,7 @@ pub fn gather<M: Made, D: DeltaDisk<M>>(
         Ok(Parts { first, spare }) => {
             let Part { readers, damage } = first;
             let Spare { inputs, views } = readers;
-            Ok(Task {
-                table: number,
-                work,
-                lease: 0,
+            Ok(Gathered {
                 epoch: table.evolving.epoch(),
                 inputs,
                 views,

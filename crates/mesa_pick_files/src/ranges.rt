@@ -15,34 +15,37 @@ ghost use Rattle.mesa_pick_files.specs.Ranging.{HasMoreAs, of_table};
 use mesa_catalog_table::{Delta, Table};
 use mesa_disk::Made;
 use mesa_file::Damage;
-use mesa_list::Items;
-use mesa_open_files::{
-    DeltaDisk, Met, Recast, RecastRange, Unopened, Wanted, open_one, retire_ranges,
-};
-use mesa_schema::Name;
+use mesa_open_files::{DeltaDisk, Met, RecastRange, Unopened, Wanted, open_one, retire_ranges};
+use mesa_schema::Evolving;
 use std::alloc::{AllocError, Global};
 use std::sync::Arc;
 
-/// The task of a recast of the table of a number to these columns, which has no lease yet: the file of each of the table's ranges is open. The first one that isn't the recorded one ends the opening, and is told in the task. A base has its range where it has no rows too.
+/// The open files of a table that is to be recast: all that a recast has of its table before it is granted.
+#[derive(Drop)]
+pub struct GatheredRanges<R> {
+    pub epoch: u32,
+    /// The table as it is now.
+    pub evolving: Arc<Evolving>,
+    pub ranges: Vec<RecastRange<R>>,
+    /// The first file that was absent or damaged.
+    pub damage: Option<Damage>,
+}
+
+/// Opens the file of each of a table's ranges. The first one that isn't the recorded one ends the opening, and is told in what is gathered. A base has its range where it has no rows too.
 pub fn gather_recast<M: Made, D: DeltaDisk<M>>(
     alloc: Global,
     disk: &mut D,
     table: &Table,
-    number: u16,
-    keys: Items<Name>,
-    values: Items<Name>,
-) -> Result<Recast<D::Reader>, Unopened>
+) -> Result<GatheredRanges<D::Reader>, Unopened>
     requires { (next : ℕ) × IsTable next table.now × AllByRecursion (λ d. d.epoch ≤ epoch_of table.now.evolving.value) (deltas_of (meta_of next table.now)) }
     ensures unmoved { Unmoved (D.story disk.old) (D.story disk.new) }
     ensures counted { Counted (D.story disk.old) (D.story disk.new) (is_fault_among result) }
-    ensures table { IfOk result (λ t. t.table ≡ number) }
-    ensures epoch { IfOk result (λ t. t.epoch ≡ epoch_of table.now.evolving.value) }
-    ensures columns { IfOk result (λ t. (t.keys ≡ keys) × (t.values ≡ values)) }
-    ensures evolving { IfOk result (λ t. t.evolving.value ≡ table.now.evolving.value) }
-    ensures damage { IfOk result (λ t. IfSome t.damage (λ d. d.want ≢ d.found)) }
-    ensures ranges { (next : ℕ) → IsTable next table.now → IfOk result (λ t. AllByRecursion (IsOfRange D.Reader.bytes D.Reader.faults (D.story disk.old).told (meta_of next table.now)) t.ranges.items) }
-    ensures holds { (next : ℕ) → IsTable next table.now → IfOk result (λ t. t.damage ≡ None → HoldsAll t.ranges.items (meta_of next table.now)) }
-    ensures damaged { (next : ℕ) → IsTable next table.now → IfOk result (λ t. IfSome t.damage (IsDamagedRange (D.story disk.old).told (meta_of next table.now))) }
+    ensures epoch { IfOk result (λ g. g.epoch ≡ epoch_of table.now.evolving.value) }
+    ensures evolving { IfOk result (λ g. g.evolving.value ≡ table.now.evolving.value) }
+    ensures damage { IfOk result (λ g. IfSome g.damage (λ d. d.want ≢ d.found)) }
+    ensures ranges { (next : ℕ) → IsTable next table.now → IfOk result (λ g. AllByRecursion (IsOfRange D.Reader.bytes D.Reader.faults (D.story disk.old).told (meta_of next table.now)) g.ranges.items) }
+    ensures holds { (next : ℕ) → IsTable next table.now → IfOk result (λ g. g.damage ≡ None → HoldsAll g.ranges.items (meta_of next table.now)) }
+    ensures damaged { (next : ℕ) → IsTable next table.now → IfOk result (λ g. IfSome g.damage (IsDamagedRange (D.story disk.old).told (meta_of next table.now))) }
 {
     let Ok(evolving) = table.evolving.clone() else {
         return Err(Unopened::Memory);
@@ -51,15 +54,11 @@ pub fn gather_recast<M: Made, D: DeltaDisk<M>>(
         return Err(Unopened::Memory);
     };
     match gather_more(alloc, disk, table, &mut ranges) {
-        Ok(damage) => Ok(Recast {
-            table: number,
-            lease: 0,
+        Ok(damage) => Ok(GatheredRanges {
             epoch: table.evolving.epoch(),
-            keys,
-            values,
+            evolving,
             ranges,
             damage,
-            evolving,
         }),
         Err(unopened) => {
             retire_ranges(disk, ranges);

@@ -11,7 +11,6 @@ pub mod RecastClaims
 pub mod Grants
 pub mod GrantTurns
 pub mod Renewals
-mod Spares
 pub mod Sound
 pub mod Ranges
 pub mod Bounded

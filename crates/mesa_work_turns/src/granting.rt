@@ -33,7 +33,7 @@ use mesa_io::Sink;
 use mesa_lease::TABLES;
 use mesa_model::{Kind, Outcome, WorkWords};
 use mesa_open_files::{DeltaDisk, Task, Unopened};
-use mesa_pick_files::gather;
+use mesa_pick_files::{Gathered, gather};
 
 /// The first turn of a work: its table has a lease from it on, and the files that it folds are open; unless the vault has closed, there is no such table, another work has the table, there is nothing to merge, or a file couldn't be opened.
 pub fn grant<N: Naming, M: Made, D: DeltaDisk<M>, K: Sink>(
@@ -109,22 +109,32 @@ fn take<N: Naming, M: Made, D: DeltaDisk<M>, K: Sink>(
 {
     let alloc = *engine.log.history.allocator();
     let table = engine.metadata.catalog().table(claimed.table);
-    let gathered = gather(
-        alloc,
-        &mut engine.disk,
-        table,
-        claimed.table,
-        claimed.work,
-        parts,
-    );
+    let gathered = gather(alloc, &mut engine.disk, table, claimed.work, parts);
     let moment = engine.disk.clock();
     match gathered {
-        Ok(mut task) => {
+        Ok(
+            Gathered {
+                epoch,
+                inputs,
+                views,
+                damage,
+                spare,
+            },
+        ) => {
             let at = engine.log.position();
-            task.lease = lease(&mut engine.metadata, claimed.table, who.session, at);
+            let lease = lease(&mut engine.metadata, claimed.table, who.session, at);
             let turn = who.turn(Kind::Grant, Outcome::Stands, moment);
             engine.log.pass(turn);
-            Some(task)
+            Some(Task {
+                table: claimed.table,
+                work: claimed.work,
+                lease,
+                epoch,
+                inputs,
+                views,
+                damage,
+                spare,
+            })
         }
         Err(unopened) => {
             engine

@@ -32,7 +32,7 @@ use mesa_io::Sink;
 use mesa_lease::TABLES;
 use mesa_model::{Kind, Outcome, RecastWords};
 use mesa_open_files::{DeltaDisk, Recast};
-use mesa_pick_files::gather_recast;
+use mesa_pick_files::{GatheredRanges, gather_recast};
 use mesa_validate::Regrouping;
 
 /// The first turn of a recast: its table has a lease from it on, and the files of all its ranges are open; unless the vault has closed, the rules of recasts don't allow it, a lease holds, the table has too many deltas, or a file couldn't be opened.
@@ -114,19 +114,36 @@ fn take<N: Naming, M: Made, D: DeltaDisk<M>, K: Sink>(
         table: number,
         names,
     } = claimed;
-    let RecastNames { keys, values } = names;
     let table = engine.metadata.catalog().table(number);
-    let gathered = gather_recast(alloc, &mut engine.disk, table, number, keys, values);
+    let gathered = gather_recast(alloc, &mut engine.disk, table);
     let moment = engine.disk.clock();
     match gathered {
-        Ok(mut task) => {
+        Ok(
+            GatheredRanges {
+                epoch,
+                evolving,
+                ranges,
+                damage,
+            },
+        ) => {
             let at = engine.log.position();
-            task.lease = lease(&mut engine.metadata, number, who.session, at);
+            let lease = lease(&mut engine.metadata, number, who.session, at);
             let turn = who.turn(Kind::Grant, Outcome::Stands, moment);
             engine.log.pass(turn);
-            Some(task)
+            let RecastNames { keys, values } = names;
+            Some(Recast {
+                table: number,
+                lease,
+                epoch,
+                evolving,
+                keys,
+                values,
+                ranges,
+                damage,
+            })
         }
         Err(unopened) => {
+            drop(names);
             engine
                 .log
                 .fail(who, Kind::Grant, moment, failure_of(unopened));

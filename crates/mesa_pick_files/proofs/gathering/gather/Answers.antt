@@ -28,14 +28,14 @@ returns-in-Ok-open_parts-clause-task g c =
     let wanted = ap (map want_of) c.deref-2.ensures.value ∙ c.in-Ok.ensures.files in
     let count = c.views-count.ensures ∙ ap (λ (x : Lineage). length x.views) c.deref.ensures in
     let opened = c.in-Ok-open_parts.ensures.opened.first in
-    record {
+    λ number lease. record {
       epoch = c.epoch.ensures.count ∙ ap epoch_of c.deref-in-Ok-open_parts.ensures;
       inputs = table_inputs bytes g.D.Reader.FileReader.faults told l (lent_in c.range_deltas-deltas.result) c.deref-2.result.now readers.inputs.items c.in-Ok-open_parts.field-0.first.damage wanted opened.opened;
       views = subst (AreTaskViews bytes (columns_of l) 0 l.views) (sym opened.views) (task_views bytes (columns_of l) c.views-count.result l.views count);
     }
 
 pub returns-in-Ok-open_parts-clause-files : goal.returns-in-Ok-open_parts-clause-files
-returns-in-Ok-open_parts-clause-files g c = λ next is.
+returns-in-Ok-open_parts-clause-files g c = λ next is number lease.
     let l = c.args.table.now.evolving.value in
     let folds = folded_deltas (meta_of next c.args.table.now) (is_base c.args.work) (last_of c.args.work) in
     record {
@@ -56,4 +56,4 @@ returns-in-Ok-open_parts-clause-views g c =
 pub returns-in-Ok-open_parts-clause-spare : goal.returns-in-Ok-open_parts-clause-spare
 returns-in-Ok-open_parts-clause-spare g c =
     let opened = c.in-Ok-open_parts.ensures.opened in
-    parts_spare g.D.Reader.FileReader.bytes g.D.Reader.FileReader.faults (g.D.Disk.story c.args.disk.now).told c.deref-2.result.now c.views-count.result (c.args.parts - 1) _ opened.first opened.spare opened.count opened.none
+    λ number lease. parts_spare g.D.Reader.FileReader.bytes g.D.Reader.FileReader.faults (g.D.Disk.story c.args.disk.now).told c.deref-2.result.now c.views-count.result (c.args.parts - 1) _ opened.first opened.spare opened.count opened.none

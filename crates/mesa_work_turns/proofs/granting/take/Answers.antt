@@ -18,13 +18,14 @@ use Rattle.mesa_engine.specs.mesa_store_spec.Moves.{first_of, is_base, last_of}
 use Rattle.mesa_engine.specs.Vault.{IsVault, Starts, outset_of}
 use Rattle.mesa_copy.specs.mesa_compact.Bounded.{IsBounded}
 use Rattle.mesa_engine.specs.Failure.{cause_in}
-use Rattle.mesa_pick_files.specs.Gathered.{IsGathered, unread_views}
+use Rattle.mesa_pick_files.specs.Gathered.{IsGathered, task_with, unread_views}
+use Rattle.mesa_pick_files.specs.declared.gathering.Gathered.{Gathered}
 use Rattle.mesa_lease.specs.Book.{granted}
 use Rattle.mesa_engine.specs.Memory.{with_leases}
 use Rattle.mesa_pick_files.specs.mesa_catalog_table.Meaning.{meta_of}
 use Rattle.mesa_write_turns.specs.mesa_history_spec.Rows.{Rows, no_rows}
 use Rattle.mesa_write_turns.specs.mesa_file_records.Finished.{HasRange}
-use Rattle.mesa_open_files.specs.Tasks.{IsTask}
+use Rattle.mesa_open_files.specs.Tasks.{IsTask, claim_in}
 use Rattle.mesa_open_files.specs.declared.merging.Task.{Task}
 use Rattle.mesa_write_turns.specs.mesa_invariant_spec.Turns.{AnswersDisk, Shown, SomeRose, Takes, entry, faults_of}
 use Rattle.mesa_write_turns.specs.mesa_invariant_spec.Invariant.{run_at}
@@ -37,7 +38,6 @@ use Rattle.mesa_work_turns.proofs.Claims.{work_ends}
 use Rattle.mesa_work_turns.proofs.Ranges.{has_no_damage, has_range}
 use Rattle.mesa_work_turns.proofs.Grants.{next_there, shaped_at, tables_there, unopened_counts}
 use Rattle.mesa_work_turns.proofs.GrantTurns.{IsGrant, IsNoGrant, is_grant, is_no_grant}
-use Rattle.mesa_work_turns.proofs.Spares.{leased_spares}
 use Rattle.mesa_work_turns.proofs.granting.take.Goals as goal
 
 pub gather-gathered-requires-after_bounds : goal.gather-gathered-requires-after_bounds
@@ -75,7 +75,7 @@ is_short : (g : _) (c : goal.After-pass g) → IsShort (entry c.args.who.session
 is_short g c = subst IsShort c.turn-turn.ensures.same c.turn-turn.ensures.short
 
 granted_at : (g : _) (c : goal.After-pass g)
-    → IsGrant g.K.Sink.held g.K.Sink.faults (starts g c) g.N.Naming.room g.N.Naming.sink_faults c.engine.inside.metadata c.lease.new.metadata (g.D.Disk.story c.engine.inside.disk) (g.D.Disk.story c.gather-gathered.new.disk)
+    → IsGrant g.K.Sink.held g.K.Sink.faults (starts g c) g.N.Naming.room g.N.Naming.sink_faults c.engine.inside.metadata c.lease-lease.new.metadata (g.D.Disk.story c.engine.inside.disk) (g.D.Disk.story c.gather-gathered.new.disk)
     (record { history = c.engine.inside.log.history.items; running = not c.engine.inside.log.printer.broken; clock = (g.D.Disk.story c.engine.inside.disk).moment })
     (record { history = c.pass.new.self.history.items; running = not c.pass.new.self.printer.broken; clock = (g.D.Disk.story c.gather-gathered.new.disk).moment })
     c.pass.new.self c.args.who.session c.args.who.command c.position-at.result (claim_as c.engine.inside.metadata.state c.args.claimed)
@@ -88,11 +88,15 @@ granted_at g c =
     let h = i.log.history.items in
     is_grant g.K.Sink.held g.K.Sink.faults (starts g c) N.room N.sink_faults i.metadata (g.D.Disk.story i.disk) (g.D.Disk.story c.gather-gathered.new.disk) i.log c.pass.new.self c.engine.invariant c.gather-gathered.ensures.unmoved s number asked refl c.clock-moment.result c.clock-moment.ensures (runs g c) c.position-at.result c.position-at.ensures
     (λ w. due_alike N.script (N.start no_rows) (N.start w) h s number asked First (N.alike w) refl (due_at g c)) c.pass.ensures.room
-    (claim_as i.metadata.state c.args.claimed) (claim_at g c) c.lease.new.metadata c.lease.ensures.granted c.in-Ok.ensures.counted (is_short g c)
+    (claim_as i.metadata.state c.args.claimed) (claim_at g c) c.lease-lease.new.metadata c.lease-lease.ensures.granted c.in-Ok.ensures.counted (is_short g c)
     (c.pass.ensures.items ∙ ap (λ x. h ++ x ∷ []) c.turn-turn.ensures.same) c.pass.ensures.printer c.pass.ensures.refused
 
 pub invariant_of-engine : goal.invariant_of-engine
 invariant_of-engine g c = (granted_at g c).kept
+
+-- the task as it is handed out
+abbrev task_of : (g : _) → goal.After-pass g → Task g.row.D-Reader.Denot
+task_of g c = task_with c.args.claimed.table c.args.claimed.work c.lease-lease.result c.in-Ok.field-0
 
 pub returns-in-Ok-clause-turn : goal.returns-in-Ok-clause-turn
 returns-in-Ok-clause-turn g c =
@@ -101,8 +105,7 @@ returns-in-Ok-clause-turn g c =
     let who = c.args.who in
     let later = c.pass.new.self in
     let shown : Shown = record { history = later.history.items; running = not later.printer.broken; clock = (g.D.Disk.story c.gather-gathered.new.disk).moment } in
-    let same : claim_as i.metadata.state c.args.claimed ≡ record { table = c.in-Ok.task.table; lease = c.lease.result; errand = Merges c.in-Ok.task.work } =
-    λ i. record { table = sym c.in-Ok.ensures.table i; lease = sym c.lease.ensures.number i; errand = Merges (sym c.in-Ok.ensures.work i) } in
+    let same : claim_as i.metadata.state c.args.claimed ≡ claim_in (task_of g c) = λ i. record { table = c.args.claimed.table; lease = sym c.lease-lease.ensures.number i; errand = Merges c.args.claimed.work } in
     subst (λ (x : Claim). Takes N.script (N.start no_rows) c.args.engine.now.shown shown who.session who.command kind.Grant (Granted x)) same
     (subst (λ (x : Standing). Takes N.script (N.start no_rows) x.shown shown who.session who.command kind.Grant (Granted (claim_as i.metadata.state c.args.claimed))) c.engine.view_is (granted_at g c).takes)
 
@@ -114,30 +117,27 @@ vault_behind : (g : _) (c : goal.After-pass g) (w : Rows) (b : Bool) → (IsTrue
     → IsVault (outset_of (starts g c) w) (g.N.Naming.origin w) b (leased g c) (g.D.Disk.story c.gather-gathered.new.disk) (g.K.Sink.held c.pass.new.self.printer.sink) c.pass.new.self.history.items (not c.pass.new.self.printer.broken) c.pass.new.self.refused
 vault_behind g c w b sound = (granted_at g c).behind w b sound
 
-table_there : (g : _) (c : goal.After-pass g) → c.in-Ok.task.table < length c.engine.inside.metadata.state.catalogue.tables
+table_there : (g : _) (c : goal.After-pass g) → c.args.claimed.table < length c.engine.inside.metadata.state.catalogue.tables
 table_there g c =
-    let l = c.engine.inside.metadata.state in
-    subst (λ k. k < length l.catalogue.tables) (sym c.in-Ok.ensures.table) (subst (λ (x : Standing). c.args.claimed.table < length x.state.catalogue.tables) (sym c.engine.view_is) c.requires.there)
+    subst (λ (x : Standing). c.args.claimed.table < length x.state.catalogue.tables) (sym c.engine.view_is) c.requires.there
 
 -- its table is the catalogue's
-meta_is : (g : _) (c : goal.After-pass g) → meta_of c.catalog.result.now.catalogue.next c.table-table.result.now ≡ meta_at c.engine.inside.metadata.state.catalogue c.in-Ok.task.table
-meta_is g c = c.table-table.ensures.meta ∙ ap (λ (k : Catalog). meta_at k c.args.claimed.table) c.catalog.ensures ∙ ap (meta_at c.engine.inside.metadata.state.catalogue) (sym c.in-Ok.ensures.table)
+meta_is : (g : _) (c : goal.After-pass g) → meta_of c.catalog.result.now.catalogue.next c.table-table.result.now ≡ meta_at c.engine.inside.metadata.state.catalogue c.args.claimed.table
+meta_is g c = c.table-table.ensures.meta ∙ ap (λ (k : Catalog). meta_at k c.args.claimed.table) c.catalog.ensures
 
 -- its work is one that is due
 work_due : (g : _) (c : goal.After-pass g)
-    → may_be_work c.engine.inside.metadata.state.catalogue (meta_at c.engine.inside.metadata.state.catalogue c.in-Ok.task.table) (is_base c.in-Ok.task.work) (first_of c.in-Ok.task.work) (last_of c.in-Ok.task.work) ≡ true
+    → may_be_work c.engine.inside.metadata.state.catalogue (meta_at c.engine.inside.metadata.state.catalogue c.args.claimed.table) (is_base c.args.claimed.work) (first_of c.args.claimed.work) (last_of c.args.claimed.work) ≡ true
 work_due g c =
     let l = c.engine.inside.metadata.state in
-    let t = c.in-Ok.task in
     let next : next_work (ranges_of (meta_at l.catalogue c.args.claimed.table)) (meta_at l.catalogue c.args.claimed.table).oldest (base_before l.catalogue.next) ≡ Some c.args.claimed.work =
     subst (λ (x : Standing). next_work (ranges_of (meta_at x.state.catalogue c.args.claimed.table)) (meta_at x.state.catalogue c.args.claimed.table).oldest (base_before x.state.catalogue.next) ≡ Some c.args.claimed.work) (sym c.engine.view_is) c.requires.next in
-    due_work_fits l.catalogue (meta_at l.catalogue t.table) (meta_at l.catalogue t.table).oldest l.catalogue.next t.work
-    (ap (λ k. next_work (ranges_of (meta_at l.catalogue k)) (meta_at l.catalogue k).oldest (base_before l.catalogue.next)) c.in-Ok.ensures.table ∙ next ∙ ap Some (sym c.in-Ok.ensures.work)) (omega arith) (omega arith)
+    due_work_fits l.catalogue (meta_at l.catalogue c.args.claimed.table) (meta_at l.catalogue c.args.claimed.table).oldest l.catalogue.next c.args.claimed.work next (omega arith) (omega arith)
 
 pub returns-in-Ok-clause-there : goal.returns-in-Ok-clause-there
 returns-in-Ok-clause-there g c =
     let later = c.pass.new.self in
-    subst (λ k. c.in-Ok.task.table < k)
+    subst (λ k. c.args.claimed.table < k)
     (sym (tables_there (outset_of (starts g c) no_rows) (g.N.Naming.origin no_rows) false (leased g c) (g.D.Disk.story c.gather-gathered.new.disk) (g.K.Sink.held later.printer.sink) later.history.items (not later.printer.broken) later.refused (vault_behind g c no_rows false (λ z. absurd cc))))
     (table_there g c)
 
@@ -145,35 +145,31 @@ pub returns-in-Ok-clause-next : goal.returns-in-Ok-clause-next
 returns-in-Ok-clause-next g c =
     let later = c.pass.new.self in
     let l = c.engine.inside.metadata.state in
-    let t = c.in-Ok.task in
+    let t = task_of g c in
     let is = (c.engine.invariant.vault no_rows false (λ z. absurd cc)).shaped in
     subst (λ k. last_of t.work < k)
     (sym (next_there (outset_of (starts g c) no_rows) (g.N.Naming.origin no_rows) false (leased g c) (g.D.Disk.story c.gather-gathered.new.disk) (g.K.Sink.held later.printer.sink) later.history.items (not later.printer.broken) later.refused (vault_behind g c no_rows false (λ z. absurd cc))))
     (work_ends l.catalogue (meta_at l.catalogue t.table) t.work (shaped_at l.catalogue is t.table (table_there g c)) (work_due g c))
 
--- the task as it is handed out
-abbrev task_of : (g : _) → goal.After-pass g → Task g.row.D-Reader.Denot
-task_of g c = record c.in-Ok.task { lease = c.lease.result }
-
-is_task : (g : _) (c : goal.After-pass g) → IsTask g.D.Reader.FileReader.bytes (meta_at c.engine.inside.metadata.state.catalogue c.in-Ok.task.table).lineage (task_of g c)
+is_task : (g : _) (c : goal.After-pass g) → IsTask g.D.Reader.FileReader.bytes (meta_at c.engine.inside.metadata.state.catalogue c.args.claimed.table).lineage (task_of g c)
 is_task g c =
-    let task = subst (λ (x : Lineage). IsTask g.D.Reader.FileReader.bytes x c.in-Ok.task) (ap (λ (u : TableMeta). u.lineage) (meta_is g c)) c.in-Ok.ensures.task in
-    record { epoch = task.epoch; inputs = task.inputs; views = task.views }
+    subst (λ (x : Lineage). IsTask g.D.Reader.FileReader.bytes x (task_of g c)) (ap (λ (u : TableMeta). u.lineage) (meta_is g c)) (c.in-Ok.ensures.task c.args.claimed.table c.lease-lease.result)
+
+pub returns-in-Ok-clause-task : goal.returns-in-Ok-clause-task
+returns-in-Ok-clause-task g c = subst (λ (x : Standing). IsTask g.D.Reader.FileReader.bytes (meta_at x.state.catalogue c.args.claimed.table).lineage (task_of g c)) c.engine.view_is (is_task g c)
 
 -- its files, as the disk behind the turn tells them
 gathered : (g : _) (c : goal.After-pass g)
-    → IsGathered g.D.Reader.FileReader.bytes g.D.Reader.FileReader.faults (g.D.Disk.story c.gather-gathered.new.disk).told (meta_at c.engine.inside.metadata.state.catalogue c.in-Ok.task.table) c.in-Ok.task.work (task_of g c)
+    → IsGathered g.D.Reader.FileReader.bytes g.D.Reader.FileReader.faults (g.D.Disk.story c.gather-gathered.new.disk).told (meta_at c.engine.inside.metadata.state.catalogue c.args.claimed.table) c.args.claimed.work (task_of g c)
 gathered g c =
     let bytes = g.D.Reader.FileReader.bytes in
     let faults = g.D.Reader.FileReader.faults in
     let told = (g.D.Disk.story c.engine.inside.disk).told in
-    let u = meta_at c.engine.inside.metadata.state.catalogue c.in-Ok.task.table in
-    let t = c.in-Ok.task in
-    let files = c.in-Ok.ensures.files _ c.table-table.ensures.held in
-    let of_table = subst (λ (x : TableMeta). IsGathered bytes faults told x c.args.claimed.work t) (meta_is g c) files in
-    let of_work = subst (λ k. IsGathered bytes faults told u k t) (sym c.in-Ok.ensures.work) of_table in
-    let read = subst (λ i. IsGathered bytes faults i u t.work t) (sym c.gather-gathered.ensures.unmoved.told) of_work in
-    record { wanted = read.wanted; are = read.are; opened = read.opened }
+    let u = meta_at c.engine.inside.metadata.state.catalogue c.args.claimed.table in
+    let work = c.args.claimed.work in
+    let t = task_of g c in
+    let files = c.in-Ok.ensures.files _ c.table-table.ensures.held c.args.claimed.table c.lease-lease.result in
+    subst (λ i. IsGathered bytes faults i u work t) (sym c.gather-gathered.ensures.unmoved.told) (subst (λ (x : TableMeta). IsGathered bytes faults told x work t) (meta_is g c) files)
 
 was_open : (g : _) (c : goal.After-pass g) → c.engine.inside.metadata.state.closed ≡ None
 was_open g c = ap (λ (x : Standing). x.state.closed) c.engine.view_is ∙ c.requires.opened
@@ -206,10 +202,10 @@ pub returns-in-Ok-clause-views : goal.returns-in-Ok-clause-views
 returns-in-Ok-clause-views g c =
     c.in-Ok.ensures.views
     ∙ ap (λ (u : TableMeta). unread_views 0 (length u.lineage.views)) (meta_is g c)
-    ∙ ap (λ (x : Standing). unread_views 0 (length (meta_at x.state.catalogue c.in-Ok.task.table).lineage.views)) c.engine.view_is
+    ∙ ap (λ (x : Standing). unread_views 0 (length (meta_at x.state.catalogue c.args.claimed.table).lineage.views)) c.engine.view_is
 
 pub returns-in-Ok-clause-spare : goal.returns-in-Ok-clause-spare
-returns-in-Ok-clause-spare g c = leased_spares g.D.Reader.FileReader.bytes (c.args.parts - 1) c.in-Ok.task c.lease.result c.in-Ok.ensures.spare
+returns-in-Ok-clause-spare g c = c.in-Ok.ensures.spare c.args.claimed.table c.lease-lease.result
 
 pub returns-in-Ok-clause-disk : goal.returns-in-Ok-clause-disk
 returns-in-Ok-clause-disk g c =
@@ -246,7 +242,7 @@ ungranted_at g c =
     let ran : not i.log.printer.broken ≡ true = ap (λ (x : Standing). x.shown.running) c.engine.view_is ∙ c.requires.runs in
     is_no_grant g.K.Sink.held g.K.Sink.faults n N.room N.sink_faults i.metadata story new i.log c.fail.new.self c.engine.invariant c.gather-gathered.ensures.unmoved s number asked refl c.clock-moment.result c.clock-moment.ensures ran (length h) refl
     (λ w. due_alike N.script (N.start no_rows) (N.start w) h s number asked First (N.alike w) refl due) c.fail.ensures.room
-    claim is open' c.in-Err.unopened (cause_in c.failure_of.result) c.failure_of.ensures (unopened_counts (Task g.row.D-Reader.Denot) story new c.in-Err.unopened c.in-Err.ensures.counted) c.fail.ensures.short c.fail.ensures.items c.fail.ensures.told c.fail.ensures.refused
+    claim is open' c.in-Err.unopened (cause_in c.failure_of.result) c.failure_of.ensures (unopened_counts (Gathered g.row.D-Reader.Denot) story new c.in-Err.unopened c.in-Err.ensures.counted) c.fail.ensures.short c.fail.ensures.items c.fail.ensures.told c.fail.ensures.refused
 
 pub invariant_of-engine-in-Err : goal.invariant_of-engine-in-Err
 invariant_of-engine-in-Err g c = (ungranted_at g c).kept

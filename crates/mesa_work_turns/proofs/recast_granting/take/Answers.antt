@@ -27,6 +27,7 @@ use Rattle.std.specs.Prelude.{IfSome}
 use Rattle.mesa_engine.specs.mesa_store_spec.Fitting.{deltas_of}
 use Rattle.mesa_write_turns.specs.mesa_schema.Recasts.{recast_checked}
 use Rattle.mesa_pick_files.specs.Ranges.{HoldsAll, IsDamagedRange, IsOfRange}
+use Rattle.mesa_pick_files.specs.declared.ranges.GatheredRanges.{GatheredRanges}
 use Rattle.mesa_open_files.specs.Recasts.{AreRangesOf, claim_of_recast, recast_table}
 use Rattle.mesa_open_files.specs.declared.recasting.Recast.{Recast}
 use Rattle.mesa_open_files.specs.declared.recasting.RecastRange.{RecastRange}
@@ -68,7 +69,7 @@ is_short : (g : _) (c : goal.After-pass g) → IsShort (entry c.args.who.session
 is_short g c = subst IsShort c.turn-turn.ensures.same c.turn-turn.ensures.short
 
 granted_at : (g : _) (c : goal.After-pass g)
-    → IsGrant g.K.Sink.held g.K.Sink.faults (starts g c) g.N.Naming.room g.N.Naming.sink_faults c.engine.inside.metadata c.lease.new.metadata (g.D.Disk.story c.engine.inside.disk) (g.D.Disk.story c.gather_recast-gathered.new.disk)
+    → IsGrant g.K.Sink.held g.K.Sink.faults (starts g c) g.N.Naming.room g.N.Naming.sink_faults c.engine.inside.metadata c.lease-lease.new.metadata (g.D.Disk.story c.engine.inside.disk) (g.D.Disk.story c.gather_recast-gathered.new.disk)
     (record { history = c.engine.inside.log.history.items; running = not c.engine.inside.log.printer.broken; clock = (g.D.Disk.story c.engine.inside.disk).moment })
     (record { history = c.pass.new.self.history.items; running = not c.pass.new.self.printer.broken; clock = (g.D.Disk.story c.gather_recast-gathered.new.disk).moment })
     c.pass.new.self c.args.who.session c.args.who.command c.position-at.result (recast_claim_as c.engine.inside.metadata.state c.args.claimed)
@@ -81,7 +82,7 @@ granted_at g c =
     let h = i.log.history.items in
     is_grant g.K.Sink.held g.K.Sink.faults (starts g c) N.room N.sink_faults i.metadata (g.D.Disk.story i.disk) (g.D.Disk.story c.gather_recast-gathered.new.disk) i.log c.pass.new.self c.engine.invariant c.gather_recast-gathered.ensures.unmoved s number asked refl c.clock-moment.result c.clock-moment.ensures (runs g c) c.position-at.result c.position-at.ensures
     (λ w. due_alike N.script (N.start no_rows) (N.start w) h s number asked First (N.alike w) refl (due_at g c)) c.pass.ensures.room
-    (recast_claim_as i.metadata.state c.args.claimed) (claim_at g c) c.lease.new.metadata c.lease.ensures.granted c.in-Ok.ensures.counted (is_short g c)
+    (recast_claim_as i.metadata.state c.args.claimed) (claim_at g c) c.lease-lease.new.metadata c.lease-lease.ensures.granted c.in-Ok.ensures.counted (is_short g c)
     (c.pass.ensures.items ∙ ap (λ x. h ++ x ∷ []) c.turn-turn.ensures.same) c.pass.ensures.printer c.pass.ensures.refused
 
 pub invariant_of-engine : goal.invariant_of-engine
@@ -89,7 +90,10 @@ invariant_of-engine g c = (granted_at g c).kept
 
 -- the task as it is handed out
 abbrev task_of : (g : _) → goal.After-pass g → Recast g.row.D-Reader.Denot
-task_of g c = record c.in-Ok.task { lease = c.lease.result }
+task_of g c =
+    let claimed = c.args.claimed in
+    let opened = c.in-Ok.field-0 in
+    record { table = claimed.table; lease = c.lease-lease.result; epoch = opened.epoch; evolving = opened.evolving; keys = claimed.names.keys; values = claimed.names.values; ranges = opened.ranges; damage = opened.damage }
 
 pub returns-in-Ok-clause-turn : goal.returns-in-Ok-clause-turn
 returns-in-Ok-clause-turn g c =
@@ -100,7 +104,7 @@ returns-in-Ok-clause-turn g c =
     let shown : Shown = record { history = later.history.items; running = not later.printer.broken; clock = (g.D.Disk.story c.gather_recast-gathered.new.disk).moment } in
     let epoch = c.in-Ok.ensures.epoch ∙ ap (λ (u : TableMeta). epoch_of u.lineage) (c.table-table.ensures.meta ∙ ap (λ (k : Catalog). meta_at k c.args.claimed.table) c.catalog.ensures) in
     let same : recast_claim_as i.metadata.state c.args.claimed ≡ claim_of_recast (task_of g c) =
-    λ i. record { table = sym c.in-Ok.ensures.table i; lease = sym c.lease.ensures.number i; errand = Recasts (sym epoch i) (record { keys = sym c.in-Ok.ensures.columns.0 i; values = sym c.in-Ok.ensures.columns.1 i }) } in
+    λ i. record { table = c.args.claimed.table; lease = sym c.lease-lease.ensures.number i; errand = Recasts (sym epoch i) (record { keys = c.args.claimed.names.keys; values = c.args.claimed.names.values }) } in
     subst (λ (x : Claim). Takes N.script (N.start no_rows) c.args.engine.now.shown shown who.session who.command kind.Grant (Granted x)) same
     (subst (λ (x : Standing). Takes N.script (N.start no_rows) x.shown shown who.session who.command kind.Grant (Granted (recast_claim_as i.metadata.state c.args.claimed))) c.engine.view_is (granted_at g c).takes)
 
@@ -112,25 +116,24 @@ vault_behind : (g : _) (c : goal.After-pass g) (w : Rows) (b : Bool) → (IsTrue
     → IsVault (outset_of (starts g c) w) (g.N.Naming.origin w) b (leased g c) (g.D.Disk.story c.gather_recast-gathered.new.disk) (g.K.Sink.held c.pass.new.self.printer.sink) c.pass.new.self.history.items (not c.pass.new.self.printer.broken) c.pass.new.self.refused
 vault_behind g c w b sound = (granted_at g c).behind w b sound
 
-table_there : (g : _) (c : goal.After-pass g) → c.in-Ok.task.table < length c.engine.inside.metadata.state.catalogue.tables
+table_there : (g : _) (c : goal.After-pass g) → c.args.claimed.table < length c.engine.inside.metadata.state.catalogue.tables
 table_there g c =
-    let l = c.engine.inside.metadata.state in
-    subst (λ k. k < length l.catalogue.tables) (sym c.in-Ok.ensures.table) (subst (λ (x : Standing). c.args.claimed.table < length x.state.catalogue.tables) (sym c.engine.view_is) c.requires.there)
+    subst (λ (x : Standing). c.args.claimed.table < length x.state.catalogue.tables) (sym c.engine.view_is) c.requires.there
 
 -- its table is the catalogue's
-meta_is : (g : _) (c : goal.After-pass g) → meta_of c.catalog.result.now.catalogue.next c.table-table.result.now ≡ meta_at c.engine.inside.metadata.state.catalogue c.in-Ok.task.table
-meta_is g c = c.table-table.ensures.meta ∙ ap (λ (k : Catalog). meta_at k c.args.claimed.table) c.catalog.ensures ∙ ap (meta_at c.engine.inside.metadata.state.catalogue) (sym c.in-Ok.ensures.table)
+meta_is : (g : _) (c : goal.After-pass g) → meta_of c.catalog.result.now.catalogue.next c.table-table.result.now ≡ meta_at c.engine.inside.metadata.state.catalogue c.args.claimed.table
+meta_is g c = c.table-table.ensures.meta ∙ ap (λ (k : Catalog). meta_at k c.args.claimed.table) c.catalog.ensures
 
 -- each range of the task is one of its table
 ranges_of_meta : (g : _) (c : goal.After-pass g)
-    → AllByRecursion (IsOfRange g.D.Reader.FileReader.bytes g.D.Reader.FileReader.faults (g.D.Disk.story c.engine.inside.disk).told (meta_at c.engine.inside.metadata.state.catalogue c.in-Ok.task.table)) c.in-Ok.task.ranges.items
+    → AllByRecursion (IsOfRange g.D.Reader.FileReader.bytes g.D.Reader.FileReader.faults (g.D.Disk.story c.engine.inside.disk).told (meta_at c.engine.inside.metadata.state.catalogue c.args.claimed.table)) c.in-Ok.field-0.ranges.items
 ranges_of_meta g c =
-    subst (λ (u : TableMeta). AllByRecursion (IsOfRange g.D.Reader.FileReader.bytes g.D.Reader.FileReader.faults (g.D.Disk.story c.engine.inside.disk).told u) c.in-Ok.task.ranges.items) (meta_is g c) (c.in-Ok.ensures.ranges _ c.table-table.ensures.held)
+    subst (λ (u : TableMeta). AllByRecursion (IsOfRange g.D.Reader.FileReader.bytes g.D.Reader.FileReader.faults (g.D.Disk.story c.engine.inside.disk).told u) c.in-Ok.field-0.ranges.items) (meta_is g c) (c.in-Ok.ensures.ranges _ c.table-table.ensures.held)
 
 pub returns-in-Ok-clause-there : goal.returns-in-Ok-clause-there
 returns-in-Ok-clause-there g c =
     let later = c.pass.new.self in
-    subst (λ k. c.in-Ok.task.table < k)
+    subst (λ k. c.args.claimed.table < k)
     (sym (tables_there (outset_of (starts g c) no_rows) (g.N.Naming.origin no_rows) false (leased g c) (g.D.Disk.story c.gather_recast-gathered.new.disk) (g.K.Sink.held later.printer.sink) later.history.items (not later.printer.broken) later.refused (vault_behind g c no_rows false (λ z. absurd cc))))
     (table_there g c)
 
@@ -139,20 +142,20 @@ returns-in-Ok-clause-next g c =
     let later = c.pass.new.self in
     let l = c.engine.inside.metadata.state in
     let is = (c.engine.invariant.vault no_rows false (λ z. absurd cc)).shaped in
-    subst (λ k. AllByRecursion (λ (x : RecastRange g.row.D-Reader.Denot). x.to < k) c.in-Ok.task.ranges.items)
+    subst (λ k. AllByRecursion (λ (x : RecastRange g.row.D-Reader.Denot). x.to < k) c.in-Ok.field-0.ranges.items)
     (sym (next_there (outset_of (starts g c) no_rows) (g.N.Naming.origin no_rows) false (leased g c) (g.D.Disk.story c.gather_recast-gathered.new.disk) (g.K.Sink.held later.printer.sink) later.history.items (not later.printer.broken) later.refused (vault_behind g c no_rows false (λ z. absurd cc))))
-    (ranges_end g.D.Reader.FileReader.bytes g.D.Reader.FileReader.faults (g.D.Disk.story c.engine.inside.disk).told l.catalogue.floor l.catalogue.next (meta_at l.catalogue c.in-Ok.task.table) (shaped_at l.catalogue is c.in-Ok.task.table (table_there g c)) c.in-Ok.task.ranges.items (ranges_of_meta g c))
+    (ranges_end g.D.Reader.FileReader.bytes g.D.Reader.FileReader.faults (g.D.Disk.story c.engine.inside.disk).told l.catalogue.floor l.catalogue.next (meta_at l.catalogue c.args.claimed.table) (shaped_at l.catalogue is c.args.claimed.table (table_there g c)) c.in-Ok.field-0.ranges.items (ranges_of_meta g c))
 
 pub returns-in-Ok-clause-task : goal.returns-in-Ok-clause-task
 returns-in-Ok-clause-task g c =
-    let t = c.in-Ok.task in
+    let t = task_of g c in
     let l = c.engine.inside.metadata.state in
     let now = meta_at l.catalogue t.table in
     let evolving : recast_table t ≡ now.lineage = c.in-Ok.ensures.evolving ∙ ap (λ (u : TableMeta). u.lineage) (meta_is g c) in
     let checked = subst (λ (x : Standing). recast_checked (meta_at x.state.catalogue c.args.claimed.table).lineage (record { keys = c.args.claimed.names.keys; values = c.args.claimed.names.values }) ≡ Ok tt) (sym c.engine.view_is) c.requires.checked in
     record {
       epoch = c.in-Ok.ensures.epoch ∙ ap epoch_of (sym c.in-Ok.ensures.evolving);
-      allowed = (λ i. recast_checked (((evolving ∙ ap (λ k. (meta_at l.catalogue k).lineage) c.in-Ok.ensures.table) i)) (record { keys = c.in-Ok.ensures.columns.0 i; values = c.in-Ok.ensures.columns.1 i })) ∙ checked;
+      allowed = ap (λ (x : Lineage). recast_checked x (record { keys = c.args.claimed.names.keys; values = c.args.claimed.names.values })) evolving ∙ checked;
       ranges = subst (λ (x : Lineage). AreRangesOf g.D.Reader.FileReader.bytes x t.ranges.items) (sym evolving)
           (ranges_inputs g.D.Reader.FileReader.bytes g.D.Reader.FileReader.faults (g.D.Disk.story c.engine.inside.disk).told now t.ranges.items (ranges_of_meta g c));
     }
@@ -162,30 +165,27 @@ returns-in-Ok-clause-lineage g c =
     c.in-Ok.ensures.evolving ∙ ap (λ (u : TableMeta). u.lineage) (c.table-table.ensures.meta ∙ ap (λ (k : Catalog). meta_at k c.args.claimed.table) c.catalog.ensures)
     ∙ ap (λ (x : Standing). (meta_at x.state.catalogue c.args.claimed.table).lineage) c.engine.view_is
 
-pub returns-in-Ok-clause-asked : goal.returns-in-Ok-clause-asked
-returns-in-Ok-clause-asked g c = λ i. record { keys = c.in-Ok.ensures.columns.0 i; values = c.in-Ok.ensures.columns.1 i }
-
 pub returns-in-Ok-clause-holds : goal.returns-in-Ok-clause-holds
 returns-in-Ok-clause-holds g c none =
-    subst (λ (x : Standing). HoldsAll c.in-Ok.task.ranges.items (meta_at x.state.catalogue c.in-Ok.task.table)) c.engine.view_is
-    (subst (HoldsAll c.in-Ok.task.ranges.items) (meta_is g c) (c.in-Ok.ensures.holds _ c.table-table.ensures.held none))
+    subst (λ (x : Standing). HoldsAll c.in-Ok.field-0.ranges.items (meta_at x.state.catalogue c.args.claimed.table)) c.engine.view_is
+    (subst (HoldsAll c.in-Ok.field-0.ranges.items) (meta_is g c) (c.in-Ok.ensures.holds _ c.table-table.ensures.held none))
 
 was_open : (g : _) (c : goal.After-pass g) → c.engine.inside.metadata.state.closed ≡ None
 was_open g c = ap (λ (x : Standing). x.state.closed) c.engine.view_is ∙ c.requires.opened
 
 -- the files of its ranges, as the disk behind the turn tells them
 told_ranges : (g : _) (c : goal.After-pass g)
-    → AllByRecursion (IsOfRange g.D.Reader.FileReader.bytes g.D.Reader.FileReader.faults (g.D.Disk.story c.gather_recast-gathered.new.disk).told (meta_at c.engine.inside.metadata.state.catalogue c.in-Ok.task.table)) c.in-Ok.task.ranges.items
+    → AllByRecursion (IsOfRange g.D.Reader.FileReader.bytes g.D.Reader.FileReader.faults (g.D.Disk.story c.gather_recast-gathered.new.disk).told (meta_at c.engine.inside.metadata.state.catalogue c.args.claimed.table)) c.in-Ok.field-0.ranges.items
 told_ranges g c =
-    subst (λ i. AllByRecursion (IsOfRange g.D.Reader.FileReader.bytes g.D.Reader.FileReader.faults i (meta_at c.engine.inside.metadata.state.catalogue c.in-Ok.task.table)) c.in-Ok.task.ranges.items) (sym c.gather_recast-gathered.ensures.unmoved.told) (ranges_of_meta g c)
+    subst (λ i. AllByRecursion (IsOfRange g.D.Reader.FileReader.bytes g.D.Reader.FileReader.faults i (meta_at c.engine.inside.metadata.state.catalogue c.args.claimed.table)) c.in-Ok.field-0.ranges.items) (sym c.gather_recast-gathered.ensures.unmoved.told) (ranges_of_meta g c)
 
 pub returns-in-Ok-clause-whole : goal.returns-in-Ok-clause-whole
 returns-in-Ok-clause-whole g c w sound =
     let later = c.pass.new.self in
     let told = (g.D.Disk.story c.engine.inside.disk).told in
-    let met = subst (λ (u : TableMeta). IfSome c.in-Ok.task.damage (IsDamagedRange told u)) (meta_is g c) (c.in-Ok.ensures.damaged _ c.table-table.ensures.held) in
+    let met = subst (λ (u : TableMeta). IfSome c.in-Ok.field-0.damage (IsDamagedRange told u)) (meta_is g c) (c.in-Ok.ensures.damaged _ c.table-table.ensures.held) in
     none_damaged (outset_of (starts g c) w) (g.N.Naming.origin w) (leased g c) (g.D.Disk.story c.gather_recast-gathered.new.disk) (g.K.Sink.held later.printer.sink) later.history.items (not later.printer.broken) later.refused (vault_behind g c w true (λ ok. sound)) (was_open g c)
-    c.in-Ok.task.table (table_there g c) c.in-Ok.task.damage (subst (λ i. IfSome c.in-Ok.task.damage (IsDamagedRange i (meta_at c.engine.inside.metadata.state.catalogue c.in-Ok.task.table))) (sym c.gather_recast-gathered.ensures.unmoved.told) met)
+    c.args.claimed.table (table_there g c) c.in-Ok.field-0.damage (subst (λ i. IfSome c.in-Ok.field-0.damage (IsDamagedRange i (meta_at c.engine.inside.metadata.state.catalogue c.args.claimed.table))) (sym c.gather_recast-gathered.ensures.unmoved.told) met)
 
 pub returns-in-Ok-clause-bounded : goal.returns-in-Ok-clause-bounded
 returns-in-Ok-clause-bounded g c w sound =
@@ -234,7 +234,7 @@ ungranted_at g c =
     let ran : not i.log.printer.broken ≡ true = ap (λ (x : Standing). x.shown.running) c.engine.view_is ∙ c.requires.runs in
     is_no_grant g.K.Sink.held g.K.Sink.faults n N.room N.sink_faults i.metadata story new i.log c.fail.new.self c.engine.invariant c.gather_recast-gathered.ensures.unmoved s number asked refl c.clock-moment.result c.clock-moment.ensures ran (length h) refl
     (λ w. due_alike N.script (N.start no_rows) (N.start w) h s number asked First (N.alike w) refl due) c.fail.ensures.room
-    claim is open' c.in-Err.unopened (cause_in c.failure_of.result) c.failure_of.ensures (unopened_counts (Recast g.row.D-Reader.Denot) story new c.in-Err.unopened c.in-Err.ensures.counted) c.fail.ensures.short c.fail.ensures.items c.fail.ensures.told c.fail.ensures.refused
+    claim is open' c.in-Err.unopened (cause_in c.failure_of.result) c.failure_of.ensures (unopened_counts (GatheredRanges g.row.D-Reader.Denot) story new c.in-Err.unopened c.in-Err.ensures.counted) c.fail.ensures.short c.fail.ensures.items c.fail.ensures.told c.fail.ensures.refused
 
 pub invariant_of-engine-in-Err : goal.invariant_of-engine-in-Err
 invariant_of-engine-in-Err g c = (ungranted_at g c).kept
