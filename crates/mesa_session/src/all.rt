@@ -1,5 +1,5 @@
 // All sessions of a script: the prologue alone, and then the others at once.
-ghost use Rattle.std.specs.Prelude.{◌≡◌, ◌<◌, ◌≤◌, ◌+◌, ◌-◌, ◌*◌, ℕ, [], ◌∷◌, IsTrue, IfSome, is_some, length, drop};
+ghost use Rattle.std.specs.Prelude.{◌≡◌, ◌<◌, ◌≤◌, ◌+◌, ◌-◌, ◌*◌, ◌^◌, ℕ, [], ◌∷◌, IsTrue, IfSome, is_some, length, drop};
 ghost use Rattle.std.specs.Thread.{IsSync};
 ghost use Rattle.mesa_core.specs.mesa_history_spec.Run.{First, commands_of};
 ghost use Rattle.mesa_model.specs.Entry.{history_of};
@@ -89,12 +89,14 @@ fn run_one<
     lock: &TurnLock<Vault<'s, N, M, D, K>>,
     pass: Pass,
     script: &Script,
+    run: u32,
     session: u16,
     bench: &mut B,
     gate: &G,
 ) -> Pass
     requires lock { pass.lock ≡ lock.now }
     requires script { script.now ≡ N.script }
+    requires run { (run ≡ (N.origin no_rows).run) × (run < 2 ^ 24) }
     requires few { length N.script.sessions ≤ 8 }
     requires there { session < length N.script.sessions }
     requires commands { length (commands_of N.script session) ≤ 200000 }
@@ -107,7 +109,7 @@ fn run_one<
     ensures ended { HasEnded N.script (N.start no_rows) result session }
     ensures counted { HasCounted N.script (N.start no_rows) (history_of result.seen) session (B.faults bench.old) (B.faults bench.new) }
 {
-    run_session(rt, alloc, lock, pass, script, session, bench, gate)
+    run_session(rt, alloc, lock, pass, script, run, session, bench, gate)
 }
 
 // The sessions from one on, each in a thread of its own.
@@ -126,12 +128,14 @@ fn run_rest<
     lock: &TurnLock<Vault<'s, N, M, D, K>>,
     pass: Pass,
     script: &Script,
+    run: u32,
     next: u16,
     benches: &mut [B],
     gate: &G,
 ) -> Pass
     requires lock { pass.lock ≡ lock.now }
     requires script { script.now ≡ N.script }
+    requires run { (run ≡ (N.origin no_rows).run) × (run < 2 ^ 24) }
     requires few { length N.script.sessions ≤ 8 }
     requires next { (0 < next) × (next ≤ length N.script.sessions) }
     requires commands { (s : ℕ) → length (commands_of N.script s) ≤ 200000 }
@@ -158,18 +162,18 @@ fn run_rest<
     let (mine, rest) = join_mut(
         rt,
         &mut || -> Option<Pass>
-            requires script { (script.now ≡ N.script) × (length N.script.sessions ≤ 8) × (next < length N.script.sessions) × (length (commands_of N.script next) ≤ 200000) }
+            requires script { (script.now ≡ N.script) × (run ≡ (N.origin no_rows).run) × (run < 2 ^ 24) × (length N.script.sessions ≤ 8) × (next < length N.script.sessions) × (length (commands_of N.script next) ≤ 200000) }
             requires mine { IfSome left (λ a. (a.lock ≡ lock.now) × (3 * length (commands_of N.script next) ≤ a.room) × (a.limit ≤ N.room) × (a.names ≡ next ∷ []) × Mine N.script (N.start no_rows) a next (at_stage 1 First) × (answered N.script (N.start no_rows) next a ≡ 0)) }
             ensures some { is_some result ≡ is_some left.entry }
             ensures ended { IfSome left.entry (λ a. IfSome result (λ r. (r.lock ≡ a.lock) × (r.names ≡ next ∷ []) × HasEnded N.script (N.start no_rows) r next)) }
             ensures counted { IfSome left.entry (λ a. IfSome result (λ r. HasCounted N.script (N.start no_rows) (history_of r.seen) next (B.faults bench.entry.now) (B.faults bench.exit.now))) }
         {
             let pass = left.take()?;
-            Some(run_one(rt, alloc, lock, pass, script, next, bench, gate))
+            Some(run_one(rt, alloc, lock, pass, script, run, next, bench, gate))
         },
         &mut || -> Option<Pass>
             requires own { IsSync R.row }
-            requires script { (script.now ≡ N.script) × (length N.script.sessions ≤ 8) × (0 < behind) × (behind ≤ length N.script.sessions) × ((s : ℕ) → length (commands_of N.script s) ≤ 200000) }
+            requires script { (script.now ≡ N.script) × (run ≡ (N.origin no_rows).run) × (run < 2 ^ 24) × (length N.script.sessions ≤ 8) × (0 < behind) × (behind ≤ length N.script.sessions) × ((s : ℕ) → length (commands_of N.script s) ≤ 200000) }
             requires rest { IfSome right (λ b. (b.lock ≡ lock.now) × (turns_of (drop behind N.script.sessions) ≤ b.room) × (b.limit ≤ N.room) × Waits N.script (N.start no_rows) b behind) }
             requires benches { length N.script.sessions ≤ behind + length tail.now }
             ensures some { is_some result ≡ is_some right.entry }
@@ -178,7 +182,7 @@ fn run_rest<
             ensures kept { IfSome right.entry (λ b. IfSome result (λ r. (before now : ℕ) → HasCounted N.script (N.start no_rows) (history_of b.seen) 0 before now → HasCounted N.script (N.start no_rows) (history_of r.seen) 0 before now)) }
         {
             let pass = right.take()?;
-            Some(run_rest(rt, other, lock, pass, script, behind, tail, gate))
+            Some(run_rest(rt, other, lock, pass, script, run, behind, tail, gate))
         },
     );
     join_next(lock, rest.unwrap(), mine.unwrap(), next)
@@ -200,11 +204,13 @@ pub fn run_all<
     lock: &TurnLock<Vault<'s, N, M, D, K>>,
     pass: Pass,
     script: &Script,
+    run: u32,
     benches: &mut [B],
     gate: &G,
 ) -> Pass
     requires lock { pass.lock ≡ lock.now }
     requires script { script.now ≡ N.script }
+    requires run { (run ≡ (N.origin no_rows).run) × (run < 2 ^ 24) }
     requires few { (0 < length N.script.sessions) × (length N.script.sessions ≤ 8) }
     requires commands { (s : ℕ) → length (commands_of N.script s) ≤ 200000 }
     requires names { (n : ℕ) → n < 8 → IsTrue (has pass.names n) }
@@ -221,6 +227,6 @@ pub fn run_all<
     ensures counted { HaveCounted B.faults N.script (N.start no_rows) (history_of result.seen) 0 benches.old benches.new }
 {
     let (head, tail) = benches.split_at_mut(1);
-    let pass = run_session(rt, alloc, lock, pass, script, 0, &mut head[0], gate);
-    run_rest(rt, alloc, lock, pass, script, 1, tail, gate)
+    let pass = run_session(rt, alloc, lock, pass, script, run, 0, &mut head[0], gate);
+    run_rest(rt, alloc, lock, pass, script, run, 1, tail, gate)
 }

@@ -12,7 +12,7 @@ ghost use Rattle.mesa_session.specs.Drafts.{AreOf, GoOn};
 
 use crate::gate::{Gate, Point};
 use crate::outside::{answered, merged, regrouped};
-use crate::preparing::{ids_of, prepared_first};
+use crate::preparing::prepared_first;
 use crate::turns::{
     abandon_turn, close_turn, complete_turn, grant_recast_turn, grant_turn, look_turn, pin_turn,
     publish_turn, recast_turn, renew_recast_turn, renew_turn, simple_turn,
@@ -48,7 +48,7 @@ fn load<
     who: Who,
     rows: &LoadRows,
     bench: &mut B,
-    ids: &mut Option<Serials>,
+    ids: &mut Serials,
 ) -> (Pass, bool)
     requires lock { pass.lock ≡ lock.now }
     requires few { length N.script.sessions ≤ 8 }
@@ -62,34 +62,15 @@ fn load<
     ensures answers { Answers N.script (N.start no_rows) who.session pass result.0 (B.faults bench.old) (B.faults bench.new) 0 }
     ensures ids { GoOn (N.origin no_rows).run who.session ids.old ids.new }
 {
-    let (pass, ran, run, looked) = look_turn(rt, lock, pass, who);
+    let (pass, ran, looked) = look_turn(rt, lock, pass, who);
     if !ran {
         drop(looked);
         return (pass, false);
     }
-    let mut serials = ids_of(ids.take(), run, who.session);
-    let (generation, made) = prepared_first::<N, M, R, B>(
-        rt,
-        alloc,
-        bench,
-        &mut serials,
-        looked,
-        rows,
-    );
-    let (pass, ran) = publish_turn(
-        rt,
-        alloc,
-        lock,
-        pass,
-        who,
-        rows,
-        bench,
-        &mut serials,
-        generation,
-        made,
-    );
-    *ids = Some(serials);
-    (pass, ran)
+    let (generation, made) = prepared_first::<N, M, R, B>(rt, alloc, bench, ids, looked, rows);
+    publish_turn(
+        rt, alloc, lock, pass, who, rows, bench, ids, generation, made,
+    )
 }
 
 // A query is decided, answered outside, and closes.
@@ -136,7 +117,7 @@ fn work<
     pass: Pass,
     who: Who,
     bench: &mut B,
-    ids: &mut Option<Serials>,
+    ids: &mut Serials,
     gate: &G,
 ) -> (Pass, bool)
     requires lock { pass.lock ≡ lock.now }
@@ -151,13 +132,11 @@ fn work<
     ensures answers { Answers N.script (N.start no_rows) who.session pass result.0 (B.faults bench.old) (B.faults bench.new) 0 }
     ensures ids { GoOn (N.origin no_rows).run who.session ids.old ids.new }
 {
-    let (pass, ran, run, task) = grant_turn(rt, lock, pass, who);
+    let (pass, ran, task) = grant_turn(rt, lock, pass, who);
     let Some(mut task) = task else {
         return (pass, ran);
     };
-    let mut serials = ids_of(ids.take(), run, who.session);
-    let delta = merged(rt, alloc, bench, &mut serials, &mut task);
-    *ids = Some(serials);
+    let delta = merged(rt, alloc, bench, ids, &mut task);
     gate.reach(rt, Point::Merged, who.session);
     if delta.is_err() {
         return complete_turn(rt, lock, pass, who, task, delta);
@@ -189,7 +168,7 @@ fn recast<
     pass: Pass,
     who: Who,
     bench: &mut B,
-    ids: &mut Option<Serials>,
+    ids: &mut Serials,
     gate: &G,
 ) -> (Pass, bool)
     requires lock { pass.lock ≡ lock.now }
@@ -204,30 +183,21 @@ fn recast<
     ensures answers { Answers N.script (N.start no_rows) who.session pass result.0 (B.faults bench.old) (B.faults bench.new) 0 }
     ensures ids { GoOn (N.origin no_rows).run who.session ids.old ids.new }
 {
-    let (pass, ran, run, task) = grant_recast_turn(rt, lock, pass, who);
+    let (pass, ran, task) = grant_recast_turn(rt, lock, pass, who);
     let Some(mut task) = task else {
         return (pass, ran);
     };
-    let mut serials = ids_of(ids.take(), run, who.session);
-    let made = regrouped(alloc, bench, &mut serials, &mut task);
+    let made = regrouped(alloc, bench, ids, &mut task);
     gate.reach(rt, Point::Merged, who.session);
     let made = match made {
         Ok(made) => made,
-        Err(error) => {
-            *ids = Some(serials);
-            return abandon_turn(rt, lock, pass, who, task, error);
-        }
+        Err(error) => return abandon_turn(rt, lock, pass, who, task, error),
     };
     let (pass, ran, renewed) = renew_recast_turn(rt, lock, pass, who, task);
     match renewed {
-        Some(task) => {
-            let closed = recast_turn(rt, alloc, lock, pass, who, bench, &mut serials, task, made);
-            *ids = Some(serials);
-            closed
-        }
+        Some(task) => recast_turn(rt, alloc, lock, pass, who, bench, ids, task, made),
         None => {
             drop(made);
-            *ids = Some(serials);
             (pass, ran)
         }
     }
@@ -251,7 +221,7 @@ pub(crate) fn run_command<
     who: Who,
     command: &Command,
     bench: &mut B,
-    ids: &mut Option<Serials>,
+    ids: &mut Serials,
     gate: &G,
 ) -> (Pass, bool)
     requires lock { pass.lock ≡ lock.now }

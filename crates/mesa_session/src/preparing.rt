@@ -1,5 +1,5 @@
 // A load's rows with their files: outside its turns, and once more where what it saw has changed.
-ghost use Rattle.std.specs.Prelude.{◌≡◌, ◌≤◌, ◌<◌, ◌+◌, ◌^◌, ℕ, List, Err, IfOk, IfNone, IfSome, OnErr};
+ghost use Rattle.std.specs.Prelude.{◌≡◌, ◌≤◌, ◌<◌, ◌+◌, ℕ, List, Err, IfOk, OnErr};
 ghost use Rattle.mesa_io.specs.Causes.{last};
 ghost use Rattle.mesa_model.specs.declared.entries.Entry.{Entry as AnyEntry};
 ghost use Rattle.mesa_core.specs.mesa_history_spec.Rows.{no_rows};
@@ -9,7 +9,6 @@ ghost use Rattle.mesa_open_files.specs.Serials.{AreNext, after_drafts};
 ghost use Rattle.mesa_core.specs.Answers.{Owes};
 ghost use Rattle.mesa_core.specs.Drafts.{owed_by_load};
 ghost use Rattle.mesa_core.specs.Sight.{sight_after};
-ghost use Rattle.mesa_session.specs.Drafts.{first_drafts};
 ghost use Rattle.mesa_session.specs.Loads.{StaysPrepared};
 
 use mesa_batch::{Glance, LoadRows};
@@ -21,19 +20,6 @@ use mesa_load::prepare;
 use mesa_open_files::{LoadError, Prepared, Serials};
 use std::alloc::{AllocError, Global};
 use std::thread::Threads;
-
-/// The ids of a session's drafts: those that it has, or the first of the run.
-pub fn ids_of(had: Option<Serials>, run: u32, session: u16) -> Serials
-    requires run { run < 2 ^ 24 }
-    requires session { session < 8 }
-    ensures had { IfSome had (λ ids. result ≡ ids) }
-    ensures first { IfNone had (result ≡ first_drafts run session) }
-{
-    match had {
-        Some(ids) => ids,
-        None => Serials::new(run, session as u8),
-    }
-}
 
 // A load's rows with their files, by what it sees.
 fn prepared_by<R: Threads + Sync, M: Made, B: Bench<M>>(

@@ -51,11 +51,12 @@ pub fn serve<
     ensures none { IfErr result (λ v. v ≡ vault.entry) }
     ensures untouched { IfErr result (λ v. benches.new ≡ benches.old) }
 {
+    let run = vault.run();
     let (lock, pass) = match TurnLock::new(alloc, vault, room) {
         Ok(made) => made,
         Err((vault, _)) => return Err(vault),
     };
-    let pass = run_all(rt, alloc, &lock, pass, script, benches, gate);
+    let pass = run_all(rt, alloc, &lock, pass, script, run, benches, gate);
     let vault = lock.close(pass);
     let _seen = vault.running(); // each of its entries is one that the run may have
     Ok(vault)

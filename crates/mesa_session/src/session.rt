@@ -1,5 +1,5 @@
 // A session's run.
-ghost use Rattle.std.specs.Prelude.{◌≡◌, ◌<◌, ◌≤◌, ◌*◌, length};
+ghost use Rattle.std.specs.Prelude.{◌≡◌, ◌<◌, ◌≤◌, ◌*◌, ◌^◌, length};
 ghost use Rattle.mesa_core.specs.mesa_history_spec.Run.{First, commands_of as commands_in};
 ghost use Rattle.mesa_core.specs.mesa_history_spec.Rows.{no_rows};
 ghost use Rattle.mesa_core.specs.Answers.{Answers};
@@ -27,7 +27,8 @@ fn commands_of(script: &Script, session: u16) -> &[Command]
 }
 
 /// Runs a session's commands, to their end or to a turn that finds that the sink has failed. The pass holds the
-/// session's name and has none of its turns; that of session 0 holds all names. May wait.
+/// session's name and has none of its turns; that of session 0 holds all names. The number is that of the vault's run.
+/// May wait.
 pub fn run_session<
     's,
     N: Naming + Send,
@@ -43,12 +44,14 @@ pub fn run_session<
     lock: &TurnLock<Vault<'s, N, M, D, K>>,
     pass: Pass,
     script: &Script,
+    run: u32,
     session: u16,
     bench: &mut B,
     gate: &G,
 ) -> Pass
     requires lock { pass.lock ≡ lock.now }
     requires script { script.now ≡ N.script }
+    requires run { (run ≡ (N.origin no_rows).run) × (run < 2 ^ 24) }
     requires few { length N.script.sessions ≤ 8 }
     requires there { session < length N.script.sessions }
     requires commands { length (commands_in N.script session) ≤ 200000 }
@@ -67,7 +70,7 @@ pub fn run_session<
 {
     gate.reach(rt, Point::Started, session);
     let mut pass = pass;
-    let mut ids: Option<Serials> = None;
+    let mut ids = Serials::new(run, session as u8);
     let commands = commands_of(script, session);
     'commands: for (i, command) in commands.iter().enumerate() {
         let who = Who {

@@ -1,5 +1,5 @@
 // One turn of each sort.
-ghost use Rattle.std.specs.Prelude.{◌≡◌, ◌<◌, ◌≤◌, ◌^◌, ℕ, not, true, IfNone, IfOk, IfSome, OnSome, Some, is_ok, length};
+ghost use Rattle.std.specs.Prelude.{◌≡◌, ◌<◌, ◌≤◌, ℕ, not, true, IfNone, IfOk, IfSome, OnSome, Some, is_ok, length};
 ghost use Rattle.mesa_core.specs.mesa_history_spec.Legal.{is_query};
 ghost use Rattle.mesa_core.specs.mesa_history_spec.Run.{First, Looked, Granted, Renewed, Finished, command_at};
 ghost use Rattle.mesa_core.specs.mesa_history_spec.Turns.{place_then};
@@ -46,7 +46,7 @@ pub fn look_turn<'s, N: Naming + Send, M: Made, D: Disk<M>, K: Sink + Send, R: W
     lock: &TurnLock<Vault<'s, N, M, D, K>>,
     pass: Pass,
     who: Who,
-) -> (Pass, bool, u32, Result<Glance, AllocError>)
+) -> (Pass, bool, Result<Glance, AllocError>)
     requires lock { pass.lock ≡ lock.now }
     requires few { length N.script.sessions ≤ 8 }
     requires room { (0 < pass.room) × (pass.limit ≤ N.room) }
@@ -54,17 +54,14 @@ pub fn look_turn<'s, N: Naming + Send, M: Made, D: Disk<M>, K: Sink + Send, R: W
     requires sort { HasSort N.script who.session who.command is_load }
     ensures took { Took who.session pass result.0 1 }
     ensures mine { Mine N.script (N.start no_rows) result.0 who.session (place_then (not result.1) who.command Looked) }
-    ensures run { result.2 < 2 ^ 24 }
-    ensures number { result.2 ≡ (N.origin no_rows).run }
-    ensures glance { IfOk result.3 (λ g. g ≡ sight_after N.script (N.start no_rows) (N.origin no_rows).generation (history_of result.0.seen)) }
+    ensures glance { IfOk result.2 (λ g. g ≡ sight_after N.script (N.start no_rows) (N.origin no_rows).generation (history_of result.0.seen)) }
     ensures answers { Answers N.script (N.start no_rows) who.session pass result.0 0 0 0 }
 {
     let mut held = lock.enter(rt, pass);
     let vault = held.value();
     let ran = vault.running();
-    let run = vault.run();
     let glance = vault.look(who);
-    (lock.leave(held), ran, run, glance)
+    (lock.leave(held), ran, glance)
 }
 
 /// The one turn of a command that is no load, no query, no work and no recast.
@@ -187,27 +184,24 @@ pub fn grant_turn<'s, N: Naming + Send, M: Made, D: DeltaDisk<M>, K: Sink + Send
     lock: &TurnLock<Vault<'s, N, M, D, K>>,
     pass: Pass,
     who: Who,
-) -> (Pass, bool, u32, Option<Task<D::Reader>>)
+) -> (Pass, bool, Option<Task<D::Reader>>)
     requires lock { pass.lock ≡ lock.now }
     requires few { length N.script.sessions ≤ 8 }
     requires room { (0 < pass.room) × (pass.limit ≤ N.room) }
     requires mine { Mine N.script (N.start no_rows) pass who.session (at_stage who.command First) }
     requires sort { HasSort N.script who.session who.command is_merge }
     ensures took { Took who.session pass result.0 1 }
-    ensures mine { Mine N.script (N.start no_rows) result.0 who.session (place_then (not result.1) who.command (stage_if claim_in Granted result.3)) }
-    ensures ran { OnSome result.3 (result.1 ≡ true) }
-    ensures run { result.2 < 2 ^ 24 }
-    ensures number { result.2 ≡ (N.origin no_rows).run }
-    ensures task { IfSome result.3 (CanBeMerged D.Reader.bytes) }
-    ensures granted { IfSome result.3 (λ t. WasGranted (IsGranted D.Reader.bytes N.script N.start N.origin N.sound) (history_of result.0.seen) (known_task D.Reader.bytes t)) }
+    ensures mine { Mine N.script (N.start no_rows) result.0 who.session (place_then (not result.1) who.command (stage_if claim_in Granted result.2)) }
+    ensures ran { OnSome result.2 (result.1 ≡ true) }
+    ensures task { IfSome result.2 (CanBeMerged D.Reader.bytes) }
+    ensures granted { IfSome result.2 (λ t. WasGranted (IsGranted D.Reader.bytes N.script N.start N.origin N.sound) (history_of result.0.seen) (known_task D.Reader.bytes t)) }
     ensures answers { Answers N.script (N.start no_rows) who.session pass result.0 0 0 0 }
 {
     let mut held = lock.enter(rt, pass);
     let vault = held.value();
     let ran = vault.running();
-    let run = vault.run();
     let task = vault.grant(who);
-    (lock.leave(held), ran, run, task)
+    (lock.leave(held), ran, task)
 }
 
 /// A work's turn once its files are merged.
@@ -271,27 +265,24 @@ pub fn grant_recast_turn<'s, N: Naming + Send, M: Made, D: DeltaDisk<M>, K: Sink
     lock: &TurnLock<Vault<'s, N, M, D, K>>,
     pass: Pass,
     who: Who,
-) -> (Pass, bool, u32, Option<Recast<D::Reader>>)
+) -> (Pass, bool, Option<Recast<D::Reader>>)
     requires lock { pass.lock ≡ lock.now }
     requires few { length N.script.sessions ≤ 8 }
     requires room { (0 < pass.room) × (pass.limit ≤ N.room) }
     requires mine { Mine N.script (N.start no_rows) pass who.session (at_stage who.command First) }
     requires sort { HasSort N.script who.session who.command is_recast }
     ensures took { Took who.session pass result.0 1 }
-    ensures mine { Mine N.script (N.start no_rows) result.0 who.session (place_then (not result.1) who.command (stage_if claim_of_recast Granted result.3)) }
-    ensures ran { OnSome result.3 (result.1 ≡ true) }
-    ensures run { result.2 < 2 ^ 24 }
-    ensures number { result.2 ≡ (N.origin no_rows).run }
-    ensures task { IfSome result.3 (CanBeRegrouped D.Reader.bytes) }
-    ensures granted { IfSome result.3 (λ t. WasGranted (IsRecastGranted D.Reader.bytes N.script N.start N.origin N.sound) (history_of result.0.seen) (known_recast D.Reader.bytes t)) }
+    ensures mine { Mine N.script (N.start no_rows) result.0 who.session (place_then (not result.1) who.command (stage_if claim_of_recast Granted result.2)) }
+    ensures ran { OnSome result.2 (result.1 ≡ true) }
+    ensures task { IfSome result.2 (CanBeRegrouped D.Reader.bytes) }
+    ensures granted { IfSome result.2 (λ t. WasGranted (IsRecastGranted D.Reader.bytes N.script N.start N.origin N.sound) (history_of result.0.seen) (known_recast D.Reader.bytes t)) }
     ensures answers { Answers N.script (N.start no_rows) who.session pass result.0 0 0 0 }
 {
     let mut held = lock.enter(rt, pass);
     let vault = held.value();
     let ran = vault.running();
-    let run = vault.run();
     let task = vault.grant_recast(who);
-    (lock.leave(held), ran, run, task)
+    (lock.leave(held), ran, task)
 }
 
 /// A recast's turn once its ranges are rewritten.

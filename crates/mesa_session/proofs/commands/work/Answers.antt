@@ -2,7 +2,7 @@ use Rattle.std.proofs.Common.{arith}
 use Rattle.mesa_core.specs.mesa_history_spec.Rows.{no_rows}
 use Rattle.mesa_core.proofs.Answering.{answers_at, answers_both, answers_owed, answers_within}
 use Rattle.mesa_core.proofs.Turning.{took_both, took_fewer}
-use Rattle.mesa_session.proofs.Drawing.{taken_on, undrawn}
+use Rattle.mesa_session.proofs.Drawing.{go_on, undrawn}
 use Rattle.mesa_session.proofs.commands.work.Goals as goal
 
 pub returns-then-is_err-clause-took : goal.returns-then-is_err-clause-took
@@ -37,10 +37,10 @@ pub returns-in_default-clause-ids : goal.returns-in_default-clause-ids
 returns-in_default-clause-ids g c = undrawn (g.N.Naming.origin no_rows).run c.args.who.session _ c.requires.own
 
 pub returns-then-is_err-clause-ids : goal.returns-then-is_err-clause-ids
-returns-then-is_err-clause-ids g c = taken_on (g.N.Naming.origin no_rows).run _ c.args.who.session c.args.ids.now c.take.result c.ids_of-serials.result _ c.grant_turn-pass.ensures.number c.requires.own c.take.ensures.value c.ids_of-serials.ensures.had c.ids_of-serials.ensures.first c.merged-delta.ensures.ids
+returns-then-is_err-clause-ids g c = go_on (g.N.Naming.origin no_rows).run c.args.who.session _ _ c.requires.own c.merged-delta.ensures.ids
 
 pub returns-in-None-clause-ids : goal.returns-in-None-clause-ids
-returns-in-None-clause-ids g c = taken_on (g.N.Naming.origin no_rows).run _ c.args.who.session c.args.ids.now c.take.result c.ids_of-serials.result _ c.grant_turn-pass.ensures.number c.requires.own c.take.ensures.value c.ids_of-serials.ensures.had c.ids_of-serials.ensures.first c.merged-delta.ensures.ids
+returns-in-None-clause-ids g c = go_on (g.N.Naming.origin no_rows).run c.args.who.session _ _ c.requires.own c.merged-delta.ensures.ids
 
 pub returns-in-Some-renewed-clause-ids : goal.returns-in-Some-renewed-clause-ids
-returns-in-Some-renewed-clause-ids g c = taken_on (g.N.Naming.origin no_rows).run _ c.args.who.session c.args.ids.now c.take.result c.ids_of-serials.result _ c.grant_turn-pass.ensures.number c.requires.own c.take.ensures.value c.ids_of-serials.ensures.had c.ids_of-serials.ensures.first c.merged-delta.ensures.ids
+returns-in-Some-renewed-clause-ids g c = go_on (g.N.Naming.origin no_rows).run c.args.who.session _ _ c.requires.own c.merged-delta.ensures.ids

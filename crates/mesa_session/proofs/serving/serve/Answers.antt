@@ -24,6 +24,9 @@ all_named (suc (suc (suc (suc (suc (suc (suc (suc n)))))))) lt = absurd (omega (
 pub run_all-pass-requires-clause-names : goal.run_all-pass-requires-clause-names
 run_all-pass-requires-clause-names g c κs within n lt = subst (λ (p : Known). IsTrue (has p.names n)) (sym c.in-Ok.ensures.whole) (all_named n lt)
 
+pub run_all-pass-requires-clause-run : goal.run_all-pass-requires-clause-run
+run_all-pass-requires-clause-run g c κs within = (c.run-run.ensures.origin no_rows, c.run-run.ensures.few)
+
 pub returns-clause-counted : goal.returns-clause-counted
 returns-clause-counted g c =
     subst (λ (h : List Entry). HaveCounted g.B.Bench.faults g.N.Naming.script (g.N.Naming.start no_rows) h 0 c.args.benches.now c.run_all-pass.new.benches)

@@ -79,9 +79,6 @@ whole g c =
 pub returns-clause-took : goal.returns-clause-took
 returns-clause-took g c = step_took (whole g c)
 
-pub returns-clause-number : goal.returns-clause-number
-returns-clause-number g c = c.run-run.ensures.origin no_rows
-
 pub returns-clause-mine : goal.returns-clause-mine
 returns-clause-mine g c = goes_on (whole g c) (stage_if claim_of_recast Granted c.grant_recast-task.result) c.running-ran.result c.grant_recast-task.ensures.turn c.running-ran.ensures.running
 

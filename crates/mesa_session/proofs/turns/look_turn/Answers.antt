@@ -77,9 +77,6 @@ whole g c =
 pub returns-clause-took : goal.returns-clause-took
 returns-clause-took g c = step_took (whole g c)
 
-pub returns-clause-number : goal.returns-clause-number
-returns-clause-number g c = c.run-run.ensures.origin no_rows
-
 pub returns-clause-mine : goal.returns-clause-mine
 returns-clause-mine g c = goes_on (whole g c) Looked c.running-ran.result c.look-glance.ensures.turn c.running-ran.ensures.running
 
