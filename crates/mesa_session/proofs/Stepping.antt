@@ -11,6 +11,7 @@ use Rattle.mesa_core.specs.mesa_history_spec.Run.{State, Stage, place_of}
 use Rattle.mesa_core.specs.mesa_history_spec.Turns.{place_then}
 use Rattle.mesa_core.specs.mesa_invariant_spec.Turns.{Shown, Asks, IsTurn, IsSeen, Takes}
 use Rattle.mesa_core.specs.mesa_invariant_spec.Invariant.{run_at}
+use Rattle.mesa_core.specs.Vault.{Stand}
 use Rattle.mesa_core.specs.Passes.{HasSort, Holds, Mine, at_stage}
 use Rattle.mesa_core.proofs.Turning.{Step, asked, one_more, step_mine}
 use Rattle.mesa_session.proofs.Found.{room_left}
@@ -26,6 +27,21 @@ pub record Enters (script : Script) (start : State) (p : Known) (session : ℕ) 
   pub took : held ≡ during found p
   pub numbers : found ≡ numbers_of old.history
   pub seen : IsSeen script start old
+
+-- it is what entering tells, the value that it lends, and what this tells of itself
+pub entered : {script : Script} {start : State} {p held : Known} {session ticket : ℕ} {was now : Stand} → length script.sessions ≤ 8 → Holds script start p session → 0 < p.room → Finds p ticket (numbers_of was.shown.history) → IsExact p → held ≡ during (numbers_of was.shown.history) p
+    → now ≡ was → IsSeen script start now.shown → Enters script start p session (numbers_of was.shown.history) held now.shown
+entered {ticket = ticket} few holds room finds exact took same seen = record {
+  few = few;
+  holds = holds;
+  room = room;
+  ticket = ticket;
+  finds = finds;
+  exact = exact;
+  took = took;
+  numbers = ap (λ (v : Stand). numbers_of v.shown.history) (sym same);
+  seen = seen;
+}
 
 module _ {script : Script} {start : State} {p : Known} {session : ℕ} {found : List ℕ} {held : Known} {old : Shown} (e : Enters script start p session found held old) where
   pub finds_numbers : Finds p e.ticket (numbers_of old.history)

@@ -1,6 +1,4 @@
-use Rattle.std.proofs.Common.{refl, ap, sym}
-use Rattle.mesa_core.specs.Vault.{Stand}
-use Rattle.mesa_model.specs.Entry.{numbers_of}
+use Rattle.std.proofs.Common.{refl, sym}
 use Rattle.mesa_core.specs.Handing.{IsGranted}
 use Rattle.mesa_core.specs.mesa_invariant_spec.Turns.{is_merge}
 use Rattle.mesa_core.specs.mesa_history_spec.Run.{First, Granted}
@@ -12,68 +10,28 @@ use Rattle.mesa_core.specs.mesa_invariant_spec.Works.{stage_if}
 use Rattle.mesa_open_files.specs.Tasks.{claim_in}
 use Rattle.mesa_core.specs.Works.{known_task}
 use Rattle.mesa_session.proofs.Found.{granted_then}
-use Rattle.mesa_session.proofs.Stepping.{Enters, asks, goes_on, one, room_for, step}
+use Rattle.mesa_session.proofs.Stepping.{asks, entered, goes_on, one, room_for, step}
 use Rattle.mesa_session.proofs.turns.grant_turn.Goals as goal
 use Rattle.mesa_session.proofs.turns.grant_turn.Goals.{After-leave}
 
 pub grant-task-requires-clause-due : goal.grant-task-requires-clause-due
 grant-task-requires-clause-due g c κs within =
-    let e : Enters g.N.Naming.script (g.N.Naming.start no_rows) c.args.pass c.args.who.session _ _ c.value-vault.result.now.shown = record {
-      few = c.requires.few;
-      holds = c.requires.mine.holds;
-      room = c.requires.room.0;
-      ticket = _;
-      finds = c.enter-held.ensures.finds;
-      exact = c.enter-held.ensures.exact;
-      took = c.enter-held.ensures.pass;
-      numbers = ap (λ (v : Stand). numbers_of v.shown.history) (sym c.value-vault.ensures.value);
-      seen = c.running-ran.ensures.seen;
-    } in
+    let e = entered c.requires.few c.requires.mine.holds c.requires.room.0 c.enter-held.ensures.finds c.enter-held.ensures.exact c.enter-held.ensures.pass c.value-vault.ensures.value c.running-ran.ensures.seen in
     asks e c.args.who.command First is_merge c.requires.mine c.requires.sort
 
 pub grant-task-requires-clause-room : goal.grant-task-requires-clause-room
 grant-task-requires-clause-room g c κs within =
-    let e : Enters g.N.Naming.script (g.N.Naming.start no_rows) c.args.pass c.args.who.session _ _ c.value-vault.result.now.shown = record {
-      few = c.requires.few;
-      holds = c.requires.mine.holds;
-      room = c.requires.room.0;
-      ticket = _;
-      finds = c.enter-held.ensures.finds;
-      exact = c.enter-held.ensures.exact;
-      took = c.enter-held.ensures.pass;
-      numbers = ap (λ (v : Stand). numbers_of v.shown.history) (sym c.value-vault.ensures.value);
-      seen = c.running-ran.ensures.seen;
-    } in
+    let e = entered c.requires.few c.requires.mine.holds c.requires.room.0 c.enter-held.ensures.finds c.enter-held.ensures.exact c.enter-held.ensures.pass c.value-vault.ensures.value c.running-ran.ensures.seen in
     room_for e g.N.Naming.room c.requires.room.1
 
 pub leave-requires-clause-one : goal.leave-requires-clause-one
 leave-requires-clause-one g c κs within =
-    let e : Enters g.N.Naming.script (g.N.Naming.start no_rows) c.args.pass c.args.who.session _ _ c.value-vault.result.now.shown = record {
-      few = c.requires.few;
-      holds = c.requires.mine.holds;
-      room = c.requires.room.0;
-      ticket = _;
-      finds = c.enter-held.ensures.finds;
-      exact = c.enter-held.ensures.exact;
-      took = c.enter-held.ensures.pass;
-      numbers = ap (λ (v : Stand). numbers_of v.shown.history) (sym c.value-vault.ensures.value);
-      seen = c.running-ran.ensures.seen;
-    } in
+    let e = entered c.requires.few c.requires.mine.holds c.requires.room.0 c.enter-held.ensures.finds c.enter-held.ensures.exact c.enter-held.ensures.pass c.value-vault.ensures.value c.running-ran.ensures.seen in
     one e c.args.who.command kind.Grant c.grant-task.new.self.shown _ refl c.grant-task.ensures.turn.turn c.grant-task.ensures.turn.seen
 
 whole : (g : _) (c : After-leave g) → Step g.N.Naming.script (g.N.Naming.start no_rows) c.args.pass c.leave.result c.value-vault.result.now.shown c.grant-task.new.self.shown c.args.who.session c.args.who.command kind.Grant
 whole g c =
-    let e : Enters g.N.Naming.script (g.N.Naming.start no_rows) c.args.pass c.args.who.session _ _ c.value-vault.result.now.shown = record {
-      few = c.requires.few;
-      holds = c.requires.mine.holds;
-      room = c.requires.room.0;
-      ticket = _;
-      finds = c.enter-held.ensures.finds;
-      exact = c.enter-held.ensures.exact;
-      took = c.enter-held.ensures.pass;
-      numbers = ap (λ (v : Stand). numbers_of v.shown.history) (sym c.value-vault.ensures.value);
-      seen = c.running-ran.ensures.seen;
-    } in
+    let e = entered c.requires.few c.requires.mine.holds c.requires.room.0 c.enter-held.ensures.finds c.enter-held.ensures.exact c.enter-held.ensures.pass c.value-vault.ensures.value c.running-ran.ensures.seen in
     step e c.args.who.command kind.Grant c.grant-task.new.self.shown _ refl c.grant-task.ensures.turn.turn c.grant-task.ensures.turn.seen c.leave.result c.leave.ensures.pass c.leave.ensures.exact
 
 pub returns-clause-took : goal.returns-clause-took

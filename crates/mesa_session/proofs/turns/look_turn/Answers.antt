@@ -1,7 +1,5 @@
-use Rattle.std.proofs.Common.{refl, ◌≡◌, ap, sym, subst, List}
+use Rattle.std.proofs.Common.{refl, ◌≡◌, sym, subst, List}
 use Rattle.std.specs.Prelude.{IfOk}
-use Rattle.mesa_core.specs.Vault.{Stand}
-use Rattle.mesa_model.specs.Entry.{numbers_of}
 use Rattle.mesa_core.specs.mesa_history_spec.Run.{First, Looked}
 use Rattle.mesa_model.specs.declared.entries.Entry.{Entry}
 use Rattle.mesa_model.specs.declared.entries.Kind.TheVariants as kind
@@ -10,68 +8,28 @@ use Rattle.mesa_core.specs.mesa_invariant_spec.Turns.{is_load}
 use Rattle.mesa_core.proofs.Answering.{none_looking, step_none}
 use Rattle.mesa_core.proofs.Turning.{Step, step_took, step_seen}
 use Rattle.mesa_core.specs.Sight.{sight_after}
-use Rattle.mesa_session.proofs.Stepping.{Enters, asks, goes_on, one, room_for, step}
+use Rattle.mesa_session.proofs.Stepping.{asks, entered, goes_on, one, room_for, step}
 use Rattle.mesa_session.proofs.turns.look_turn.Goals as goal
 use Rattle.mesa_session.proofs.turns.look_turn.Goals.{After-leave}
 
 pub look-glance-requires-clause-due : goal.look-glance-requires-clause-due
 look-glance-requires-clause-due g c κs within =
-    let e : Enters g.N.Naming.script (g.N.Naming.start no_rows) c.args.pass c.args.who.session _ _ c.value-vault.result.now.shown = record {
-      few = c.requires.few;
-      holds = c.requires.mine.holds;
-      room = c.requires.room.0;
-      ticket = _;
-      finds = c.enter-held.ensures.finds;
-      exact = c.enter-held.ensures.exact;
-      took = c.enter-held.ensures.pass;
-      numbers = ap (λ (v : Stand). numbers_of v.shown.history) (sym c.value-vault.ensures.value);
-      seen = c.running-ran.ensures.seen;
-    } in
+    let e = entered c.requires.few c.requires.mine.holds c.requires.room.0 c.enter-held.ensures.finds c.enter-held.ensures.exact c.enter-held.ensures.pass c.value-vault.ensures.value c.running-ran.ensures.seen in
     asks e c.args.who.command First is_load c.requires.mine c.requires.sort
 
 pub look-glance-requires-clause-room : goal.look-glance-requires-clause-room
 look-glance-requires-clause-room g c κs within =
-    let e : Enters g.N.Naming.script (g.N.Naming.start no_rows) c.args.pass c.args.who.session _ _ c.value-vault.result.now.shown = record {
-      few = c.requires.few;
-      holds = c.requires.mine.holds;
-      room = c.requires.room.0;
-      ticket = _;
-      finds = c.enter-held.ensures.finds;
-      exact = c.enter-held.ensures.exact;
-      took = c.enter-held.ensures.pass;
-      numbers = ap (λ (v : Stand). numbers_of v.shown.history) (sym c.value-vault.ensures.value);
-      seen = c.running-ran.ensures.seen;
-    } in
+    let e = entered c.requires.few c.requires.mine.holds c.requires.room.0 c.enter-held.ensures.finds c.enter-held.ensures.exact c.enter-held.ensures.pass c.value-vault.ensures.value c.running-ran.ensures.seen in
     room_for e g.N.Naming.room c.requires.room.1
 
 pub leave-requires-clause-one : goal.leave-requires-clause-one
 leave-requires-clause-one g c κs within =
-    let e : Enters g.N.Naming.script (g.N.Naming.start no_rows) c.args.pass c.args.who.session _ _ c.value-vault.result.now.shown = record {
-      few = c.requires.few;
-      holds = c.requires.mine.holds;
-      room = c.requires.room.0;
-      ticket = _;
-      finds = c.enter-held.ensures.finds;
-      exact = c.enter-held.ensures.exact;
-      took = c.enter-held.ensures.pass;
-      numbers = ap (λ (v : Stand). numbers_of v.shown.history) (sym c.value-vault.ensures.value);
-      seen = c.running-ran.ensures.seen;
-    } in
+    let e = entered c.requires.few c.requires.mine.holds c.requires.room.0 c.enter-held.ensures.finds c.enter-held.ensures.exact c.enter-held.ensures.pass c.value-vault.ensures.value c.running-ran.ensures.seen in
     one e c.args.who.command kind.Look c.look-glance.new.self.shown _ refl c.look-glance.ensures.turn.turn c.look-glance.ensures.turn.seen
 
 whole : (g : _) (c : After-leave g) → Step g.N.Naming.script (g.N.Naming.start no_rows) c.args.pass c.leave.result c.value-vault.result.now.shown c.look-glance.new.self.shown c.args.who.session c.args.who.command kind.Look
 whole g c =
-    let e : Enters g.N.Naming.script (g.N.Naming.start no_rows) c.args.pass c.args.who.session _ _ c.value-vault.result.now.shown = record {
-      few = c.requires.few;
-      holds = c.requires.mine.holds;
-      room = c.requires.room.0;
-      ticket = _;
-      finds = c.enter-held.ensures.finds;
-      exact = c.enter-held.ensures.exact;
-      took = c.enter-held.ensures.pass;
-      numbers = ap (λ (v : Stand). numbers_of v.shown.history) (sym c.value-vault.ensures.value);
-      seen = c.running-ran.ensures.seen;
-    } in
+    let e = entered c.requires.few c.requires.mine.holds c.requires.room.0 c.enter-held.ensures.finds c.enter-held.ensures.exact c.enter-held.ensures.pass c.value-vault.ensures.value c.running-ran.ensures.seen in
     step e c.args.who.command kind.Look c.look-glance.new.self.shown _ refl c.look-glance.ensures.turn.turn c.look-glance.ensures.turn.seen c.leave.result c.leave.ensures.pass c.leave.ensures.exact
 
 pub returns-clause-took : goal.returns-clause-took

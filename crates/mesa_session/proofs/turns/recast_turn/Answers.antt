@@ -1,7 +1,5 @@
-use Rattle.std.proofs.Common.{refl, ◌≡◌, ◌<◌, ap, sym, subst, inr, length, false, arith}
+use Rattle.std.proofs.Common.{refl, ◌≡◌, ◌<◌, sym, subst, inr, length, false, arith}
 use Rattle.std.specs.Prelude.{Err}
-use Rattle.mesa_core.specs.Vault.{Stand}
-use Rattle.mesa_model.specs.Entry.{numbers_of}
 use Rattle.mesa_core.specs.Handing.{IsRecastGranted}
 use Rattle.mesa_core.specs.mesa_invariant_spec.Turns.{AnswersDraft, Shown, is_recast}
 use Rattle.mesa_core.specs.mesa_history_spec.Run.{Finished, Renewed}
@@ -16,22 +14,12 @@ use Rattle.mesa_session.proofs.Prepared.{owed_merged}
 use Rattle.mesa_session.proofs.Found.{granted_found}
 use Rattle.mesa_core.proofs.Unmade.{on_ok}
 use Rattle.mesa_session.proofs.Closing.{asked_now, took_now}
-use Rattle.mesa_session.proofs.Stepping.{Enters, asks, finds_numbers, goes_on, one, room_for, step}
+use Rattle.mesa_session.proofs.Stepping.{asks, entered, finds_numbers, goes_on, one, room_for, step}
 use Rattle.mesa_session.proofs.turns.recast_turn.Goals as goal
 
 pub recast-requires-clause-due : goal.recast-requires-clause-due
 recast-requires-clause-due g c κs within =
-    let e : Enters g.N.Naming.script (g.N.Naming.start no_rows) c.args.pass c.args.who.session _ _ c.value-vault.result.now.shown = record {
-      few = c.requires.few;
-      holds = c.requires.mine.holds;
-      room = c.requires.room.0;
-      ticket = _;
-      finds = c.enter-held.ensures.finds;
-      exact = c.enter-held.ensures.exact;
-      took = c.enter-held.ensures.pass;
-      numbers = ap (λ (v : Stand). numbers_of v.shown.history) (sym c.value-vault.ensures.value);
-      seen = c.running-ran.ensures.seen;
-    } in
+    let e = entered c.requires.few c.requires.mine.holds c.requires.room.0 c.enter-held.ensures.finds c.enter-held.ensures.exact c.enter-held.ensures.pass c.value-vault.ensures.value c.running-ran.ensures.seen in
     let N = g.N.Naming in
     let who = c.args.who in
     let now = c.regrouped_now-task in (
@@ -42,17 +30,7 @@ recast-requires-clause-due g c κs within =
 
 pub recast-requires-clause-renewed : goal.recast-requires-clause-renewed
 recast-requires-clause-renewed g c κs within =
-    let e : Enters g.N.Naming.script (g.N.Naming.start no_rows) c.args.pass c.args.who.session _ _ c.value-vault.result.now.shown = record {
-      few = c.requires.few;
-      holds = c.requires.mine.holds;
-      room = c.requires.room.0;
-      ticket = _;
-      finds = c.enter-held.ensures.finds;
-      exact = c.enter-held.ensures.exact;
-      took = c.enter-held.ensures.pass;
-      numbers = ap (λ (v : Stand). numbers_of v.shown.history) (sym c.value-vault.ensures.value);
-      seen = c.running-ran.ensures.seen;
-    } in
+    let e = entered c.requires.few c.requires.mine.holds c.requires.room.0 c.enter-held.ensures.finds c.enter-held.ensures.exact c.enter-held.ensures.pass c.value-vault.ensures.value c.running-ran.ensures.seen in
     let N = g.N.Naming in
     let who = c.args.who in
     let now = c.regrouped_now-task in
@@ -62,48 +40,18 @@ recast-requires-clause-renewed g c κs within =
 
 pub recast-requires-clause-room : goal.recast-requires-clause-room
 recast-requires-clause-room g c κs within =
-    let e : Enters g.N.Naming.script (g.N.Naming.start no_rows) c.args.pass c.args.who.session _ _ c.value-vault.result.now.shown = record {
-      few = c.requires.few;
-      holds = c.requires.mine.holds;
-      room = c.requires.room.0;
-      ticket = _;
-      finds = c.enter-held.ensures.finds;
-      exact = c.enter-held.ensures.exact;
-      took = c.enter-held.ensures.pass;
-      numbers = ap (λ (v : Stand). numbers_of v.shown.history) (sym c.value-vault.ensures.value);
-      seen = c.running-ran.ensures.seen;
-    } in
+    let e = entered c.requires.few c.requires.mine.holds c.requires.room.0 c.enter-held.ensures.finds c.enter-held.ensures.exact c.enter-held.ensures.pass c.value-vault.ensures.value c.running-ran.ensures.seen in
     subst (λ (s : Shown). length s.history < g.N.Naming.room) (sym c.regrouped_now-task.ensures.shown) (room_for e g.N.Naming.room c.requires.room.1)
 
 pub leave-requires-clause-one : goal.leave-requires-clause-one
 leave-requires-clause-one g c κs within =
-    let e : Enters g.N.Naming.script (g.N.Naming.start no_rows) c.args.pass c.args.who.session _ _ c.value-vault.result.now.shown = record {
-      few = c.requires.few;
-      holds = c.requires.mine.holds;
-      room = c.requires.room.0;
-      ticket = _;
-      finds = c.enter-held.ensures.finds;
-      exact = c.enter-held.ensures.exact;
-      took = c.enter-held.ensures.pass;
-      numbers = ap (λ (v : Stand). numbers_of v.shown.history) (sym c.value-vault.ensures.value);
-      seen = c.running-ran.ensures.seen;
-    } in
+    let e = entered c.requires.few c.requires.mine.holds c.requires.room.0 c.enter-held.ensures.finds c.enter-held.ensures.exact c.enter-held.ensures.pass c.value-vault.ensures.value c.running-ran.ensures.seen in
     let turn = took_now g.N.Naming.script (g.N.Naming.start no_rows) c.value-vault.result.now.shown c.regrouped_now-task.new.vault.shown c.recast.new.self.shown c.args.who.session c.args.who.command c.regrouped_now-task.ensures.shown c.recast.ensures.turn in
     one e c.args.who.command kind.Close c.recast.new.self.shown _ refl turn.turn turn.seen
 
 whole : (g : _) (c : goal.After-leave g) → Step g.N.Naming.script (g.N.Naming.start no_rows) c.args.pass c.leave.result c.value-vault.result.now.shown c.recast.new.self.shown c.args.who.session c.args.who.command kind.Close
 whole g c =
-    let e : Enters g.N.Naming.script (g.N.Naming.start no_rows) c.args.pass c.args.who.session _ _ c.value-vault.result.now.shown = record {
-      few = c.requires.few;
-      holds = c.requires.mine.holds;
-      room = c.requires.room.0;
-      ticket = _;
-      finds = c.enter-held.ensures.finds;
-      exact = c.enter-held.ensures.exact;
-      took = c.enter-held.ensures.pass;
-      numbers = ap (λ (v : Stand). numbers_of v.shown.history) (sym c.value-vault.ensures.value);
-      seen = c.running-ran.ensures.seen;
-    } in
+    let e = entered c.requires.few c.requires.mine.holds c.requires.room.0 c.enter-held.ensures.finds c.enter-held.ensures.exact c.enter-held.ensures.pass c.value-vault.ensures.value c.running-ran.ensures.seen in
     let turn = took_now g.N.Naming.script (g.N.Naming.start no_rows) c.value-vault.result.now.shown c.regrouped_now-task.new.vault.shown c.recast.new.self.shown c.args.who.session c.args.who.command c.regrouped_now-task.ensures.shown c.recast.ensures.turn in
     step e c.args.who.command kind.Close c.recast.new.self.shown _ refl turn.turn turn.seen c.leave.result c.leave.ensures.pass c.leave.ensures.exact
 
@@ -117,17 +65,7 @@ returns-clause-mine g c =
 
 pub regrouped_now-task-requires-clause-granted : goal.regrouped_now-task-requires-clause-granted
 regrouped_now-task-requires-clause-granted g c κs within =
-    let e : Enters g.N.Naming.script (g.N.Naming.start no_rows) c.args.pass c.args.who.session _ _ c.value-vault.result.now.shown = record {
-      few = c.requires.few;
-      holds = c.requires.mine.holds;
-      room = c.requires.room.0;
-      ticket = _;
-      finds = c.enter-held.ensures.finds;
-      exact = c.enter-held.ensures.exact;
-      took = c.enter-held.ensures.pass;
-      numbers = ap (λ (v : Stand). numbers_of v.shown.history) (sym c.value-vault.ensures.value);
-      seen = c.running-ran.ensures.seen;
-    } in
+    let e = entered c.requires.few c.requires.mine.holds c.requires.room.0 c.enter-held.ensures.finds c.enter-held.ensures.exact c.enter-held.ensures.pass c.value-vault.ensures.value c.running-ran.ensures.seen in
     granted_found c.args.pass _ c.value-vault.result.now.shown.history (finds_numbers e) e.seen.short (IsRecastGranted g.D.Reader.FileReader.bytes g.N.Naming.script g.N.Naming.start g.N.Naming.origin g.N.Naming.sound) _ c.requires.granted
 
 pub recast-requires-clause-granted : goal.recast-requires-clause-granted

@@ -1,6 +1,4 @@
-use Rattle.std.proofs.Common.{refl, ap, sym}
-use Rattle.mesa_core.specs.Vault.{Stand}
-use Rattle.mesa_model.specs.Entry.{numbers_of}
+use Rattle.std.proofs.Common.{refl}
 use Rattle.mesa_core.specs.Handing.{IsGranted}
 use Rattle.mesa_core.specs.mesa_invariant_spec.Turns.{is_merge}
 use Rattle.mesa_core.specs.mesa_history_spec.Run.{Granted, Renewed}
@@ -12,68 +10,28 @@ use Rattle.mesa_core.specs.mesa_invariant_spec.Works.{stage_if}
 use Rattle.mesa_core.specs.Works.{known_task}
 use Rattle.mesa_open_files.specs.Tasks.{claim_in}
 use Rattle.mesa_session.proofs.Found.{granted_found, granted_later}
-use Rattle.mesa_session.proofs.Stepping.{Enters, asks, finds_numbers, goes_on, one, room_for, step}
+use Rattle.mesa_session.proofs.Stepping.{asks, entered, finds_numbers, goes_on, one, room_for, step}
 use Rattle.mesa_session.proofs.turns.renew_turn.Goals as goal
 use Rattle.mesa_session.proofs.turns.renew_turn.Goals.{After-leave}
 
 pub renew-renewed-requires-clause-due : goal.renew-renewed-requires-clause-due
 renew-renewed-requires-clause-due g c κs within =
-    let e : Enters g.N.Naming.script (g.N.Naming.start no_rows) c.args.pass c.args.who.session _ _ c.value-vault.result.now.shown = record {
-      few = c.requires.few;
-      holds = c.requires.mine.holds;
-      room = c.requires.room.0;
-      ticket = _;
-      finds = c.enter-held.ensures.finds;
-      exact = c.enter-held.ensures.exact;
-      took = c.enter-held.ensures.pass;
-      numbers = ap (λ (v : Stand). numbers_of v.shown.history) (sym c.value-vault.ensures.value);
-      seen = c.running-ran.ensures.seen;
-    } in
+    let e = entered c.requires.few c.requires.mine.holds c.requires.room.0 c.enter-held.ensures.finds c.enter-held.ensures.exact c.enter-held.ensures.pass c.value-vault.ensures.value c.running-ran.ensures.seen in
     asks e c.args.who.command (Granted (claim_in c.args.task)) is_merge c.requires.mine c.requires.sort
 
 pub renew-renewed-requires-clause-room : goal.renew-renewed-requires-clause-room
 renew-renewed-requires-clause-room g c κs within =
-    let e : Enters g.N.Naming.script (g.N.Naming.start no_rows) c.args.pass c.args.who.session _ _ c.value-vault.result.now.shown = record {
-      few = c.requires.few;
-      holds = c.requires.mine.holds;
-      room = c.requires.room.0;
-      ticket = _;
-      finds = c.enter-held.ensures.finds;
-      exact = c.enter-held.ensures.exact;
-      took = c.enter-held.ensures.pass;
-      numbers = ap (λ (v : Stand). numbers_of v.shown.history) (sym c.value-vault.ensures.value);
-      seen = c.running-ran.ensures.seen;
-    } in
+    let e = entered c.requires.few c.requires.mine.holds c.requires.room.0 c.enter-held.ensures.finds c.enter-held.ensures.exact c.enter-held.ensures.pass c.value-vault.ensures.value c.running-ran.ensures.seen in
     room_for e g.N.Naming.room c.requires.room.1
 
 pub leave-requires-clause-one : goal.leave-requires-clause-one
 leave-requires-clause-one g c κs within =
-    let e : Enters g.N.Naming.script (g.N.Naming.start no_rows) c.args.pass c.args.who.session _ _ c.value-vault.result.now.shown = record {
-      few = c.requires.few;
-      holds = c.requires.mine.holds;
-      room = c.requires.room.0;
-      ticket = _;
-      finds = c.enter-held.ensures.finds;
-      exact = c.enter-held.ensures.exact;
-      took = c.enter-held.ensures.pass;
-      numbers = ap (λ (v : Stand). numbers_of v.shown.history) (sym c.value-vault.ensures.value);
-      seen = c.running-ran.ensures.seen;
-    } in
+    let e = entered c.requires.few c.requires.mine.holds c.requires.room.0 c.enter-held.ensures.finds c.enter-held.ensures.exact c.enter-held.ensures.pass c.value-vault.ensures.value c.running-ran.ensures.seen in
     one e c.args.who.command kind.Renew c.renew-renewed.new.self.shown _ refl c.renew-renewed.ensures.turn.turn c.renew-renewed.ensures.turn.seen
 
 whole : (g : _) (c : After-leave g) → Step g.N.Naming.script (g.N.Naming.start no_rows) c.args.pass c.leave.result c.value-vault.result.now.shown c.renew-renewed.new.self.shown c.args.who.session c.args.who.command kind.Renew
 whole g c =
-    let e : Enters g.N.Naming.script (g.N.Naming.start no_rows) c.args.pass c.args.who.session _ _ c.value-vault.result.now.shown = record {
-      few = c.requires.few;
-      holds = c.requires.mine.holds;
-      room = c.requires.room.0;
-      ticket = _;
-      finds = c.enter-held.ensures.finds;
-      exact = c.enter-held.ensures.exact;
-      took = c.enter-held.ensures.pass;
-      numbers = ap (λ (v : Stand). numbers_of v.shown.history) (sym c.value-vault.ensures.value);
-      seen = c.running-ran.ensures.seen;
-    } in
+    let e = entered c.requires.few c.requires.mine.holds c.requires.room.0 c.enter-held.ensures.finds c.enter-held.ensures.exact c.enter-held.ensures.pass c.value-vault.ensures.value c.running-ran.ensures.seen in
     step e c.args.who.command kind.Renew c.renew-renewed.new.self.shown _ refl c.renew-renewed.ensures.turn.turn c.renew-renewed.ensures.turn.seen c.leave.result c.leave.ensures.pass c.leave.ensures.exact
 
 pub returns-clause-took : goal.returns-clause-took
@@ -84,17 +42,7 @@ returns-clause-mine g c = goes_on (whole g c) (stage_if claim_in Renewed c.renew
 
 pub renew-renewed-requires-clause-granted : goal.renew-renewed-requires-clause-granted
 renew-renewed-requires-clause-granted g c κs within =
-    let e : Enters g.N.Naming.script (g.N.Naming.start no_rows) c.args.pass c.args.who.session _ _ c.value-vault.result.now.shown = record {
-      few = c.requires.few;
-      holds = c.requires.mine.holds;
-      room = c.requires.room.0;
-      ticket = _;
-      finds = c.enter-held.ensures.finds;
-      exact = c.enter-held.ensures.exact;
-      took = c.enter-held.ensures.pass;
-      numbers = ap (λ (v : Stand). numbers_of v.shown.history) (sym c.value-vault.ensures.value);
-      seen = c.running-ran.ensures.seen;
-    } in
+    let e = entered c.requires.few c.requires.mine.holds c.requires.room.0 c.enter-held.ensures.finds c.enter-held.ensures.exact c.enter-held.ensures.pass c.value-vault.ensures.value c.running-ran.ensures.seen in
     granted_found c.args.pass _ c.value-vault.result.now.shown.history (finds_numbers e) e.seen.short (IsGranted g.D.Reader.FileReader.bytes g.N.Naming.script g.N.Naming.start g.N.Naming.origin g.N.Naming.sound) _ c.requires.granted
 
 pub returns-clause-granted : goal.returns-clause-granted

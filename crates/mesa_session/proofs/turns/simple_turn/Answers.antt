@@ -1,73 +1,31 @@
-use Rattle.std.proofs.Common.{refl, ap, sym}
-use Rattle.mesa_core.specs.Vault.{Stand}
-use Rattle.mesa_model.specs.Entry.{numbers_of}
+use Rattle.std.proofs.Common.{refl}
 use Rattle.mesa_core.specs.mesa_history_spec.Run.{First, Finished}
 use Rattle.mesa_model.specs.declared.entries.Kind.TheVariants as kind
 use Rattle.mesa_core.specs.mesa_history_spec.Rows.{no_rows}
 use Rattle.mesa_core.specs.mesa_invariant_spec.Turns.{is_simple}
 use Rattle.mesa_core.proofs.Answering.{none_simple, step_none}
 use Rattle.mesa_core.proofs.Turning.{Step, step_took}
-use Rattle.mesa_session.proofs.Stepping.{Enters, asks, goes_on, one, room_for, step}
+use Rattle.mesa_session.proofs.Stepping.{asks, entered, goes_on, one, room_for, step}
 use Rattle.mesa_session.proofs.turns.simple_turn.Goals as goal
 
 pub simple-requires-clause-due : goal.simple-requires-clause-due
 simple-requires-clause-due g c κs within =
-    let e : Enters g.N.Naming.script (g.N.Naming.start no_rows) c.args.pass c.args.who.session _ _ c.value-vault.result.now.shown = record {
-      few = c.requires.few;
-      holds = c.requires.mine.holds;
-      room = c.requires.room.0;
-      ticket = _;
-      finds = c.enter-held.ensures.finds;
-      exact = c.enter-held.ensures.exact;
-      took = c.enter-held.ensures.pass;
-      numbers = ap (λ (v : Stand). numbers_of v.shown.history) (sym c.value-vault.ensures.value);
-      seen = c.running-ran.ensures.seen;
-    } in
+    let e = entered c.requires.few c.requires.mine.holds c.requires.room.0 c.enter-held.ensures.finds c.enter-held.ensures.exact c.enter-held.ensures.pass c.value-vault.ensures.value c.running-ran.ensures.seen in
     asks e c.args.who.command First is_simple c.requires.mine c.requires.sort
 
 pub simple-requires-clause-room : goal.simple-requires-clause-room
 simple-requires-clause-room g c κs within =
-    let e : Enters g.N.Naming.script (g.N.Naming.start no_rows) c.args.pass c.args.who.session _ _ c.value-vault.result.now.shown = record {
-      few = c.requires.few;
-      holds = c.requires.mine.holds;
-      room = c.requires.room.0;
-      ticket = _;
-      finds = c.enter-held.ensures.finds;
-      exact = c.enter-held.ensures.exact;
-      took = c.enter-held.ensures.pass;
-      numbers = ap (λ (v : Stand). numbers_of v.shown.history) (sym c.value-vault.ensures.value);
-      seen = c.running-ran.ensures.seen;
-    } in
+    let e = entered c.requires.few c.requires.mine.holds c.requires.room.0 c.enter-held.ensures.finds c.enter-held.ensures.exact c.enter-held.ensures.pass c.value-vault.ensures.value c.running-ran.ensures.seen in
     room_for e g.N.Naming.room c.requires.room.1
 
 pub leave-requires-clause-one : goal.leave-requires-clause-one
 leave-requires-clause-one g c κs within =
-    let e : Enters g.N.Naming.script (g.N.Naming.start no_rows) c.args.pass c.args.who.session _ _ c.value-vault.result.now.shown = record {
-      few = c.requires.few;
-      holds = c.requires.mine.holds;
-      room = c.requires.room.0;
-      ticket = _;
-      finds = c.enter-held.ensures.finds;
-      exact = c.enter-held.ensures.exact;
-      took = c.enter-held.ensures.pass;
-      numbers = ap (λ (v : Stand). numbers_of v.shown.history) (sym c.value-vault.ensures.value);
-      seen = c.running-ran.ensures.seen;
-    } in
+    let e = entered c.requires.few c.requires.mine.holds c.requires.room.0 c.enter-held.ensures.finds c.enter-held.ensures.exact c.enter-held.ensures.pass c.value-vault.ensures.value c.running-ran.ensures.seen in
     one e c.args.who.command kind.Decide c.simple.new.self.shown _ refl c.simple.ensures.turn.turn c.simple.ensures.turn.seen
 
 whole : (g : _) (c : goal.After-leave g) → Step g.N.Naming.script (g.N.Naming.start no_rows) c.args.pass c.leave.result c.value-vault.result.now.shown c.simple.new.self.shown c.args.who.session c.args.who.command kind.Decide
 whole g c =
-    let e : Enters g.N.Naming.script (g.N.Naming.start no_rows) c.args.pass c.args.who.session _ _ c.value-vault.result.now.shown = record {
-      few = c.requires.few;
-      holds = c.requires.mine.holds;
-      room = c.requires.room.0;
-      ticket = _;
-      finds = c.enter-held.ensures.finds;
-      exact = c.enter-held.ensures.exact;
-      took = c.enter-held.ensures.pass;
-      numbers = ap (λ (v : Stand). numbers_of v.shown.history) (sym c.value-vault.ensures.value);
-      seen = c.running-ran.ensures.seen;
-    } in
+    let e = entered c.requires.few c.requires.mine.holds c.requires.room.0 c.enter-held.ensures.finds c.enter-held.ensures.exact c.enter-held.ensures.pass c.value-vault.ensures.value c.running-ran.ensures.seen in
     step e c.args.who.command kind.Decide c.simple.new.self.shown _ refl c.simple.ensures.turn.turn c.simple.ensures.turn.seen c.leave.result c.leave.ensures.pass c.leave.ensures.exact
 
 pub returns-clause-took : goal.returns-clause-took
