@@ -1,4 +1,5 @@
 pub use Rattle.mesa_list.proofs as mesa_list
+pub mod FewTotals
 pub mod Fields
 pub mod Finished
 pub mod Flats
@@ -15,6 +16,7 @@ pub mod RowByRow
 pub mod RowForms
 pub mod SharedColumns
 pub mod SumColumns
+pub mod SumNames
 pub mod Twice
 pub mod Columns
 pub mod Kept

@@ -1,19 +1,13 @@
 -- Absolute totals: what keeps every sum within its type.
-use Rattle.std.specs.Prelude.{ℕ, ◌+◌, ◌≤◌, min, pos, nat_abs, List, [], ◌∷◌, ◌++◌, map, zip, sum_by, slice_index_or, take, drop, length, nat_le, Bool, true, false, if◌then◌else◌, Option, Some, None, position, slice_get, unwrap_or, ⊤}
-pub use Rattle.mesa_schema.specs.mesa_value.Agg.{sum_bound}
+use Rattle.std.specs.Prelude.{ℕ, ◌+◌, ◌≤◌, min, pos, nat_abs, List, [], ◌∷◌, ◌++◌, map, zip, sum_by, slice_index_or, take, drop, length, nat_le, if◌then◌else◌, Option, Some, None, position, slice_get, unwrap_or, ⊤}
+pub use Rattle.mesa_schema.specs.mesa_value.Agg.{is_sum, sum_bound}
 use Rattle.mesa_schema.specs.mesa_value.declared.Agg.{Agg}
 use Rattle.mesa_schema.specs.mesa_value.declared.Agg.TheVariants as agg
 use Rattle.mesa_schema.specs.declared.rows.Row.{Row}
 use Rattle.mesa_schema.specs.declared.changes.Change.{Change}
 use Rattle.mesa_schema.specs.declared.changes.Change.TheVariants.{AddKey, AddValue, DropValue}
-use Rattle.mesa_schema.specs.Columns.{Columns, aggs_of, place_of, value_names}
+use Rattle.mesa_schema.specs.Columns.{Columns, aggs_of, chosen, place_of, value_names}
 use Rattle.mesa_schema.specs.Recasts.{Recast, recast_values}
-
-abbrev pub is_sum : Agg → Bool
-is_sum agg.Sum = true
-is_sum agg.Min = false
-is_sum agg.Max = false
-is_sum agg.Replace = false
 
 -- the absolute values of a column, added up
 abbrev pub abs_total : ℕ → List Row → ℕ
@@ -46,6 +40,10 @@ capped totals = map (λ total. min sum_bound total) totals
 -- how many sum columns there are
 abbrev pub sums_in : List Agg → ℕ
 sums_in aggs = length (sum_places 0 aggs)
+
+-- the name of a sum column, by its place among the sum columns
+abbrev pub sum_name : Columns → ℕ → List ℕ
+sum_name s place = slice_index_or (chosen (sum_places 0 (aggs_of s)) (value_names s)) place []
 
 -- the totals without that of the value column at a place, which has one if it is a sum column
 abbrev pub totals_without : List Agg → ℕ → List ℕ → List ℕ

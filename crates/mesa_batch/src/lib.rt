@@ -4,6 +4,7 @@
 
 mod batch;
 mod builder;
+mod changing;
 mod contents;
 mod flat;
 mod fold;
@@ -16,17 +17,20 @@ mod reading;
 mod recasting;
 mod shared;
 mod spots;
+mod summing;
 mod totals;
 mod words;
 
 pub use batch::Batch;
 pub use builder::BatchBuilder;
+pub use changing::totals_changed;
 pub use contents::merge;
 pub use fold::{combine_into, combines_all, fold_in};
 pub use folding::{folds_totals, totals_outlast};
 pub use glance::{Glance, Glanced};
 pub use laws::{goes_row_by_row, keeps_forms, totals_last};
 pub use loading::{LoadRows, RowView};
-pub use recasting::{row_totals, sums_among, totals_recast};
+pub use recasting::{row_totals, totals_recast};
+pub use summing::{sum_column, sums_among};
 pub use totals::{OVER_BOUND, fits};
 pub use words::{BatchError, RowWords};

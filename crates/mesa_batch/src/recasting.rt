@@ -1,9 +1,10 @@
 // Absolute totals of a table that is recast, and of rows that stand alone.
-ghost use Rattle.std.specs.Prelude.{◌≡◌, ◌<◌, ◌++◌, [], ◌∷◌, cond, count_by, length, map, min, slice_get, slice_index_or, take, IfOk, OnOk, Some};
+ghost use Rattle.std.specs.Prelude.{◌≡◌, ◌<◌, ◌++◌, [], ◌∷◌, cond, length, map, min, slice_get, slice_index_or, take, IfOk, OnOk, Some};
 ghost use Rattle.mesa_schema.specs.declared.columns.ValueColumn.{ValueColumn as Column};
 ghost use Rattle.mesa_schema.specs.Columns.{places_in};
 ghost use Rattle.mesa_batch.specs.Totals.{abs_total, abs_totals, capped, chosen_totals, is_sum as adds, sum_bound, sums_in, with_total};
 
+use crate::summing::sums_among;
 use crate::totals::{OVER_BOUND, absolute_value};
 use mesa_schema::{Agg, Name, Row, Schema, Totals, ValueColumn, place_of};
 use std::alloc::{AllocError, Global};
@@ -70,26 +71,6 @@ fn total_at(totals: &[u128], place: usize) -> u128
         Some(total) => *total,
         None => 0,
     }
-}
-
-/// How many of the columns are sums.
-#[tactic(auto, using(crate::proofs::KeptTotals::counted))]
-pub fn sums_among(columns: &[ValueColumn]) -> usize
-    ensures { result ≡ sums_in (map (λ (c : Column). c.agg) columns.now) }
-{
-    count_sums(columns)
-}
-
-fn count_sums(columns: &[ValueColumn]) -> usize
-    ensures { result ≡ count_by (λ (c : Column). adds c.agg) columns.now }
-{
-    columns.iter().filter(|column| is_sum(column.agg)).count()
-}
-
-fn is_sum(agg: Agg) -> bool
-    ensures { result ≡ adds agg }
-{
-    matches!(agg, Agg::Sum)
 }
 
 /// For each sum column of these rows the absolute values, added up as far as the bound.

@@ -3,5 +3,4 @@ pub mod Makings
 pub mod Namings
 pub mod Queries
 pub mod Recastings
-pub mod SumColumns
 pub mod Viewings

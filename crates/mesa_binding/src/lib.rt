@@ -8,7 +8,6 @@ mod making;
 mod naming;
 mod querying;
 mod recasting;
-mod totals;
 mod viewing;
 
 pub use altering::{change_asked, change_failure, changed_name};
@@ -18,5 +17,4 @@ pub use making::schema_asked;
 pub use naming::read_name;
 pub use querying::{build_query, check_query};
 pub use recasting::{RecastNames, recast_asked, recast_failure};
-pub use totals::totals_changed;
 pub use viewing::view_asked;

@@ -164,7 +164,7 @@ impl CatalogTables {
         ensures made { IfOk result (IsMade (catalogue_of self.now)) }
     {
         let old = self.table(table);
-        let totals = totals_changed(&old.evolving, change, &old.totals)?;
+        let totals = totals_changed(old.evolving.present(), change, &old.totals)?;
         let evolving = lineage_with_change(self.alloc(), &old.evolving, change)?;
         let widths = widths_with(old.widths.copy()?, evolving.present())?;
         Ok(Ready::Alter {

@@ -1,13 +1,10 @@
 -- Counts of columns.
-use Rattle.std.proofs.Common.{◌≡◌, ℕ, ◌+◌, ◌≤◌, ◌<◌, List, [], ◌∷◌, length, map, get_or, refl, sym, ◌∙◌, ap, arith, Bool, true, cond, suc, zero, ◌-◌}
-use Rattle.std.specs.Prelude.{not, nat_le, zip, count_by, is_some, is_none, Option, Some, None, slice_get, replicate}
+use Rattle.std.proofs.Common.{◌≡◌, ℕ, ◌+◌, ◌≤◌, ◌<◌, List, [], ◌∷◌, length, map, get_or, refl, sym, ◌∙◌, ap, arith, Bool, true, suc, zero, ◌-◌}
+use Rattle.std.specs.Prelude.{not, nat_le, zip, is_some, is_none, Option, Some, None, slice_get, replicate}
 use Rattle.std.specs.List.{list_all, list_any, range_with_len}
 use Rattle.std.proofs.lemmas.List.FromFn.{get_or-map-range_with_len, length-map-range_with_len}
-use Rattle.std.proofs.lemmas.List.Sums.{sum_by-cons}
 use Rattle.std.proofs.lemmas.List.{length-map, take_all}
 use Rattle.std.proofs.lemmas.Option.{slice_get-get_or}
-use Rattle.mesa_value.specs.declared.Agg.{Agg}
-use Rattle.mesa_value.specs.declared.Agg.TheVariants.{Max, Min, Replace, Sum}
 use Rattle.mesa_schema.specs.declared.columns.KeyColumn.{KeyColumn}
 use Rattle.mesa_schema.specs.declared.columns.ValueColumn.{ValueColumn}
 use Rattle.mesa_schema.specs.declared.views.View.{View}
@@ -21,7 +18,7 @@ use Rattle.mesa_schema.proofs.Choices.{chosen-slot}
 use Rattle.mesa_schema.proofs.Maps.{is_some_position, position_map}
 use Rattle.mesa_schema.proofs.Passing.{passed_first, passed_unless}
 use Rattle.mesa_batch.proofs.NameNumbers.{position-within}
-use Rattle.mesa_batch.specs.Totals.{is_sum, over_bound, sum_bound, sum_places}
+use Rattle.mesa_batch.specs.Totals.{over_bound, sum_bound}
 use Rattle.mesa_list.specs.Bytes.{same_bytes}
 use Rattle.mesa_catalog_table.specs.Meaning.{widths_of}
 use Rattle.mesa_catalog_table.proofs.Tests.{both}
@@ -44,19 +41,7 @@ same_counts f l from (suc n) none =
 pub counts_begun : (f : Columns → ℕ) (l : Lineage) → l.changes ≡ [] → map (λ e. f (columns_at l e)) (range_with_len 0 (epoch_of l + 1)) ≡ replicate (epoch_of l + 1) (f (columns_of l))
 counts_begun f l none = same_counts f l 0 (epoch_of l + 1) none
 
--- ---- sum columns
-
-sum_cons : (i : ℕ) (agg : Agg) (aggs : List Agg) (n : ℕ) → length (sum_places (i + 1) aggs) ≡ n → length (sum_places i (agg ∷ aggs)) ≡ cond (is_sum agg) 1 0 + n
-sum_cons i Sum aggs n e = let first : length (sum_places i (Sum ∷ aggs)) ≡ suc (length (sum_places (i + 1) aggs)) = refl in omega arith
-sum_cons i Min aggs n e = e ∙ omega arith
-sum_cons i Max aggs n e = e ∙ omega arith
-sum_cons i Replace aggs n e = e ∙ omega arith
-
-pub sums_counted : (i : ℕ) (columns : List ValueColumn) → length (sum_places i (map (λ (c : ValueColumn). c.agg) columns)) ≡ count_by (λ (c : ValueColumn). is_sum c.agg) columns
-sums_counted i [] = refl
-sums_counted i (c ∷ columns) =
-    sum_cons i c.agg (map (λ (x : ValueColumn). x.agg) columns) _ (sums_counted (i + 1) columns)
-    ∙ sym (sum_by-cons (λ (x : ValueColumn). cond (is_sum x.agg) 1 0) c columns)
+-- ---- totals
 
 none_not : {X : Type 0} (o : Option X) → is_none o ≡ not (is_some o)
 none_not (Some x) = refl

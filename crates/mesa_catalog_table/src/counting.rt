@@ -1,19 +1,18 @@
 // Counts of columns: what is recorded for each column is there for each, and for no other.
-ghost use Rattle.std.specs.Prelude.{◌≡◌, ◌≤◌, ◌==◌, ◌+◌, [], ℕ, length, count_by, is_none, map, nat_le, nat_lt, replicate, zip, IfOk};
+ghost use Rattle.std.specs.Prelude.{◌≡◌, ◌≤◌, ◌==◌, ◌+◌, [], ℕ, length, is_none, map, nat_le, nat_lt, replicate, zip, IfOk};
 ghost use Rattle.std.specs.List.{list_all, list_any};
 ghost use Rattle.mesa_schema.specs.declared.columns.ValueColumn.{ValueColumn as Column};
 ghost use Rattle.mesa_schema.specs.Changes.{columns_of, epoch_of};
 ghost use Rattle.mesa_schema.specs.Lineages.{IsLineage};
 ghost use Rattle.mesa_schema.specs.Columns.{aggs_of};
-ghost use Rattle.mesa_batch.specs.Totals.{is_sum as adds, over_bound, sum_bound, sums_in};
+ghost use Rattle.mesa_batch.specs.Totals.{over_bound, sum_bound, sums_in};
 ghost use Rattle.mesa_store_spec.specs.Fitting.{files_fit, is_view_ref as fits_view};
 ghost use Rattle.mesa_catalog_table.specs.Meaning.{widths_of};
 
-use mesa_batch::OVER_BOUND;
+use mesa_batch::{OVER_BOUND, sums_among};
 use mesa_list::Items;
 use mesa_record::{Files, ViewRef};
 use mesa_schema::{Evolving, Schema, Totals, ValueColumn};
-use mesa_value::Agg;
 use std::alloc::{AllocError, Global};
 
 /// Whether files of an epoch have an aggregate for each value column.
@@ -48,31 +47,6 @@ pub fn counts_totals(evolving: &Evolving, totals: &Totals) -> bool
     ensures { result ≡ (length totals.now == sums_in (aggs_of (columns_of evolving.now))) }
 {
     totals.len() == sums_among(evolving.present().values())
-}
-
-/// How many sum columns there are.
-pub fn sums_among(columns: &[ValueColumn]) -> usize
-    ensures sums { result ≡ sums_in (map (λ (c : Column). c.agg) columns.now) }
-    ensures most { result ≤ length columns.now }
-{
-    count_sums(columns)
-}
-
-fn count_sums(columns: &[ValueColumn]) -> usize
-    ensures count { result ≡ count_by (λ c. adds c.agg) columns.now }
-    ensures most { result ≤ length columns.now }
-{
-    columns.iter().filter(|column| is_sum(column.agg)).count()
-}
-
-/// Whether a value column of this aggregate is a sum column.
-pub fn is_sum(agg: Agg) -> bool
-    ensures { result ≡ adds agg }
-{
-    match agg {
-        Agg::Sum => true,
-        _ => false,
-    }
 }
 
 /// The totals of a table without rows.

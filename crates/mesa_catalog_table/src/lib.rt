@@ -15,8 +15,8 @@ mod table;
 
 pub use copying::share_table;
 pub use counting::{
-    counts_files, counts_totals, counts_views, epochs_of, first_widths, is_sum, keep_bound,
-    keeps_bound, no_totals, repeated, sums_among, sums_now, width_of,
+    counts_files, counts_totals, counts_views, epochs_of, first_widths, keep_bound, keeps_bound,
+    no_totals, repeated, sums_now, width_of,
 };
 pub use delta::Delta;
 pub use lending::NoRows;

@@ -10,8 +10,8 @@ use Rattle.mesa_schema.specs.Changes.{columns_of}
 use Rattle.mesa_schema.specs.Folded.{folded}
 use Rattle.mesa_schema.specs.Views.{max_views, view_rows}
 use Rattle.mesa_batch.specs.Batch.{Placed, rows_for}
-use Rattle.mesa_batch.specs.Totals.{abs_totals, over_bound, sum_bound, sum_places, sums_in}
-use Rattle.mesa_model.specs.Load.{bound_checked, bounds_checked, sum_name}
+use Rattle.mesa_batch.specs.Totals.{abs_totals, over_bound, sum_bound, sum_name, sum_places, sums_in}
+use Rattle.mesa_model.specs.Load.{bound_checked, bounds_checked}
 use Rattle.mesa_model.specs.declared.replies.Refusal.{Refusal}
 use Rattle.mesa_model.specs.declared.replies.Refusal.TheVariants.{SumBound}
 use Rattle.mesa_engine.specs.mesa_store_spec.Catalog.{Catalog, TableMeta, meta_at}

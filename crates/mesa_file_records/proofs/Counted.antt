@@ -11,7 +11,7 @@ use Rattle.mesa_schema.specs.Columns.{Columns, aggs_of}
 use Rattle.mesa_schema.specs.Schema.{is_schema}
 use Rattle.mesa_engine.specs.mesa_store_spec.Fitting.{totals_fit}
 use Rattle.mesa_batch.specs.Totals.{abs_total, abs_totals, sum_bound, sum_places, sums_in}
-use Rattle.mesa_file_records.proofs.Totals.{few_sums}
+use Rattle.mesa_batch.proofs.FewTotals.{few_sums}
 use Rattle.mesa_file_records.proofs.Keeping.{all_true, few_columns}
 
 pub less : (n k : ℕ) → n < k → nat_lt n k ≡ true

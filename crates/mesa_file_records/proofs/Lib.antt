@@ -1,5 +1,4 @@
 pub mod KeysOnce
-pub mod SumNames
 pub mod Lists
 pub mod Parts
 pub mod Totals

@@ -12,8 +12,6 @@ use Rattle.mesa_pick_files.specs.mesa_key.declared.KeyType.TheVariants as kind
 use Rattle.mesa_pick_files.specs.mesa_key.declared.KeyValue.{KeyValue}
 use Rattle.mesa_pick_files.specs.mesa_key.declared.KeyValue.TheVariants as value
 use Rattle.mesa_pick_files.specs.mesa_key.Spelling.{IsKey, IsValue, key_of, key_spelling, value_spelling}
-use Rattle.mesa_value.specs.declared.Agg.{Agg}
-use Rattle.mesa_value.specs.declared.Agg.TheVariants as agg
 use Rattle.mesa_schema.specs.declared.columns.KeyColumn.{KeyColumn}
 use Rattle.mesa_schema.specs.declared.rows.Row.{Row}
 use Rattle.mesa_schema.specs.declared.views.View.{View}
@@ -27,8 +25,9 @@ use Rattle.mesa_schema.specs.Rows.{IsRowOf}
 use Rattle.mesa_schema.proofs.LineageRules.{present_schema}
 use Rattle.mesa_schema.proofs.Passing.{passed_if}
 use Rattle.mesa_schema.proofs.ViewSchemas.{view_is_schema}
+use Rattle.mesa_batch.proofs.FewTotals.{few_sums, few_values}
 use Rattle.mesa_batch.specs.Batch.{Placed, rows_for}
-use Rattle.mesa_batch.specs.Totals.{abs_totals, sum_places, sums_in}
+use Rattle.mesa_batch.specs.Totals.{abs_totals, sums_in}
 use Rattle.mesa_file.specs.declared.file_ref.FileRef.{FileRef}
 use Rattle.mesa_record.specs.declared.record.Part.{Part}
 use Rattle.mesa_record.specs.declared.record.ViewRef.{ViewRef}
@@ -79,9 +78,6 @@ values_counted s h =
     let values = passed_if (length s.values == 0) _ _ keys.1 in
     let few = passed_if (nat_lt 16 (length s.keys) || nat_lt 16 (length s.values)) _ _ values.1 in
     counted (length s.values) values.0 (either (nat_lt 16 (length s.keys)) (nat_lt 16 (length s.values)) few.0).1
-
-few_values : (s : Columns) → is_schema s ≡ true → length s.values ≤ 16
-few_values s h = leb-true (length s.values) 16 (both_true (nat_le 1 (length s.values)) (nat_le (length s.values) 16) (values_counted s h)).1
 
 -- ---- keys
 
@@ -189,13 +185,6 @@ module _ {M : Type 0} (bytes : M → Option (List ℕ)) (id_of : M → ℕ) wher
 
   added : (number count : ℕ) (p : Part) (parts : List Part) → p.table ≡ number → is_part p ≡ true → AreGood (number + 1) count parts → AreGood number (count + 1) (p ∷ parts)
   added number count p parts at one is = record { rise = rise_as number p.table _ at is.rise; good = λ i. one i && is.good i; few = (let le = is.few in omega (arith, le)) }
-
-  few_sums : (n : ℕ) (aggs : List Agg) → length (sum_places n aggs) ≤ length aggs
-  few_sums n [] = omega arith
-  few_sums n (agg.Sum ∷ aggs) = let le = few_sums (n + 1) aggs in omega (arith, le)
-  few_sums n (agg.Min ∷ aggs) = let le = few_sums (n + 1) aggs in omega (arith, le)
-  few_sums n (agg.Max ∷ aggs) = let le = few_sums (n + 1) aggs in omega (arith, le)
-  few_sums n (agg.Replace ∷ aggs) = let le = few_sums (n + 1) aggs in omega (arith, le)
 
   module _ (over : Bool) (c : Catalog) (batch : List Placed) where
     part_good : (b : Bool) (share : Share) (id table : ℕ) (totals : List ℕ) (made : MadeFiles M) → IsLineage share.lineage → length totals ≡ sums_in (aggs_of (columns_of share.lineage)) → HasFiles bytes id_of b share (Some made) → (epoch : ℕ)

@@ -2,8 +2,7 @@
 use Rattle.std.specs.Prelude.{◌≡◌, ℕ, List, [], ◌∷◌, Option, Some, None, Result, Ok, Err, ⊤}
 use Rattle.mesa_list.specs.Checks.{◌>>◌}
 use Rattle.mesa_schema.specs.Changes.{columns_of}
-use Rattle.mesa_batch.specs.Totals.{over_bound}
-use Rattle.mesa_model.specs.Load.{sum_name}
+use Rattle.mesa_batch.specs.Totals.{over_bound, sum_name}
 use Rattle.mesa_model.specs.declared.replies.Refusal.{Refusal}
 use Rattle.mesa_model.specs.declared.replies.Refusal.TheVariants as no
 use Rattle.mesa_engine.specs.mesa_store_spec.Catalog.{Catalog, TableMeta, meta_at}

@@ -1,23 +1,21 @@
 // The bound of the sums.
-ghost use Rattle.std.specs.Prelude.{◌≡◌, ◌<◌, ◌≤◌, ◌^◌, length, Ok, IfErr, OnOk};
+ghost use Rattle.std.specs.Prelude.{◌≡◌, ◌<◌, length, Ok, IfErr, OnOk};
 ghost use Rattle.mesa_schema.specs.Changes.{columns_of};
 ghost use Rattle.mesa_schema.specs.Columns.{aggs_of};
-ghost use Rattle.mesa_batch.specs.Totals.{is_sum as adds, sum_places, sums_in};
-ghost use Rattle.mesa_model.specs.Load.{sum_name};
+ghost use Rattle.mesa_batch.specs.Totals.{sums_in};
 ghost use Rattle.mesa_engine.specs.mesa_store_spec.Catalog.{meta_at};
 ghost use Rattle.mesa_engine.specs.mesa_store_spec.Shape.{IsCatalog};
 ghost use Rattle.mesa_file_records.specs.Adopted.{ArePartsOf};
 ghost use Rattle.mesa_file_records.specs.Bounds.{IsDue, parts_checked, totals_checked};
 
 use crate::Unpublished;
-use mesa_batch::fits;
+use mesa_batch::{fits, sum_column};
 use mesa_catalog::Catalog;
 use mesa_disk::Made;
 use mesa_list::TryCopy;
 use mesa_model::Refusal;
 use mesa_open_files::PreparedPart;
-use mesa_schema::{Name, Schema, Totals};
-use mesa_value::Agg;
+use mesa_schema::Totals;
 
 // Refuses a batch with which a sum column would pass its bound: the first, by the tables' numbers.
 pub(crate) fn check_bounds<M: Made>(
@@ -53,27 +51,4 @@ fn check_totals(catalog: &Catalog, table: u16, totals: &Totals) -> Result<(), Un
             }))
         }
     }
-}
-
-// The name of a sum column, by its place among the sum columns.
-fn sum_column(schema: &Schema, place: usize) -> &Name
-    requires { place < length (sum_places 0 (aggs_of schema.now)) }
-    ensures { result.now ≡ sum_name schema.now place }
-{
-    let mut left = place;
-    'columns: for column in schema.values() {
-        if is_sum(column.agg) {
-            if left == 0 {
-                return &column.name;
-            }
-            left -= 1;
-        }
-    }
-    unreachable!()
-}
-
-fn is_sum(agg: Agg) -> bool
-    ensures { result ≡ adds agg }
-{
-    matches!(agg, Agg::Sum)
 }

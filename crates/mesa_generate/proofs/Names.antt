@@ -9,10 +9,10 @@ use Rattle.mesa_invariant_spec.specs.mesa_schema.Names.{is_name}
 use Rattle.mesa_invariant_spec.proofs.mesa_schema.Lists.{all_at, all_got, all_map}
 use Rattle.mesa_invariant_spec.proofs.mesa_schema.Places.{place_named}
 use Rattle.mesa_model.specs.Warehouse.{Store, Table, no_table, table_at}
-use Rattle.mesa_model.specs.Load.{sum_name, tables_loaded}
+use Rattle.mesa_model.specs.Load.{tables_loaded}
 use Rattle.mesa_model.specs.Relations.{table_number}
 use Rattle.mesa_invariant_spec.specs.mesa_batch.Batch.{Placed}
-use Rattle.mesa_invariant_spec.specs.mesa_batch.Totals.{sum_places}
+use Rattle.mesa_invariant_spec.specs.mesa_batch.Totals.{sum_name, sum_places}
 use Rattle.mesa_invariant_spec.specs.mesa_schema.Columns.{aggs_of}
 use Rattle.mesa_generate.specs.Excerpt.{ArePlainColumns, HasPlainNames, IsPlainColumn, IsPlainTable}
 use Rattle.mesa_generate.specs.Lines.{IsUnbroken}

@@ -21,7 +21,7 @@ use Rattle.mesa_invariant_spec.specs.mesa_batch.declared.words.RowWords.{RowWord
 use Rattle.mesa_invariant_spec.specs.mesa_batch.declared.words.BatchError.{BatchError}
 use Rattle.mesa_invariant_spec.specs.mesa_batch.declared.words.BatchError.TheVariants as batch
 use Rattle.mesa_invariant_spec.specs.mesa_batch.Batch.{Placed, batch_of, rows_for}
-use Rattle.mesa_invariant_spec.specs.mesa_batch.Totals.{over_bound}
+use Rattle.mesa_invariant_spec.specs.mesa_batch.Totals.{over_bound, sum_name}
 use Rattle.mesa_invariant_spec.specs.mesa_filter.declared.words.VersionWord.TheVariants as asks
 use Rattle.mesa_model.specs.declared.commands.TableWords.{TableWords}
 use Rattle.mesa_model.specs.declared.commands.ViewWords.{ViewWords}
@@ -29,7 +29,7 @@ use Rattle.mesa_model.specs.declared.replies.Refusal.{Refusal}
 use Rattle.mesa_model.specs.declared.replies.Refusal.TheVariants as no
 use Rattle.mesa_model.specs.declared.replies.Reply.{Reply}
 use Rattle.mesa_model.specs.declared.replies.Reply.TheVariants as reply
-use Rattle.mesa_model.specs.Load.{bound_checked, bounds_checked, load_batch, sum_name, tables_named, totals_of}
+use Rattle.mesa_model.specs.Load.{bound_checked, bounds_checked, load_batch, tables_named, totals_of}
 use Rattle.mesa_model.specs.Query.{Heading}
 use Rattle.mesa_model.specs.Refusals.{batch_refusal, no_such_table, refuse_closed, schema_refusal, view_refusal}
 use Rattle.mesa_model.specs.Relations.{is_taken, table_number}

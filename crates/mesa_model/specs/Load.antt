@@ -1,13 +1,13 @@
 -- Loading a batch of rows.
-use Rattle.std.specs.Prelude.{ℕ, ◌+◌, List, [], ◌∷◌, ◌++◌, map, length, nat_le, Some, None, slice_index_or, Result, Ok, Err}
+use Rattle.std.specs.Prelude.{ℕ, ◌+◌, List, [], ◌∷◌, ◌++◌, map, length, nat_le, Some, None, Result, Ok, Err}
 use Rattle.mesa_list.specs.Checks.{◌>>=◌, ◌>>◌, refuse_if, refused_as}
 use Rattle.mesa_schema.specs.declared.rows.Row.{Row}
-use Rattle.mesa_schema.specs.Columns.{Columns, aggs_of, value_names, chosen}
+use Rattle.mesa_schema.specs.Columns.{aggs_of}
 use Rattle.mesa_schema.specs.Changes.{columns_of}
 use Rattle.mesa_schema.specs.Folded.{folded}
 use Rattle.mesa_batch.specs.declared.words.RowWords.{RowWords}
 use Rattle.mesa_batch.specs.Batch.{Named, Placed, batch_of, rows_for}
-use Rattle.mesa_batch.specs.Totals.{sum_places, abs_totals, totals_with, over_bound}
+use Rattle.mesa_batch.specs.Totals.{abs_totals, over_bound, sum_name, totals_with}
 use Rattle.mesa_model.specs.declared.replies.Refusal.{Refusal}
 use Rattle.mesa_model.specs.declared.replies.Refusal.TheVariants as no
 use Rattle.mesa_model.specs.declared.replies.Reply.{Reply}
@@ -22,10 +22,6 @@ tables_named s = map (λ (t : Table). record { name = t.name; columns = columns_
 -- for each sum column of a table the absolute values of these rows, added up
 abbrev pub totals_of : Table → List Row → List ℕ
 totals_of t rows = abs_totals (columns_of t.lineage) rows
-
--- the name of a sum column, by its place among the sum columns
-abbrev pub sum_name : Columns → ℕ → List ℕ
-sum_name s place = slice_index_or (chosen (sum_places 0 (aggs_of s)) (value_names s)) place []
 
 -- the first sum column whose total would pass the bound with these rows
 abbrev pub bound_checked : Table → List Row → Result (Unit {0}) Refusal

@@ -4,8 +4,6 @@ use Rattle.std.proofs.lemmas.Bool.Decides.{nat_tests}
 use Rattle.std.proofs.lemmas.List.{map-append}
 use Rattle.std.specs.Prelude.{option_map, unwrap_or, IfSome}
 use Rattle.std.specs.List.{AllByRecursion, cons_option, list_all, range_with_len}
-use Rattle.mesa_delta.specs.mesa_value.declared.Agg.{Agg}
-use Rattle.mesa_delta.specs.mesa_value.declared.Agg.TheVariants as agg
 use Rattle.mesa_history_spec.specs.mesa_schema.declared.columns.KeyColumn.{KeyColumn}
 use Rattle.mesa_history_spec.specs.mesa_schema.declared.columns.ValueColumn.{ValueColumn}
 use Rattle.mesa_history_spec.specs.mesa_schema.declared.changes.Change.{Change}
@@ -17,7 +15,8 @@ use Rattle.mesa_history_spec.specs.mesa_schema.Recasts.{recast_keys, recast_valu
 use Rattle.mesa_history_spec.proofs.mesa_schema.LineageRules.{present_schema}
 use Rattle.mesa_history_spec.proofs.mesa_schema.SchemaChanges.{schema_rules}
 use Rattle.mesa_history_spec.proofs.mesa_schema.Lists.{all_append, all_drop, all_map, all_replicate, all_so}
-use Rattle.mesa_history_spec.specs.mesa_batch.Totals.{sum_bound, sum_places}
+use Rattle.mesa_history_spec.specs.mesa_batch.Totals.{sum_bound}
+use Rattle.mesa_history_spec.proofs.mesa_batch.FewTotals.{few_sums}
 use Rattle.mesa_history_spec.specs.mesa_span.Ranges.{base_before, end_of, start_behind}
 use Rattle.mesa_record.specs.declared.record.Files.{Files}
 use Rattle.mesa_record.specs.declared.record.Part.{Part}
@@ -355,13 +354,6 @@ some_columns n e le =
     let one : 1 ≤ n = grind (arith, nat_tests) in
     two_true (nat_le 1 n) (nat_le n 16) (low 1 n one) (low n 16 le)
 
-sums_few : (i : ℕ) (aggs : List Agg) → length (sum_places i aggs) ≤ length aggs
-sums_few i [] = omega arith
-sums_few i (agg.Sum ∷ aggs) = omega (arith, sums_few (i + 1) aggs)
-sums_few i (agg.Min ∷ aggs) = omega (arith, sums_few (i + 1) aggs)
-sums_few i (agg.Max ∷ aggs) = omega (arith, sums_few (i + 1) aggs)
-sums_few i (agg.Replace ∷ aggs) = omega (arith, sums_few (i + 1) aggs)
-
 length_aggs : (vs : List ValueColumn) → length (map (λ (v : ValueColumn). v.agg) vs) ≡ length vs
 length_aggs [] = refl
 length_aggs (v ∷ vs) = ap suc (length_aggs vs)
@@ -435,7 +427,7 @@ table_kept floor next t small shaped so is =
     let first = schema_rules l.first (subst (λ n. is_schema (columns_after l.first (take n l.changes)) ≡ true) none (shaped.lineage.schemas l.begins)) in
     let oldest : t.oldest < 2 ^ 32 = elim shaped.oldest [ inl lt ↦ omega (arith, lt, small) | inr none ↦ omega (arith, none.0) ] in
     let present = schema_rules (columns_of l) (present_schema l shaped.lineage) in
-    let sums : length t.totals ≤ 16 = omega (arith, shaped.totals, sums_few 0 (aggs_of (columns_of l)), length_aggs (columns_of l).values, present.few_values) in
+    let sums : length t.totals ≤ 16 = omega (arith, shaped.totals, few_sums 0 (aggs_of (columns_of l)), length_aggs (columns_of l).values, present.few_values) in
     let half : length l.changes < 2 ^ 16 = omega (arith, shaped.lineage.few_changes) in
     let ranges : length (map stating_range t.cumulatives) < 2 ^ 32 = omega (arith, length_ranges t.cumulatives, tens_few (start_in t) 0 next t.cumulatives shaped.reachable shaped.ends (omega arith), small) in
     let many : length (stating_singles (start_in t) t.singles) < 2 ^ 32 = omega (arith, singles_few (start_in t) t.singles, shaped.singles, small) in

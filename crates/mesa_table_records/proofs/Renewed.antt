@@ -27,7 +27,8 @@ use Rattle.mesa_catalog_table.specs.mesa_store_spec.Fitting.{counts_view, files_
 use Rattle.mesa_catalog_table.specs.declared.table.Loaded.{Loaded}
 use Rattle.mesa_table_records.specs.Renewed.{is_sum_at, is_sum_if_any, is_sum_named, renewed_behind}
 use Rattle.mesa_table_records.specs.Stated.{stating_loaded}
-use Rattle.mesa_catalog_table.proofs.Counts.{sums_counted, view_width}
+use Rattle.mesa_batch.proofs.KeptTotals.{counted}
+use Rattle.mesa_catalog_table.proofs.Counts.{view_width}
 use Rattle.mesa_catalog_table.proofs.Tests.{both}
 
 ok_is : {E : Type 0} (c : Result (Unit {0}) E) → is_ok c ≡ true → c ≡ Ok tt
@@ -52,8 +53,8 @@ recast_width l r epoch ok =
 
 sum_one : (c : ValueColumn) (cs : List ValueColumn) → cond (is_sum c.agg) 1 0 + sums_in (map (λ (x : ValueColumn). x.agg) cs) ≡ sums_in (map (λ (x : ValueColumn). x.agg) (c ∷ cs))
 sum_one c cs =
-    ap (λ n. cond (is_sum c.agg) 1 0 + n) (sums_counted 0 cs)
-    ∙ sym (sum_by-cons (λ (x : ValueColumn). cond (is_sum x.agg) 1 0) c cs) ∙ sym (sums_counted 0 (c ∷ cs))
+    ap (λ n. cond (is_sum c.agg) 1 0 + n) (counted cs)
+    ∙ sym (sum_by-cons (λ (x : ValueColumn). cond (is_sum x.agg) 1 0) c cs) ∙ sym (counted (c ∷ cs))
 
 -- the sum columns among those that are named
 pub sums_chosen : (columns : List ValueColumn) (names : List (List ℕ)) → there (map (λ (c : ValueColumn). c.name) columns) names ≡ true

@@ -15,6 +15,7 @@ mod totals;
 
 pub use fitting::{counts_files_if_any, may_be_base, may_be_cumulative};
 pub use loading::load_part;
+pub use mesa_batch::totals_changed;
 pub use mesa_catalog_table::{
     Base, Delta, NoRows, Recorded, Relation, Table, counts_files, counts_totals, keeps_bound,
     make_spare, no_totals, ranges, share_table, width_of,
@@ -25,4 +26,4 @@ pub use renewing::allows_recast;
 pub use restoring::{RestoreError, restore};
 pub use stating::state;
 pub use swapping::swap;
-pub use totals::{totals_changed, totals_with};
+pub use totals::totals_with;

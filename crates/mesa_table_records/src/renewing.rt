@@ -15,7 +15,7 @@ ghost use Rattle.mesa_table_records.specs.Renewed.{is_sum_if_any, is_sum_named, 
 ghost use Rattle.mesa_table_records.specs.Stated.{stating_loaded};
 
 use crate::same::same_views;
-use mesa_catalog_table::{Delta, Loaded, Table, counts_views, is_sum, keep_bound};
+use mesa_catalog_table::{Delta, Loaded, Table, counts_views, keep_bound};
 use mesa_record::{CheckpointSingle, Files, Recasting};
 use mesa_schema::{Evolving, Name, Totals, ValueColumn, place_of};
 use std::sync::Arc;
@@ -149,7 +149,7 @@ fn sums_at(columns: &[ValueColumn], place: usize) -> bool
     requires { place < length columns.now }
     ensures { result ≡ is_sum_if_any (slice_get columns.now place) }
 {
-    is_sum(columns[place].agg)
+    columns[place].agg.is_sum()
 }
 
 // Whether what is told of versions takes the places of those with rows, one after the other.

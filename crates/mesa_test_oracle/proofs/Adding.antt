@@ -16,7 +16,7 @@ use Rattle.mesa_test_oracle.specs.Sound.{AreKept, HasTotals, IsHeld, IsOldest}
 use Rattle.mesa_test_oracle.proofs.Items.{get_or-before, get_or-last, one_more}
 use Rattle.mesa_test_oracle.proofs.Newest.{past}
 use Rattle.mesa_test_oracle.proofs.Stores.{nothing_held}
-use Rattle.mesa_test_oracle.proofs.SumNames.{named}
+use Rattle.mesa_batch.proofs.SumNames.{named}
 
 -- one more table, of which the floor is the oldest version
 abbrev pub from_more : From → From

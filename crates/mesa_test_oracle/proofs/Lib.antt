@@ -9,7 +9,6 @@ pub mod Newest
 pub mod Pinnings
 pub mod Relations
 pub mod Stores
-pub mod SumNames
 pub mod Tables
 pub mod Tokens
 pub mod Seen

@@ -12,10 +12,10 @@ use Rattle.mesa_schema.specs.Changes.{columns_of}
 use Rattle.mesa_batch.specs.Batch.{Placed, rows_for}
 use Rattle.mesa_batch.specs.Gathered.{Batched, columns_for, rows_at}
 use Rattle.mesa_batch.specs.Glance.{Known}
-use Rattle.mesa_batch.specs.Totals.{abs_total, abs_totals, capped, over_bound, sum_bound, sum_places, totals_with}
+use Rattle.mesa_batch.specs.Totals.{abs_total, abs_totals, capped, over_bound, sum_bound, sum_name, sum_places, totals_with}
 use Rattle.mesa_model.specs.declared.replies.Refusal.{Refusal}
 use Rattle.mesa_model.specs.declared.replies.Refusal.TheVariants as no
-use Rattle.mesa_model.specs.Load.{bound_checked, bounds_checked, sum_name}
+use Rattle.mesa_model.specs.Load.{bound_checked, bounds_checked}
 use Rattle.mesa_model.specs.Warehouse.{Table}
 use Rattle.mesa_binding.specs.declared.failure.Failure.{Failure}
 use Rattle.mesa_binding.specs.declared.failure.Failure.TheVariants.{Memory, Refused}

@@ -9,22 +9,22 @@ ghost use Rattle.mesa_schema.specs.Rows.{AreRowsOf};
 ghost use Rattle.mesa_batch.specs.Batch.{Placed as PlacedRow};
 ghost use Rattle.mesa_batch.specs.Gathered.{columns_for, rows_at};
 ghost use Rattle.mesa_batch.specs.Numbers.{known_of};
-ghost use Rattle.mesa_batch.specs.Totals.{abs_totals, over_bound, sum_bound, sum_places, sums_in, totals_with};
+ghost use Rattle.mesa_batch.specs.Totals.{abs_totals, over_bound, sum_bound, sums_in, totals_with};
 ghost use Rattle.mesa_batch.specs.Totals.{is_sum as adds};
 ghost use Rattle.mesa_batch.specs.Bound.{KeepsBound};
 ghost use Rattle.mesa_batch.specs.Put.{IsFold};
-ghost use Rattle.mesa_model.specs.Load.{bound_checked, bounds_checked, newest_content, sum_name};
+ghost use Rattle.mesa_model.specs.Load.{bound_checked, bounds_checked, newest_content};
 ghost use Rattle.mesa_test_oracle.specs.Kept.{content_in, contents_in, nowhere, tables_in};
 ghost use Rattle.mesa_test_oracle.specs.Grown.{AreContentsWith, AreTotalsWith, CanTake, HasRows, IsBatchOf, with_totals};
 ghost use Rattle.mesa_test_oracle.specs.Sound.{HaveTotals, HasTotals};
 ghost use Rattle.mesa_binding.specs.Told.{IsDue};
 
 use crate::store::Contents;
-use mesa_batch::{Batch, Glanced, fits, merge};
+use mesa_batch::{Batch, Glanced, fits, merge, sum_column};
 use mesa_binding::Failure;
 use mesa_list::{Items, TryCopy};
 use mesa_model::Refusal;
-use mesa_schema::{Name, Row, RowList, Schema, Totals, ValueColumn};
+use mesa_schema::{Row, RowList, Schema, Totals, ValueColumn};
 use mesa_value::Agg;
 use std::alloc::{AllocError, Global};
 use std::collections::VecDeque;
@@ -99,29 +99,6 @@ fn sums_as_far(alloc: Global, totals: &[u128], more: &[u128]) -> Result<Vec<u128
         .zip(more)
         .map(|(total, more)| total.saturating_add(*more))
         .collect(alloc)
-}
-
-// The name of a sum column, by its place among the sum columns.
-fn sum_column(schema: &Schema, place: usize) -> &Name
-    requires { place < length (sum_places 0 (aggs_of schema.now)) }
-    ensures { result.now ≡ sum_name schema.now place }
-{
-    let mut left = place;
-    'columns: for column in schema.values() {
-        if is_sum(column.agg) {
-            if left == 0 {
-                return &column.name;
-            }
-            left -= 1;
-        }
-    }
-    unreachable!()
-}
-
-fn is_sum(agg: Agg) -> bool
-    ensures { result ≡ adds agg }
-{
-    matches!(agg, Agg::Sum)
 }
 
 // The contents of all tables at the next version. A table that the batch has no rows of shares its newest content.

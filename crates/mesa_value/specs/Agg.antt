@@ -1,5 +1,5 @@
 -- What the four aggregations make of an older and a newer value.
-use Rattle.std.specs.Prelude.{◌≡◌, ℕ, ◌^◌, ℤ, pos, ◌+ℤ◌, ⊤, FitsSigned}
+use Rattle.std.specs.Prelude.{◌≡◌, ℕ, ◌^◌, ℤ, pos, ◌+ℤ◌, ⊤, Bool, true, false, FitsSigned}
 use Rattle.std.specs.Int.{int_min, int_max, w64, w128}
 use Rattle.mesa_value.specs.declared.Agg.{Agg}
 use Rattle.mesa_value.specs.declared.Agg.TheVariants.{Sum, Min, Max, Replace}
@@ -10,6 +10,13 @@ combined Sum old new = old +ℤ new
 combined Min old new = int_min old new
 combined Max old new = int_max old new
 combined Replace old new = new
+
+-- an aggregation that adds values up
+abbrev pub is_sum : Agg → Bool
+is_sum Sum = true
+is_sum Min = false
+is_sum Max = false
+is_sum Replace = false
 
 -- an amount is a number of 128 bits
 abbrev pub IsAmount : ℤ → Type 0

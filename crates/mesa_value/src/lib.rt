@@ -3,7 +3,7 @@
 
 ghost use Rattle.std.specs.Prelude.{◌≡◌, ◌↔◌, IsTrue, ℤ};
 ghost use Rattle.mesa_value.specs.declared.Agg.{Agg as Aggs};
-ghost use Rattle.mesa_value.specs.Agg.{Combines, IsDefault, IsOrderless, combined};
+ghost use Rattle.mesa_value.specs.Agg.{Combines, IsDefault, IsOrderless, combined, is_sum};
 
 /// A value of a column.
 pub type Amount = i128;
@@ -22,6 +22,15 @@ pub enum Agg {
     Max,
     /// The newest of them.
     Replace,
+}
+
+impl Agg {
+    /// Whether it adds values up.
+    pub fn is_sum(self) -> bool
+        ensures { result ≡ is_sum self }
+    {
+        matches!(self, Agg::Sum)
+    }
 }
 
 /// The value of an older and a newer one.

@@ -7,8 +7,7 @@ ghost use Rattle.mesa_test_oracle.specs.Kept.{with_lineage, with_schema_changed,
 use crate::changing::{changed, versions_lifted};
 use crate::growing::zeros;
 use crate::store::PlainStore;
-use mesa_batch::Glanced;
-use mesa_binding::totals_changed;
+use mesa_batch::{Glanced, totals_changed};
 use mesa_list::TryCopy;
 use mesa_schema::{Change, ChangeError, Evolving, Name, Schema, Totals};
 use std::alloc::{AllocError, Global};

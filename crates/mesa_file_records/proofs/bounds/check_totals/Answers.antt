@@ -7,7 +7,7 @@ use Rattle.mesa_engine.specs.mesa_store_spec.Catalog.{Catalog, meta_at}
 use Rattle.mesa_engine.specs.mesa_store_spec.Shape.{IsCatalog, IsShaped}
 use Rattle.mesa_engine.proofs.mesa_store_spec.Lifted.{columns_now}
 use Rattle.mesa_engine.proofs.mesa_store_spec.Lists.{meta_found}
-use Rattle.mesa_file_records.proofs.Totals.{few_totals, over_within}
+use Rattle.mesa_batch.proofs.FewTotals.{few_totals, over_within}
 use Rattle.mesa_file_records.proofs.bounds.check_totals.Goals as goal
 
 shaped_at : (k : Catalog) (n : ℕ) → IsCatalog k → n < length k.tables → IsShaped k.floor k.next (meta_at k n)

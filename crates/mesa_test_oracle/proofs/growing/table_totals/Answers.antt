@@ -4,7 +4,8 @@ use Rattle.mesa_batch.specs.Gathered.{rows_at}
 use Rattle.mesa_batch.specs.Numbers.{known_of}
 use Rattle.mesa_batch.specs.Totals.{abs_totals, totals_with}
 use Rattle.mesa_test_oracle.specs.Grown.{with_totals}
-use Rattle.mesa_test_oracle.proofs.Bounds.{few_totals, over_within, same-capped, with_bound}
+use Rattle.mesa_batch.proofs.FewTotals.{few_totals, over_within}
+use Rattle.mesa_test_oracle.proofs.Bounds.{same-capped, with_bound}
 use Rattle.mesa_test_oracle.proofs.Tables.{as_many, bound_over, counted_none, counted_some, more_is, no_more, no_more-bound, is_nil, over_is}
 use Rattle.mesa_test_oracle.proofs.growing.table_totals.Goals as goal
 

@@ -20,11 +20,11 @@ returns-clause-made c =
     let sound_rows = sym (ap (λ (t : TableMeta). t.lineage) c.table-old.ensures.meta) in
     let old = c.deref-2.ensures in
     let widths = c.in_ok-copy.ensures ∙ c.table-old.ensures.table.widths ∙ ap widths_of (sym old) in
-    let width = ap (λ (s : Columns). length s.values) c.present.ensures.columns ∙ ap (λ (l : Lineage). length (columns_of l).values) (c.deref-3.ensures ∙ is) in
-    let lineage = c.deref.ensures ∙ sound_rows in
+    let width = ap (λ (s : Columns). length s.values) c.present-2.ensures.columns ∙ ap (λ (l : Lineage). length (columns_of l).values) (c.deref-3.ensures ∙ is) in
+    let columns = c.present.ensures.columns ∙ ap columns_of (c.deref.ensures ∙ sound_rows) in
     let change = sym (change_last _ _ _ is) in
     let totals = sym (ap (λ (t : TableMeta). t.totals) c.table-old.ensures.meta) in (
       change_made _ _ _ _ is (old ∙ sound_rows),
       c.in_ok-widths.ensures ∙ (λ i. widths i ++ width i ∷ []) ∙ sym (widths_changed c.deref-2.result.now c.args.change.now) ∙ ap widths_of (sym is),
-      c.in_ok-totals.ensures ∙ (λ i. totals_after (columns_of (lineage i)) (change i) (totals i)),
+      c.in_ok-totals.ensures ∙ (λ i. totals_after (columns i) (change i) (totals i)),
     )

@@ -1,6 +1,6 @@
 use Rattle.std.proofs.Common.{sym, subst, ◌<◌}
-use Rattle.mesa_test_oracle.proofs.SumNames.{length-sum_names, sum_name-is}
-use Rattle.mesa_test_oracle.proofs.growing.sum_column.Goals as goal
+use Rattle.mesa_batch.proofs.SumNames.{length-sum_names, sum_name-is}
+use Rattle.mesa_batch.proofs.summing.sum_column.Goals as goal
 
 pub columns-init : goal.columns-init
 columns-init c = record {

@@ -3,8 +3,8 @@ use Rattle.std.specs.Prelude.{IfOk, unwrap_or}
 use Rattle.mesa_schema.specs.declared.columns.ValueColumn.{ValueColumn}
 use Rattle.mesa_schema.specs.declared.changes.Change.{Change}
 use Rattle.mesa_schema.specs.Columns.{place_of}
-use Rattle.mesa_model.specs.mesa_batch.Totals.{totals_after, totals_without}
-use Rattle.mesa_binding.proofs.totals.totals_changed.Goals as goal
+use Rattle.mesa_batch.specs.Totals.{totals_after, totals_without}
+use Rattle.mesa_batch.proofs.changing.totals_changed.Goals as goal
 
 pub returns-in-DropValue : goal.returns-in-DropValue
 returns-in-DropValue c =

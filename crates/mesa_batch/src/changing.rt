@@ -1,11 +1,11 @@
 // What a change of a schema makes of a table's totals.
-ghost use Rattle.std.specs.Prelude.{◌≡◌, ◌≤◌, IfOk, count_by, length, map};
+ghost use Rattle.std.specs.Prelude.{◌≡◌, ◌≤◌, IfOk, length, map};
 ghost use Rattle.mesa_schema.specs.declared.columns.ValueColumn.{ValueColumn as Column};
-ghost use Rattle.mesa_model.specs.mesa_batch.Totals.{is_sum as adds, sums_in, totals_after, totals_without};
+ghost use Rattle.mesa_batch.specs.Totals.{totals_after, totals_without};
 
+use crate::summing::sums_among;
 use mesa_list::{Items, TryCopy};
 use mesa_schema::{Change, Schema, Totals, ValueColumn, place_of};
-use mesa_value::Agg;
 use std::alloc::AllocError;
 
 /// The absolute totals of a table of these columns after a change of them: a new sum column has none yet, and one that goes takes its own along.
@@ -20,7 +20,7 @@ pub fn totals_changed(
     match change {
         Change::AddValue { column, .. } => {
             let mut after = totals.copy()?;
-            if is_sum(column.agg) {
+            if column.agg.is_sum() {
                 after.push(0)?;
             }
             Ok(after)
@@ -49,24 +49,4 @@ fn without_column(
     let mut after = Vec::from_slice(alloc, &totals[..before])?;
     after.extend_from_slice(&totals[through..])?;
     Ok(Items::from_vec(after))
-}
-
-// How many of the columns are sums.
-#[tactic(auto, using(crate::proofs::SumColumns::counted))]
-fn sums_among(columns: &[ValueColumn]) -> usize
-    ensures { result ≡ sums_in (map (λ (c : Column). c.agg) columns.now) }
-{
-    count_sums(columns)
-}
-
-fn count_sums(columns: &[ValueColumn]) -> usize
-    ensures { result ≡ count_by (λ (c : Column). adds c.agg) columns.now }
-{
-    columns.iter().filter(|column| is_sum(column.agg)).count()
-}
-
-fn is_sum(agg: Agg) -> bool
-    ensures { result ≡ adds agg }
-{
-    matches!(agg, Agg::Sum)
 }

@@ -1,7 +1,7 @@
 use Rattle.std.proofs.Common.{◌≡◌, ◌<◌, [], drop, get_or, length}
-use Rattle.mesa_model.specs.Load.{sum_name}
-use Rattle.mesa_file_records.proofs.SumNames.{sum_names}
-use Rattle.mesa_file_records.proofs.bounds.sum_column.Given as goal
+use Rattle.mesa_batch.specs.Totals.{sum_name}
+use Rattle.mesa_batch.proofs.SumNames.{sum_names}
+use Rattle.mesa_batch.proofs.summing.sum_column.Given as goal
 
 -- the column stands among the others' sums
 abbrev pub invariant-columns : goal.invariant-columns

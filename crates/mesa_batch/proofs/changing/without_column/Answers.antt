@@ -1,10 +1,10 @@
 use Rattle.std.proofs.Common.{◌≡◌, ◌+◌, ◌++◌, ◌∙◌, ap, sym, length, map, take, drop, arith}
 use Rattle.std.specs.Prelude.{min}
 use Rattle.std.proofs.lemmas.List.{drop_min, take-map, take_min, take_rest}
-use Rattle.mesa_catalog_table.specs.mesa_value.declared.Agg.{Agg}
+use Rattle.mesa_schema.specs.mesa_value.declared.Agg.{Agg}
 use Rattle.mesa_schema.specs.declared.columns.ValueColumn.{ValueColumn}
 use Rattle.mesa_batch.specs.Totals.{sums_in, totals_without}
-use Rattle.mesa_table_records.proofs.totals.without_column.Goals as goal
+use Rattle.mesa_batch.proofs.changing.without_column.Goals as goal
 
 pub returns : goal.returns
 returns c =

@@ -1,12 +1,11 @@
 -- The names of the sum columns, one after another.
 use Rattle.std.proofs.Common.{◌≡◌, ◌+◌, ℕ, zero, suc, List, [], ◌∷◌, length, map, Some, true, false, refl, ap, subst, arith, add-zero, zero-add, get_or}
 use Rattle.std.specs.Prelude.{slice_get}
-use Rattle.mesa_value.specs.declared.Agg.{Agg}
-use Rattle.mesa_value.specs.declared.Agg.TheVariants as agg
+use Rattle.mesa_schema.specs.mesa_value.declared.Agg.{Agg}
+use Rattle.mesa_schema.specs.mesa_value.declared.Agg.TheVariants as agg
 use Rattle.mesa_schema.specs.declared.columns.ValueColumn.{ValueColumn}
 use Rattle.mesa_schema.specs.Columns.{Columns, chosen, value_names}
-use Rattle.mesa_batch.specs.Totals.{is_sum, sum_places}
-use Rattle.mesa_model.specs.Load.{sum_name}
+use Rattle.mesa_batch.specs.Totals.{is_sum, sum_name, sum_places}
 
 -- a name before others, where its column is a sum
 abbrev pub named : Agg → List ℕ → List (List ℕ) → List (List ℕ)
