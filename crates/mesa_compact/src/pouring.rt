@@ -22,7 +22,7 @@ use crate::grouping::put_all;
 use mesa_answer::Groups;
 use mesa_batch::folds_totals;
 use mesa_delta::{DeltaWriter, FileError};
-use mesa_disk::{Damage, Draft, FileReader, Made, Seen};
+use mesa_disk::{Damage, Draft, FileReader, Made};
 use mesa_file::FileId;
 use mesa_merge::Merge;
 use mesa_open_files::CompactError;
@@ -83,10 +83,5 @@ pub(crate) fn pour<M: Made, T: Draft<M>, R: FileReader>(
 pub fn sum_fault(file: FileId) -> CompactError
     ensures { result ≡ damaged_by (sum_damage file) }
 {
-    CompactError::File(FileError::Damaged(Damage {
-        file,
-        place: 0,
-        want: Seen::Fits,
-        found: Seen::Misfit(0),
-    }))
+    CompactError::File(FileError::Damaged(Damage::misfit(file, 0)))
 }

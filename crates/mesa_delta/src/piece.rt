@@ -58,15 +58,3 @@ pub fn check_digest(file: FileId, place: u64, digest: &[u8; 32], bytes: &[u8]) -
 {
     check_found(file, place, digest, Sha256::digest(bytes))
 }
-
-/// Bytes of the right digest that aren't in the grammar.
-pub fn misfit(file: FileId, place: u64) -> Damage
-    ensures { result ≡ record { file = file; place = place; want = Seen.Fits; found = Seen.Misfit 0 } }
-{
-    Damage {
-        file,
-        place,
-        want: Seen::Fits,
-        found: Seen::Misfit(0),
-    }
-}

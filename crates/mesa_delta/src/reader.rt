@@ -23,7 +23,7 @@ ghost use Rattle.mesa_delta.specs.Tail.{first_key};
 
 use crate::ahead::Ahead;
 use crate::digesting::Message;
-use crate::piece::{check_digest, check_found, misfit, read_piece};
+use crate::piece::{check_digest, check_found, read_piece};
 use crate::run::Run;
 use crate::{FileError, Index, begins_before};
 use mesa_block::{Block, BlockError, fits_alone, grows_by_rows, read_block, reads_blocks};
@@ -109,7 +109,7 @@ fn read_index<R: FileReader>(
     }
     match Index::read(alloc, file, schema, bytes)? {
         Some(index) => Ok(index),
-        None => Err(FileError::Damaged(misfit(file.id, place))),
+        None => Err(FileError::Damaged(Damage::misfit(file.id, place))),
     }
 }
 
@@ -202,7 +202,7 @@ fn test<R: FileReader>(
     }
     match block_in(alloc, index.format(), index.schema(), &entry.short, bytes)? {
         Some(block) => Ok(block),
-        None => Err(FileError::Damaged(misfit(index.file(), entry.offset))),
+        None => Err(FileError::Damaged(Damage::misfit(index.file(), entry.offset))),
     }
 }
 
@@ -246,12 +246,12 @@ fn go_on(index: &Index, run: &Run, rows: &Block) -> Result<Run, FileError>
     grows_by_rows();
     let entry = index.entry(run.next);
     if !run.allows(index.format(), index.schema(), rows.row(0)) {
-        return Err(FileError::Damaged(misfit(index.file(), entry.offset)));
+        return Err(FileError::Damaged(Damage::misfit(index.file(), entry.offset)));
     }
     let after = run.after(rows, entry.len)?;
     if after.next == index.blocks() {
         if after.rows != index.rows() {
-            return Err(FileError::Damaged(misfit(index.file(), entry.offset)));
+            return Err(FileError::Damaged(Damage::misfit(index.file(), entry.offset)));
         }
     }
     Ok(after)

@@ -1,3 +1,6 @@
+ghost use Rattle.std.specs.Prelude.{◌≡◌};
+ghost use Rattle.mesa_file.specs.declared.damage.Seen.TheVariants as seen;
+
 use crate::FileId;
 
 /// A place in a file where what was recorded isn't what is there.
@@ -23,4 +26,18 @@ pub enum Seen {
     Fits,
     /// Bytes that leave the grammar at this place, counted from the start of what was read.
     Misfit(u64),
+}
+
+impl Damage {
+    /// Bytes at a place that leave the grammar, though they are the recorded ones.
+    pub fn misfit(file: FileId, place: u64) -> Self
+        ensures { result ≡ record { file = file; place = place; want = seen.Fits; found = seen.Misfit 0 } }
+    {
+        Damage {
+            file,
+            place,
+            want: Seen::Fits,
+            found: Seen::Misfit(0),
+        }
+    }
 }

@@ -8,7 +8,7 @@ ghost use Rattle.mesa_merge.specs.Inputs.{Known as AnyKnown, knowns_of};
 ghost use Rattle.mesa_merge.specs.Sums.{HasHead, IsNewest, sum_damage};
 
 use mesa_delta::{FileError, Input};
-use mesa_disk::{Damage, FileId, FileReader, Seen};
+use mesa_disk::{Damage, FileId, FileReader};
 use mesa_scan::Cursor;
 
 // Whether two keys are the same.
@@ -57,10 +57,5 @@ pub(crate) fn file_at<R: FileReader>(inputs: &[Input<R>], i: usize) -> FileId
 pub(crate) fn sum_fault(file: FileId) -> FileError
     ensures { result ≡ file_error.Damaged (sum_damage file) }
 {
-    FileError::Damaged(Damage {
-        file,
-        place: 0,
-        want: Seen::Fits,
-        found: Seen::Misfit(0),
-    })
+    FileError::Damaged(Damage::misfit(file, 0))
 }

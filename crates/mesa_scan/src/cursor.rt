@@ -45,12 +45,7 @@ fn fall(index: &Index, at: u32) -> Damage
     requires { at < length index.now.entries }
     ensures { result ≡ record { file = index.now.file; place = (entry_of index.now.entries at).offset; want = Seen.Fits; found = Seen.Misfit 0 } }
 {
-    Damage {
-        file: index.file(),
-        place: index.offset(at),
-        want: Seen::Fits,
-        found: Seen::Misfit(0),
-    }
+    Damage::misfit(index.file(), index.offset(at))
 }
 
 impl Cursor {

@@ -13,7 +13,7 @@ ghost use Rattle.mesa_view.specs.SumDamage.{IsSumDamage};
 
 use mesa_answer::{GroupError, Groups};
 use mesa_delta::FileError;
-use mesa_disk::{Damage, FileId, Seen};
+use mesa_disk::{Damage, FileId};
 use mesa_scan::MatchingRows;
 use mesa_schema::LentRow;
 
@@ -42,12 +42,7 @@ pub fn put_row(groups: &mut Groups, file: FileId, row: LentRow) -> Result<(), Fi
 pub fn sum_damage(file: FileId) -> Damage
     ensures { IsSumDamage file result }
 {
-    Damage {
-        file,
-        place: 0,
-        want: Seen::Fits,
-        found: Seen::Misfit(0),
-    }
+    Damage::misfit(file, 0)
 }
 
 // The rows of a file's block more, in their order.
