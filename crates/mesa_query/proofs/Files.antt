@@ -21,14 +21,14 @@ use Rattle.mesa_scan.specs.Moving.{moved_to, told_in}
 use Rattle.mesa_scan.proofs.Moving.{stays_input}
 use Rattle.mesa_scan.proofs.Onwards.{damaged_before}
 use Rattle.mesa_merge.specs.Faults.{HaveFaultCause, faults_of}
-use Rattle.mesa_merge.specs.Inputs.{IsTold, Known, known_of, knowns_of}
+use Rattle.mesa_merge.specs.Inputs.{IsTold, Known, known_of, knowns_of, tolds_of}
 use Rattle.mesa_merge.proofs.Causing.{cause_kept}
 use Rattle.mesa_merge.proofs.Inputs.{SameEnd, cause_at, faults_same, known_set}
 use Rattle.mesa_open_files.specs.declared.querying.PinnedInput.{PinnedInput}
 use Rattle.mesa_open_files.specs.Pins.{IsPinnedInput}
 use Rattle.mesa_view.specs.declared.error.GatherError.{GatherError}
 use Rattle.mesa_view.specs.declared.error.GatherError.TheVariants as gather
-use Rattle.mesa_query.specs.Files.{AreMoved, IsDamageIn, IsMoved, inputs_in, owns_in, tolds_of}
+use Rattle.mesa_query.specs.Files.{AreMoved, IsDamageIn, IsMoved, inputs_in, owns_in}
 use Rattle.mesa_query.specs.Relation.{rows_ungrouped}
 use Rattle.mesa_query.proofs.Owned.{pinned_after}
 

@@ -20,7 +20,7 @@ use Rattle.mesa_delta.specs.Indexed.{Indexed}
 use Rattle.mesa_delta.specs.Reading.{IsBlock, IsIndexed}
 use Rattle.mesa_delta.specs.Spread.{blocks_of}
 use Rattle.mesa_scan.proofs.Lifted.{block_forms, lifts_all}
-use Rattle.mesa_merge.specs.Inputs.{AreAlike, AreTold, IsTold, Known, lifted_in}
+use Rattle.mesa_merge.specs.Inputs.{AreAlike, AreTold, IsTold, Known, lifted_in, tolds_of}
 use Rattle.mesa_answer.specs.Gathered.{HasPut, wanted_of}
 use Rattle.mesa_answer.specs.Gathering.{Wanted}
 use Rattle.mesa_answer.specs.declared.groups.Groups.{Groups}
@@ -31,7 +31,6 @@ use Rattle.mesa_open_files.proofs.Retired.{all_append}
 use Rattle.mesa_query.specs.declared.decoding.Decoding.{Decoding}
 use Rattle.mesa_query.specs.declared.jobs.Job.{Job}
 use Rattle.mesa_query.specs.declared.pieces.Piece.{Piece}
-use Rattle.mesa_query.specs.Files.{tolds_of}
 use Rattle.mesa_query.specs.Jobs.{CanGroup, HasGrouped, IsJob, pieces_in}
 use Rattle.mesa_query.specs.Pieces.{AreDecodingsOf, IsDecodingOf, IsPieceOf, piece_of, rows_at, rows_in, rows_of_pieces}
 use Rattle.mesa_query.proofs.Decoded.{HasFile, file_of}

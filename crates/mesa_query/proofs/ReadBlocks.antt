@@ -9,14 +9,14 @@ use Rattle.mesa_filter.specs.Filter.{KeyFilter}
 use Rattle.mesa_delta.specs.Ahead.{AreAhead, IsOfFile, Told, Untested}
 use Rattle.mesa_delta.specs.Reading.{index_of}
 use Rattle.mesa_scan.specs.Cursors.{reader_in}
-use Rattle.mesa_merge.specs.Inputs.{Known, known_of, knowns_of}
+use Rattle.mesa_merge.specs.Inputs.{Known, known_of, knowns_of, tolds_of}
 use Rattle.mesa_answer.specs.Gathered.{HasPut, wanted_of}
 use Rattle.mesa_answer.specs.Gathering.{Wanted}
 use Rattle.mesa_answer.specs.declared.groups.Groups.{Groups}
 use Rattle.mesa_open_files.specs.declared.querying.PinnedInput.{PinnedInput}
 use Rattle.mesa_query.specs.declared.jobs.Job.{Job}
 use Rattle.mesa_query.specs.declared.pieces.Piece.{Piece}
-use Rattle.mesa_query.specs.Files.{AreMoved, inputs_in, tolds_of}
+use Rattle.mesa_query.specs.Files.{AreMoved, inputs_in}
 use Rattle.mesa_query.specs.Jobs.{AreRun, IsJob, pieces_in}
 use Rattle.mesa_query.specs.Pieces.{IsPieceOf, piece_of, rows_of_pieces}
 use Rattle.mesa_query.proofs.Decoded.{known_here}

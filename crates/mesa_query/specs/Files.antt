@@ -1,12 +1,10 @@
 -- The files of a pinned query, and what damage is told of them.
 use Rattle.std.specs.Prelude.{◌≡◌, ◌⊎◌, ℕ, List, [], ◌∷◌, map, Bool, Option, ⊤}
 use Rattle.mesa_file.specs.declared.damage.Damage.{Damage}
-use Rattle.mesa_delta.specs.Ahead.{Told}
 use Rattle.mesa_delta.specs.declared.input.Input.{Input}
 use Rattle.mesa_scan.specs.Cursors.{reader_in}
 use Rattle.mesa_scan.specs.Damaged.{IsDamaged}
 use Rattle.mesa_scan.specs.Moving.{moved_to}
-use Rattle.mesa_merge.specs.Inputs.{Known}
 use Rattle.mesa_open_files.specs.declared.querying.PinnedInput.{PinnedInput}
 
 -- the inputs that read them
@@ -16,10 +14,6 @@ inputs_in files = map (λ file. file.input) files
 -- which of them are the relation's own
 abbrev pub owns_in : {R : Type 0} → List (PinnedInput R) → List Bool
 owns_in files = map (λ file. file.own) files
-
--- what is known of the files that are read
-abbrev pub tolds_of : List Known → List Told
-tolds_of knowns = map (λ (k : Known). record { index = k.file; content = k.told }) knowns
 
 -- A file is as it was but for what it reads from: blocks of it may have been read ahead, and none of them was taken.
 pub record IsMoved {R : Type 0} (bytes : R → Option (List ℕ)) (size_of : R → ℕ) (old new : PinnedInput R) : Type 0 where

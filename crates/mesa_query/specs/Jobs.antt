@@ -5,13 +5,12 @@ use Rattle.mesa_schema.specs.declared.rows.Row.{Row}
 use Rattle.mesa_schema.specs.Columns.{kinds_of}
 use Rattle.mesa_filter.specs.Filter.{KeyFilter}
 use Rattle.mesa_delta.specs.Ahead.{AreAhead}
-use Rattle.mesa_merge.specs.Inputs.{AreAlike, AreTold, Known}
+use Rattle.mesa_merge.specs.Inputs.{AreAlike, AreTold, Known, tolds_of}
 use Rattle.mesa_answer.specs.Gathered.{HasPut, wanted_of}
 use Rattle.mesa_answer.specs.Gathering.{Wanted}
 use Rattle.mesa_query.specs.declared.decoding.Decoding.{Decoding}
 use Rattle.mesa_query.specs.declared.jobs.Job.{Job}
 use Rattle.mesa_query.specs.declared.pieces.Piece.{Piece}
-use Rattle.mesa_query.specs.Files.{tolds_of}
 use Rattle.mesa_query.specs.Pieces.{AreDecodingsOf, IsPieceOf, piece_of, rows_of_pieces}
 
 -- a job's blocks

@@ -6,11 +6,10 @@ ghost use Rattle.mesa_schema.specs.Columns.{kinds_of};
 ghost use Rattle.mesa_schema.specs.Rows.{AreRowsOf};
 ghost use Rattle.mesa_filter.specs.Filter.{KeyFilter};
 ghost use Rattle.mesa_delta.specs.Ahead.{AreAhead};
-ghost use Rattle.mesa_merge.specs.Inputs.{AreAlike, AreTold, Known as AnyKnown};
+ghost use Rattle.mesa_merge.specs.Inputs.{AreAlike, AreTold, Known as AnyKnown, tolds_of};
 ghost use Rattle.mesa_answer.specs.Gathered.{HasPut, wanted_of};
 ghost use Rattle.mesa_answer.specs.Gathering.{Wanted};
 ghost use Rattle.mesa_scan.specs.MatchingRows.{matching_rows};
-ghost use Rattle.mesa_query.specs.Files.{tolds_of};
 ghost use Rattle.mesa_query.specs.Jobs.{CanGroup, HasGrouped, IsJob, pieces_in};
 ghost use Rattle.mesa_query.specs.Pieces.{AreDecodingsOf, IsPieceOf, piece_of, rows_of_pieces};
 

@@ -13,11 +13,11 @@ ghost use Rattle.mesa_scan.specs.Cursors.{IsSameInput, reader_in};
 ghost use Rattle.mesa_scan.specs.Damaged.{IsDamaged};
 ghost use Rattle.mesa_scan.specs.Moving.{told_in};
 ghost use Rattle.mesa_merge.specs.Faults.{HaveFaultCause, faults_of};
-ghost use Rattle.mesa_merge.specs.Inputs.{IsTold, known_of, knowns_of};
+ghost use Rattle.mesa_merge.specs.Inputs.{IsTold, known_of, knowns_of, tolds_of};
 ghost use Rattle.mesa_answer.specs.Gathered.{key_at_hand, wanted_of};
 ghost use Rattle.mesa_answer.specs.Sums.{HasGroup};
 ghost use Rattle.mesa_open_files.specs.Pins.{IsPinnedInput};
-ghost use Rattle.mesa_query.specs.Files.{IsDamageIn, inputs_in, owns_in, tolds_of};
+ghost use Rattle.mesa_query.specs.Files.{IsDamageIn, inputs_in, owns_in};
 ghost use Rattle.mesa_query.specs.Sums.{IsNewestFrom, rows_matching};
 
 use crate::gathering::gather_one;

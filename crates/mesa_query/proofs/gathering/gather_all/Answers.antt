@@ -10,7 +10,7 @@ use Rattle.mesa_filter.specs.Query.{are_places}
 use Rattle.mesa_delta.specs.Ahead.{AreAhead}
 use Rattle.mesa_delta.specs.Indexed.{Indexed}
 use Rattle.mesa_merge.specs.Faults.{faults_of}
-use Rattle.mesa_merge.specs.Inputs.{IsTold, Known, known_of, knowns_of}
+use Rattle.mesa_merge.specs.Inputs.{IsTold, Known, known_of, knowns_of, tolds_of}
 use Rattle.mesa_merge.proofs.Causing.{cause_on, cause_quiet}
 use Rattle.mesa_answer.specs.Answering.{KeepsSums}
 use Rattle.mesa_answer.specs.Gathered.{key_at_hand, wanted_of}
@@ -18,7 +18,7 @@ use Rattle.mesa_answer.specs.Gathering.{Wanted}
 use Rattle.mesa_answer.specs.Sums.{SumLeavesAmong}
 use Rattle.mesa_view.specs.declared.error.GatherError.TheVariants as gather
 use Rattle.mesa_open_files.specs.Pins.{IsPinnedInput}
-use Rattle.mesa_query.specs.Files.{IsDamageIn, inputs_in, tolds_of}
+use Rattle.mesa_query.specs.Files.{IsDamageIn, inputs_in}
 use Rattle.mesa_query.specs.Relation.{rows_ungrouped}
 use Rattle.mesa_query.specs.Sums.{IsNewestFrom, rows_matching}
 use Rattle.mesa_query.proofs.Contents.{all_matching, given_bounded, given_more, none_matching, told_count, told_here}

@@ -8,7 +8,7 @@ use Rattle.mesa_filter.proofs.PlacesAsked.{slot_there}
 use Rattle.mesa_delta.specs.Ahead.{AreAhead, Untested}
 use Rattle.mesa_answer.specs.Gathered.{HasPut, wanted_of}
 use Rattle.mesa_answer.specs.Gathering.{Wanted}
-use Rattle.mesa_query.specs.Files.{tolds_of}
+use Rattle.mesa_merge.specs.Inputs.{tolds_of}
 use Rattle.mesa_query.proofs.JobSteps.{HasPutSome, lifted_good, put_all, put_more, put_none, taken_within}
 use Rattle.mesa_query.proofs.jobs.put_waiting.Goals as goal
 
