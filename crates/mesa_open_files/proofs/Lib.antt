@@ -3,4 +3,5 @@ pub mod Counts
 pub mod Retired
 pub mod Openings
 mod Drafts
+pub mod RowSums
 pub mod Spares
