@@ -1,7 +1,7 @@
 // What names, schemas, views and batches take and refuse, and digests of rows.
 mod batches;
 mod changes;
-mod columns;
+pub mod columns;
 mod digests;
 mod schemas;
 mod views;

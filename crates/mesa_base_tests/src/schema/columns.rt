@@ -1,4 +1,8 @@
 // Names and columns from words.
+ghost use Rattle.std.specs.Prelude.{◌≡◌, [], ◌∷◌, map};
+ghost use Rattle.mesa_key.specs.declared.KeyType.TheVariants as types;
+ghost use Rattle.mesa_schema.specs.declared.columns.KeyColumn.{KeyColumn as Column};
+
 use mesa_key::KeyType;
 use mesa_schema::{KeyColumn, Name, ValueColumn};
 use mesa_value::Agg;
@@ -47,4 +51,32 @@ pub fn values(rt: &impl Abort, alloc: Global, text: &str) -> Vec<ValueColumn> {
         columns.push(value(name)).expect(rt, "memory");
     }
     columns
+}
+
+/// The key columns `k int` and, of another name, a text.
+pub fn key_columns(rt: &impl Abort, alloc: Global, text: &[u8]) -> Vec<KeyColumn>
+    ensures { map (λ (c : Column). c.kind) result.items ≡ types.Int ∷ types.Text ∷ [] }
+{
+    let number = KeyColumn {
+        name: name(rt, alloc, b"k"),
+        kind: KeyType::Int,
+    };
+    let text = KeyColumn {
+        name: name(rt, alloc, text),
+        kind: KeyType::Text,
+    };
+    vec![in alloc; number, text].expect(rt, "memory")
+}
+
+/// The value columns `v sum` and `r replace`.
+pub fn value_columns(rt: &impl Abort, alloc: Global) -> Vec<ValueColumn> {
+    let sum = ValueColumn {
+        name: name(rt, alloc, b"v"),
+        agg: Agg::Sum,
+    };
+    let replace = ValueColumn {
+        name: name(rt, alloc, b"r"),
+        agg: Agg::Replace,
+    };
+    vec![in alloc; sum, replace].expect(rt, "memory")
 }

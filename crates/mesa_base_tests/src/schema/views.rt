@@ -2,43 +2,17 @@
 ghost use Rattle.std.specs.Prelude.{◌≡◌, []};
 
 use crate::expected::expect_same;
-use crate::schema::columns::{name, names};
-use mesa_key::KeyType;
+use crate::schema::columns::{key_columns, name, names, value_columns};
 use mesa_list::TryCopy;
-use mesa_schema::{Change, Evolving, KeyColumn, Name, Schema, ValueColumn, ViewError};
-use mesa_value::Agg;
+use mesa_schema::{Change, Evolving, Name, Schema, ViewError};
 use std::alloc::Global;
 use std::process::Abort;
-
-fn key_columns(rt: &impl Abort, alloc: Global) -> Vec<KeyColumn> {
-    let number = KeyColumn {
-        name: name(rt, alloc, b"k"),
-        kind: KeyType::Int,
-    };
-    let text = KeyColumn {
-        name: name(rt, alloc, b"c"),
-        kind: KeyType::Text,
-    };
-    vec![in alloc; number, text].expect(rt, "memory")
-}
-
-fn value_columns(rt: &impl Abort, alloc: Global) -> Vec<ValueColumn> {
-    let sum = ValueColumn {
-        name: name(rt, alloc, b"v"),
-        agg: Agg::Sum,
-    };
-    let replace = ValueColumn {
-        name: name(rt, alloc, b"r"),
-        agg: Agg::Replace,
-    };
-    vec![in alloc; sum, replace].expect(rt, "memory")
-}
 
 /// The table `k int;c text,v sum;r replace`.
 pub fn table(rt: &impl Abort, alloc: Global) -> Evolving
     ensures { result.views ≡ [] }
 {
-    let keys = key_columns(rt, alloc);
+    let keys = key_columns(rt, alloc, b"c");
     let values = value_columns(rt, alloc);
     let schema = Schema::build(keys, values).ok();
     Evolving::new(alloc, schema.expect(rt, "a schema"))
