@@ -1,5 +1,5 @@
 // Refusals on a line.
-ghost use Rattle.std.specs.Prelude.{◌≡◌, ◌+◌, ◌≤◌, ◌++◌, MatchOption, codes, decimal};
+ghost use Rattle.std.specs.Prelude.{◌≡◌, ◌+◌, ◌≤◌, ◌++◌, MatchOption, codes, decimal, length};
 ghost use Rattle.std.specs.Int.{w64, to_be_bytes};
 ghost use Rattle.mesa_filter.specs.Hex.{hex_of};
 ghost use Rattle.mesa_script.specs.Replies.{damage_text, refusal_text, seen_text};
@@ -131,6 +131,16 @@ impl Line<'_> {
         }
     }
 
+    // Puts that a limit is reached.
+    fn put_limit(&mut self, word: &[u8], limit: u32)
+        requires { self.old.len + length word.now + 27 ≤ 512 }
+        ensures puts { Puts self.old self.new (word.now ++ codes " limit=" ++ decimal limit) }
+        ensures short { self.new.len ≤ self.old.len + length word.now + 27 }
+    {
+        self.put(word);
+        self.put_labelled(b" limit=", limit as u64);
+    }
+
     /// Puts a refusal.
     pub(crate) fn put_refusal(&mut self, refusal: &Refusal)
         requires { self.old.len + 211 ≤ 512 }
@@ -163,26 +173,18 @@ impl Line<'_> {
             Refusal::BadFilter { term } => self.put_labelled(b"bad_filter term=", *term as u64),
             Refusal::BadResume => self.put(b"bad_resume"),
             Refusal::NoPin { token } => self.put_labelled(b"no_pin token=", *token as u64),
-            Refusal::PinsFull { limit } => self.put_labelled(b"pins_full limit=", *limit as u64),
-            Refusal::TablesFull { limit } => {
-                self.put_labelled(b"tables_full limit=", *limit as u64);
-            }
-            Refusal::VersionsFull { limit } => {
-                self.put_labelled(b"versions_full limit=", *limit as u64);
-            }
+            Refusal::PinsFull { limit } => self.put_limit(b"pins_full", *limit),
+            Refusal::TablesFull { limit } => self.put_limit(b"tables_full", *limit),
+            Refusal::VersionsFull { limit } => self.put_limit(b"versions_full", *limit),
             Refusal::ReadFault => self.put(b"read_fault"),
             Refusal::WriteFault => self.put(b"write_fault"),
             Refusal::Closed { position } => self.put_labelled(b"closed position=", *position),
             Refusal::Damaged(damage) => self.put_damage(damage),
             Refusal::Lost { lease, holder } => self.put_lost(*lease, *holder),
             Refusal::Memory => self.put(b"memory"),
-            Refusal::EpochsFull { limit } => {
-                self.put_labelled(b"epochs_full limit=", *limit as u64);
-            }
+            Refusal::EpochsFull { limit } => self.put_limit(b"epochs_full", *limit),
             Refusal::Changed { epoch } => self.put_labelled(b"changed epoch=", *epoch as u64),
-            Refusal::TooManyDeltas { limit } => {
-                self.put_labelled(b"too_many_deltas limit=", *limit as u64);
-            }
+            Refusal::TooManyDeltas { limit } => self.put_limit(b"too_many_deltas", *limit),
         }
     }
 }

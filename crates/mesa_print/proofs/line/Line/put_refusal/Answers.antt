@@ -21,7 +21,7 @@ pub returns-in-NoPin-clause-puts : goal.returns-in-NoPin-clause-puts
 returns-in-NoPin-clause-puts c = rw c.in-NoPin.is c.put_labelled-in-NoPin.ensures.puts
 
 pub returns-in-VersionsFull-clause-puts : goal.returns-in-VersionsFull-clause-puts
-returns-in-VersionsFull-clause-puts c = rw c.in-VersionsFull.is c.put_labelled-in-VersionsFull.ensures.puts
+returns-in-VersionsFull-clause-puts c = rw c.in-VersionsFull.is c.put_limit-in-VersionsFull.ensures.puts
 
 pub returns-in-Closed-clause-puts : goal.returns-in-Closed-clause-puts
 returns-in-Closed-clause-puts c = rw c.in-Closed.is c.put_labelled-in-Closed.ensures.puts
