@@ -3,9 +3,7 @@ use Rattle.std.proofs.Common.{◌≡◌, ℕ, zero, suc, ◌+◌, ◌<◌, ◌�
 use Rattle.std.specs.Prelude.{flat_map, slice_get, slice_index_or, IfOk, None, Some, Result, Ok, Err}
 use Rattle.std.specs.List.{AllByRecursion, list_all}
 use Rattle.std.proofs.lemmas.List.{take_all, take_more}
-use Rattle.mesa_disk.specs.Story.{Story, Unmoved}
 use Rattle.mesa_schema.proofs.Lists.{all_append}
-use Rattle.mesa_open_files.specs.Opening.{Counted, one_if}
 use Rattle.mesa_catalog_table.proofs.Pushes.{pushed_more}
 
 -- one more
@@ -81,28 +79,6 @@ flat_none f xs n x h is none e = sym (flat_more f xs n x h is) ∙ (λ k. none k
 
 pub flat_end : {X Y : Type 0} (f : X → List Y) (xs : List X) (n : ℕ) → length xs ≤ n → flat_map f (take n xs) ≡ [] → flat_map f xs ≡ []
 flat_end f xs n h none = ap (flat_map f) (sym (take_all n xs h)) ∙ none
-
--- ---- calls that move no image, one after another
-
-pub unmoved_more : (a b d : Story) → Unmoved a b → Unmoved b d → Unmoved a d
-unmoved_more a b d one two = record {
-  told = two.told ∙ one.told;
-  len = λ x. two.len x ∙ one.len x;
-  moment = two.moment ∙ one.moment;
-  may_leave = λ c. (λ x. (one.may_leave c).0 ((two.may_leave c).0 x), λ x. (two.may_leave c).1 ((one.may_leave c).1 x));
-  may_have_left = λ t c. (λ x. (one.may_have_left t c).0 ((two.may_have_left t c).0 x), λ x. (two.may_have_left t c).1 ((one.may_have_left t c).1 x));
-}
-
--- and a call without a fault before one with or without
-pub counted_more : (a b d : Story) (x : Bool) → Counted a b false → Counted b d x → Counted a d x
-counted_more a b d x one two =
-    let none = one.quiet refl in
-    record {
-      faults = omega (arith, one.faults, two.faults);
-      read_faults = omega (arith, one.read_faults, two.read_faults);
-      both = λ low lower. (let g : b.faults + b.read_faults + one_if x ≤ d.faults + d.read_faults = two.both low lower in omega (arith, g, none.0, none.1));
-      quiet = λ so. ((two.quiet so).0 ∙ none.0, (two.quiet so).1 ∙ none.1);
-    }
 
 -- an element by its place, whatever stands for one that isn't there
 pub got_same : {X : Type 0} (xs : List X) (n : ℕ) (d : X) → n < length xs → slice_index_or xs n d ≡ get_or xs n (slice_index_or xs n d)

@@ -1,19 +1,18 @@
 -- Files that were opened, for a relation.
-use Rattle.std.proofs.Common.{◌≡◌, ℕ, suc, ◌+◌, ◌<◌, ◌≤◌, arith, List, [], ◌∷◌, length, map, get_or, refl, sym, ap, ◌∙◌, Bool, true, false, Option, Some, None, Result, Ok, Err, replicate}
+use Rattle.std.proofs.Common.{◌≡◌, ℕ, suc, ◌<◌, List, [], ◌∷◌, length, map, get_or, refl, sym, ap, ◌∙◌, Bool, true, Option, Some, None, Result, Ok, Err, replicate}
 use Rattle.std.specs.Prelude.{IfOk, IfSome, flat_map, slice_get}
 use Rattle.std.specs.List.{AllByRecursion}
 use Rattle.std.proofs.lemmas.Option.{slice_get-get_or}
 use Rattle.mesa_query.specs.mesa_scan.Cursors.{reader_in}
 use Rattle.mesa_delta.specs.declared.input.Input.{Input}
 use Rattle.mesa_disk.specs.Image.{Image}
-use Rattle.mesa_disk.specs.Story.{Story}
 use Rattle.mesa_file.specs.declared.damage.Damage.{Damage}
 use Rattle.mesa_validate.specs.mesa_store_spec.Catalog.{Delta}
 use Rattle.mesa_schema.specs.Changes.{Lineage}
 use Rattle.mesa_schema.specs.declared.views.View.{View}
 use Rattle.mesa_pick_files.specs.Read.{own_file, view_read}
 use Rattle.mesa_pick_files.specs.Files.{Want, own_in, own_lineage, view_wanted}
-use Rattle.mesa_open_files.specs.Opening.{Counted, HaveOpened, one_if}
+use Rattle.mesa_open_files.specs.Opening.{HaveOpened}
 use Rattle.mesa_open_files.specs.declared.opening.Wanted.{Wanted}
 
 module _ {R : Type 0} (bytes : R → Option (List ℕ)) (faults : R → ℕ) (told : Option Image) where
@@ -47,18 +46,3 @@ view_as l own number ds within is = by (slice_get l.views number) refl is
     by : (o : Option View) → slice_get l.views number ≡ o → IfSome o (λ v. own ≡ own_lineage l v) → flat_map (view_wanted l own number) ds ≡ view_read l number ds o
     by None there same = let never : None ≡ Some (get_or l.views number (record { name = []; keys = []; values = [] })) = sym there ∙ slice_get-get_or l.views number (record { name = []; keys = []; values = [] }) within in absurd cc
     by (Some v) there same = ap (λ (x : Lineage). flat_map (view_wanted l x number) ds) same
-
--- ---- counts of faults
-
--- nothing is counted where nothing is called
-pub counted_none : (s : Story) → Counted s s false
-counted_none s = record { faults = omega arith; read_faults = omega arith; both = λ a b. omega arith; quiet = λ no. (refl, refl) }
-
--- readers that have not failed are given back
-pub counted_back : (a b d : Story) (x : Bool) → Counted a b x → d.faults ≡ b.faults → d.read_faults ≡ b.read_faults → Counted a d x
-counted_back a b d x one same none = record {
-  faults = omega (arith, one.faults, same);
-  read_faults = omega (arith, one.read_faults, none);
-  both = λ low lower. (let g : a.faults + a.read_faults + one_if x ≤ b.faults + b.read_faults = one.both (omega (arith, low, same)) (omega (arith, lower, none)) in omega (arith, g, same, none));
-  quiet = λ no. (same ∙ (one.quiet no).0, none ∙ (one.quiet no).1);
-}

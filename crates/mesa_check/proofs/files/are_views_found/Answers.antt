@@ -7,7 +7,8 @@ use Rattle.mesa_record.specs.declared.record.ViewRef.{ViewRef}
 use Rattle.mesa_check.specs.Found.{IsFoundAs}
 use Rattle.mesa_check.specs.Faults.{is_view_found}
 use Rattle.mesa_check.specs.Tested.{HasRows}
-use Rattle.mesa_check.proofs.Lists.{all_item, all_more, all_more_pass, counted_more, one_fails, taken_more, unmoved_more}
+use Rattle.mesa_open_files.proofs.Counts.{counted_more, unmoved_more}
+use Rattle.mesa_check.proofs.Lists.{all_item, all_more, all_more_pass, one_fails, taken_more}
 use Rattle.mesa_check.proofs.files.are_views_found.Goals as goal
 
 pub returns-then-not-branch-clause-found : goal.returns-then-not-branch-clause-found

@@ -3,7 +3,8 @@ use Rattle.std.specs.List.{AllByRecursion}
 use Rattle.std.proofs.lemmas.List.{map_push}
 use Rattle.mesa_schema.proofs.Lists.{all_append}
 use Rattle.mesa_check.specs.Tested.{IsTestOf, range_of}
-use Rattle.mesa_check.proofs.Lists.{counted_more, taken_more, unmoved_more}
+use Rattle.mesa_open_files.proofs.Counts.{counted_more, unmoved_more}
+use Rattle.mesa_check.proofs.Lists.{taken_more}
 use Rattle.mesa_check.proofs.testing.test_ranges.Goals as goal
 
 pub each-preserved : goal.each-preserved

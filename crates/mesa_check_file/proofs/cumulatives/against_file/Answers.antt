@@ -8,7 +8,8 @@ use Rattle.mesa_merge.specs.Inputs.{knowns_of, lifted_parts}
 use Rattle.mesa_merge.specs.Merged.{HasMerged, inputs_of}
 use Rattle.mesa_check_file.specs.Difference.{first_difference}
 use Rattle.mesa_view.proofs.mesa_answer.Results.{if_ok}
-use Rattle.mesa_check_file.proofs.GivenBack.{counted_more, counted_then, same_fresh, unmoved_more}
+use Rattle.mesa_open_files.proofs.Counts.{counted_more, counted_then, unmoved_more}
+use Rattle.mesa_check_file.proofs.GivenBack.{same_fresh}
 use Rattle.mesa_check_file.proofs.Openings.{not_damaged, one_told, rows_same}
 use Rattle.mesa_check_file.proofs.cumulatives.against_file.Goals as goal
 

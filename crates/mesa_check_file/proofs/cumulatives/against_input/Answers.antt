@@ -1,6 +1,7 @@
 use Rattle.std.proofs.Common.{◌∷◌, refl}
 use Rattle.mesa_merge.specs.Merged.{inputs_of}
-use Rattle.mesa_check_file.proofs.GivenBack.{answered, counted_by, one_after, same_given, unmoved_more}
+use Rattle.mesa_open_files.proofs.Counts.{unmoved_more}
+use Rattle.mesa_check_file.proofs.GivenBack.{answered, counted_by, one_after, same_given}
 use Rattle.mesa_check_file.proofs.cumulatives.against_input.Goals as goal
 
 pub returns-clause-difference : goal.returns-clause-difference

@@ -9,7 +9,7 @@ use Rattle.mesa_merge.specs.Inputs.{knowns_of, lifted_parts}
 use Rattle.mesa_check_file.specs.Difference.{first_difference}
 use Rattle.mesa_view.proofs.mesa_answer.Results.{if_ok}
 use Rattle.mesa_check_file.specs.Compared.{present_if_any, present_parts}
-use Rattle.mesa_check_file.proofs.GivenBack.{counted_more, counted_then, unmoved_more}
+use Rattle.mesa_open_files.proofs.Counts.{counted_more, counted_then, unmoved_more}
 use Rattle.mesa_check_file.proofs.Openings.{all_told, none_damaged, opened_alike, opened_fresh, opened_inputs, parts_same}
 use Rattle.mesa_check_file.proofs.cumulatives.cumulative_difference.Goals as goal
 

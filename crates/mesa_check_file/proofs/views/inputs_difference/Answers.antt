@@ -1,5 +1,6 @@
 use Rattle.std.proofs.Common.{◌∷◌, [], refl}
-use Rattle.mesa_check_file.proofs.GivenBack.{answered, counted_by, one_after, unmoved_more}
+use Rattle.mesa_open_files.proofs.Counts.{unmoved_more}
+use Rattle.mesa_check_file.proofs.GivenBack.{answered, counted_by, one_after}
 use Rattle.mesa_check_file.proofs.views.inputs_difference.Goals as goal
 
 pub returns-clause-difference : goal.returns-clause-difference

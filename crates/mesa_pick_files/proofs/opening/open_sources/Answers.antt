@@ -5,7 +5,8 @@ use Rattle.mesa_open_files.specs.declared.opening.Wanted.{Wanted}
 use Rattle.mesa_pick_files.proofs.Joined.{opened_differs}
 use Rattle.mesa_pick_files.specs.Files.{want_of}
 use Rattle.mesa_pick_files.specs.Read.{SomeUnsound}
-use Rattle.mesa_pick_files.proofs.Opened.{counted_back, opened_fresh, opened_many}
+use Rattle.mesa_open_files.proofs.Counts.{counted_then}
+use Rattle.mesa_pick_files.proofs.Opened.{opened_fresh, opened_many}
 use Rattle.mesa_pick_files.proofs.Unsound.{opened_unsound}
 use Rattle.mesa_pick_files.proofs.opening.open_sources.Goals as goal
 
@@ -17,7 +18,7 @@ join-requires-clause-same g c =
 
 pub returns-in-Some-clause-counted : goal.returns-in-Some-clause-counted
 returns-in-Some-clause-counted g c =
-    counted_back (g.D.Disk.story c.args.disk.now) (g.D.Disk.story c.open_all.new.disk) (g.D.Disk.story c.retire_all.new.disk) false c.in-Ok-open_all.ensures.counted c.retire_all.ensures.given.calls
+    counted_then (g.D.Disk.story c.args.disk.now) (g.D.Disk.story c.open_all.new.disk) (g.D.Disk.story c.retire_all.new.disk) false c.in-Ok-open_all.ensures.counted c.retire_all.ensures.given.calls
     (c.retire_all.ensures.given.quiet (opened_fresh g.D.Reader.FileReader.bytes g.D.Reader.FileReader.faults (g.D.Disk.story c.args.disk.now).told c.deref.result.now c.in-Ok-open_all.field-0.inputs.items c.in-Ok-open_all.field-0.damage c.in-Ok-open_all.ensures.opened))
 
 pub returns-in-Some-clause-damage : goal.returns-in-Some-clause-damage
