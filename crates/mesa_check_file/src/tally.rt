@@ -9,6 +9,7 @@ ghost use Rattle.mesa_check_file.specs.Tallies.{AreEnds, Tallies};
 
 use crate::aggregate::Aggregate;
 use crate::totals::{add_absolutes, no_totals};
+use mesa_list::put_bytes;
 use mesa_schema::{Lift, Row, Schema, ValueColumn};
 use mesa_value::Amount;
 use std::alloc::{AllocError, Global};
@@ -115,15 +116,6 @@ impl Ends {
         self.rows = rows;
         Ok(())
     }
-}
-
-// These bytes and no others.
-fn put_bytes(out: &mut Vec<u8>, bytes: &[u8]) -> Result<(), AllocError>
-    ensures { OnOk result (out.new.items ≡ bytes.now) }
-{
-    out.clear();
-    out.extend_from_slice(bytes)?;
-    Ok(())
 }
 
 // The aggregates of one row.

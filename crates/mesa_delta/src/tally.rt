@@ -7,6 +7,7 @@ ghost use Rattle.mesa_delta.specs.Summary.{AllCombine, aggregates, all_noted, no
 ghost use Rattle.mesa_delta.specs.Totals.{added};
 ghost use Rattle.mesa_delta.specs.Tallies.{Tallies};
 
+use mesa_list::put_bytes;
 use mesa_schema::{LentRow, Schema, ValueColumn};
 use mesa_value::{Agg, Amount, combine, combines};
 use std::alloc::{AllocError, Global};
@@ -87,15 +88,6 @@ impl Tally {
         self.rows = rows;
         Ok(())
     }
-}
-
-// These bytes and no others.
-fn put_bytes(out: &mut Vec<u8>, bytes: &[u8]) -> Result<(), AllocError>
-    ensures { OnOk result (out.new.items ≡ bytes.now) }
-{
-    out.clear();
-    out.extend_from_slice(bytes)?;
-    Ok(())
 }
 
 // A column's aggregate of one value.
