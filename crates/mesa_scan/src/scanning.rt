@@ -104,10 +104,7 @@ impl<'a> Scan<'a> {
             self.next += 1;
             return Ok(MatchingRows::none(self.alloc));
         }
-        let block = match input.reader.block(self.next) {
-            Ok(block) => block,
-            Err(error) => return Err(error),
-        };
+        let block = input.reader.block(self.next)?;
         let rows = matching_in(self.alloc, self.filter, block.lifted(&self.lift)?)?;
         self.blocks_read += 1;
         self.next += 1;
@@ -154,10 +151,7 @@ impl<'a> Scan<'a> {
             return Ok(MatchingRows::none(self.alloc));
         }
         self.fill(input, place, ahead)?;
-        let block = match input.reader.take_block(self.next, place, ahead) {
-            Ok(block) => block,
-            Err(error) => return Err(error),
-        };
+        let block = input.reader.take_block(self.next, place, ahead)?;
         let rows = matching_in(self.alloc, self.filter, block.lifted(&self.lift)?)?;
         self.blocks_read += 1;
         self.next += 1;
