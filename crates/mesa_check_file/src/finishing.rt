@@ -65,10 +65,7 @@ pub(crate) fn finish_merge<R: FileReader>(
         return Ok(());
     }
     'rows: for _ in 0..u64::MAX {
-        let more = match merge.next() {
-            Ok(more) => more,
-            Err(error) => return Err(error),
-        };
+        let more = merge.next()?;
         if !more {
             return Ok(());
         }
@@ -96,10 +93,7 @@ pub(crate) fn finish_input<R: FileReader>(
     }
     let mut row = Row::empty(alloc);
     'rows: for _ in 0..u64::MAX {
-        let more = match next_row(cursor, input, &mut row) {
-            Ok(more) => more,
-            Err(error) => return Err(error),
-        };
+        let more = next_row(cursor, input, &mut row)?;
         if !more {
             return Ok(());
         }
