@@ -77,10 +77,7 @@ pub(crate) fn wait_from<R: FileReader>(
     if !ahead.is_empty() || cursors[from].next_block(&inputs[from]).is_none() {
         return Ok(());
     }
-    match read_first(inputs, cursors, from, ahead) {
-        Ok(()) => {}
-        Err(error) => return Err(error),
-    }
+    read_first(inputs, cursors, from, ahead)?;
     ahead.digest();
     Ok(())
 }

@@ -41,10 +41,7 @@ pub(crate) fn hold_files<M: Made, D: DeltaDisk<M>>(
     ensures unsound { IfErr result (λ failure. tells_damage failure ≡ true → HasUnsoundFile (D.story disk.old).told metadata.old.state session words.now) }
     ensures kept { OnErr result (metadata.new ≡ metadata.old) }
 {
-    let pinned = match files_asked(alloc, disk, metadata, session, words, at) {
-        Ok(pinned) => pinned,
-        Err(failure) => return Err(failure),
-    };
+    let pinned = files_asked(alloc, disk, metadata, session, words, at)?;
     match hold(metadata, session, words.version, at) {
         Ok(()) => Ok(pinned),
         Err(_) => {

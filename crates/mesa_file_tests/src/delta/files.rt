@@ -138,10 +138,7 @@ fn count_blocks(reader: &mut DeltaReader<MemReader>) -> Result<usize, FileError>
     let mut rows: usize = 0;
     for i in 0..4 {
         if i < reader.blocks() {
-            match reader.block(i) {
-                Ok(block) => rows = rows.saturating_add(block.len()),
-                Err(error) => return Err(error),
-            }
+            rows = rows.saturating_add(reader.block(i)?.len());
         }
     }
     Ok(rows)
