@@ -1,6 +1,5 @@
 -- Groups that are joined.
 use Rattle.std.proofs.Common.{◌≡◌, ◌<◌, ◌≤◌, ◌+◌, ℕ, zero, suc, List, [], ◌∷◌, ◌++◌, get_or, length, map, take, refl, sym, ◌∙◌, ap, arith, Bool, Option, Some, None}
-use Rattle.std.specs.Prelude.{filter}
 use Rattle.std.proofs.lemmas.List.{map-append, take_all}
 use Rattle.std.proofs.lemmas.List.Elements.{filter-append}
 use Rattle.mesa_value.specs.declared.Agg.{Agg}
@@ -11,7 +10,7 @@ use Rattle.mesa_schema.specs.Folded.{folded, regrouped}
 use Rattle.mesa_schema.specs.Laws.{AreFull}
 use Rattle.mesa_schema.specs.Put.{put_row, put_rows}
 use Rattle.mesa_batch.proofs.Sums.{AreFull-put_row}
-use Rattle.mesa_answer.specs.Gathering.{JoinsFirst, Wanted, first_groups, rows_behind}
+use Rattle.mesa_answer.specs.Gathering.{JoinsFirst, first_groups, rows_behind}
 use Rattle.mesa_answer.specs.Held.{is_behind}
 use Rattle.mesa_answer.proofs.Firsts.{take-put_row}
 use Rattle.mesa_answer.proofs.Joining.{firsts_joined, puts_append}

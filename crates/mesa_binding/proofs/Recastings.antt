@@ -1,5 +1,5 @@
 -- Tables that are recast.
-use Rattle.std.proofs.Common.{◌≡◌, ℕ, List, Bool, true, false, Option, Some, None, Result, Ok, Err, refl, ◌∙◌, ap}
+use Rattle.std.proofs.Common.{◌≡◌, ℕ, Option, Some, None, Result, Ok, Err, refl, ◌∙◌, ap}
 use Rattle.std.specs.Prelude.{◌≢◌}
 use Rattle.std.specs.List.{list_all}
 use Rattle.std.specs.Option.{ok_or}
@@ -9,9 +9,9 @@ use Rattle.mesa_schema.specs.declared.recasts.RecastError.TheVariants as recast
 use Rattle.mesa_schema.specs.declared.views.ViewError.{ViewError}
 use Rattle.mesa_schema.specs.declared.views.ViewError.TheVariants as view
 use Rattle.mesa_schema.specs.Changes.{Lineage, columns_of}
-use Rattle.mesa_schema.specs.Columns.{Columns, key_names, value_names}
+use Rattle.mesa_schema.specs.Columns.{key_names, value_names}
 use Rattle.mesa_schema.specs.Names.{has_name}
-use Rattle.mesa_schema.specs.Recasts.{Recast, choice_refusal, columns_checked, recast_checked}
+use Rattle.mesa_schema.specs.Recasts.{Recast, choice_refusal, recast_checked}
 use Rattle.mesa_schema.specs.Views.{choice_checked}
 use Rattle.mesa_model.specs.declared.commands.RecastWords.{RecastWords}
 use Rattle.mesa_model.specs.declared.replies.Refusal.{Refusal}

@@ -1,6 +1,5 @@
 -- Room in a table for what it takes in.
 use Rattle.std.specs.Prelude.{◌≡◌, ◌<◌, vec_len, vec_capacity}
-use Rattle.mesa_store_spec.specs.mesa_key.declared.Format.TheVariants as format
 use Rattle.mesa_catalog_table.specs.declared.table.Table.{Table}
 
 -- a table has room for a cumulative and for a singleton more

@@ -1,14 +1,14 @@
 -- A journal that is stated anew in the other area.
-use Rattle.std.proofs.Common.{◌≡◌, inl, inr, ⊎_elim, ℕ, ◌+◌, List, [], ◌∷◌, ◌++◌, length, Option, Some, Bool, false, ◌<◌, refl, sym, ◌∙◌, ap, subst, arith}
-use Rattle.mesa_disk.specs.Image.{Image, area_of, with_area, InArea, AnyChange}
+use Rattle.std.proofs.Common.{◌≡◌, inl, inr, ⊎_elim, ℕ, ◌+◌, List, [], ◌∷◌, length, Option, Some, Bool, false, ◌<◌, refl, sym, ◌∙◌, ap, subst, arith}
+use Rattle.mesa_disk.specs.Image.{Image, area_of, InArea, AnyChange}
 use Rattle.mesa_disk.specs.Story.{Story, Steps, After, Spans}
 use Rattle.mesa_disk.specs.declared.area.Area.{Area}
 use Rattle.mesa_disk.proofs.Run.{area_of-with_area, with_area-area_of, spans_on, spans_weaken, spans_none}
 use Rattle.mesa_journal.specs.Journal.{Closed}
-use Rattle.mesa_journal.specs.Settled.{IsSettled, IsWithinAppend, WithOrWithout}
+use Rattle.mesa_journal.specs.Settled.{IsSettled, IsWithinAppend}
 use Rattle.mesa_journal.specs.Areas.{other_of, IsBehind, Closes, MayClose, holds_body}
 use Rattle.mesa_journal.proofs.Live.{same_stays, other_other, leads_none, behind_closes, shut_long}
-use Rattle.mesa_commit.specs.Images.{Has, Shows, Stands}
+use Rattle.mesa_commit.specs.Images.{Shows, Stands}
 use Rattle.mesa_commit.specs.Restated.{TakesOver, OldOrRestated}
 use Rattle.mesa_commit.proofs.Files.{has_changed}
 

@@ -1,5 +1,5 @@
 -- Totals that are counted as far as the bound, and whether one passes it.
-use Rattle.std.proofs.Common.{◌≡◌, ◌<◌, ◌≤◌, ◌+◌, ℕ, zero, suc, min, List, [], ◌∷◌, map, Bool, true, false, refl, sym, ap, subst, arith, add-zero}
+use Rattle.std.proofs.Common.{◌≡◌, ◌<◌, ◌≤◌, ◌+◌, ℕ, zero, suc, min, List, [], ◌∷◌, map, Bool, true, false, refl, sym, subst, arith, add-zero}
 use Rattle.std.specs.Prelude.{◌||◌, nat_le, slice_get, Some}
 use Rattle.std.specs.List.{AllByRecursion, list_any}
 use Rattle.std.proofs.lemmas.Bool.{le-leb, leb-true}

@@ -1,6 +1,6 @@
 -- The places of columns in the order of their names.
-use Rattle.std.proofs.Common.{◌≡◌, ℕ, zero, suc, ◌+◌, ◌-◌, ◌<◌, ◌≤◌, List, [], ◌∷◌, ◌++◌, map, take, drop, length, get_or, cond, Bool, true, false, refl, sym, ◌∙◌, ap, subst, arith, inl, inr}
-use Rattle.std.specs.Prelude.{◌⊎◌, ◌||◌, nat_lt, slice_get, Some}
+use Rattle.std.proofs.Common.{◌≡◌, ℕ, zero, suc, ◌+◌, ◌-◌, ◌<◌, ◌≤◌, List, [], ◌∷◌, ◌++◌, map, take, drop, length, get_or, cond, Bool, true, false, refl, sym, ◌∙◌, ap, arith, inl, inr}
+use Rattle.std.specs.Prelude.{◌⊎◌, ◌||◌, nat_lt}
 use Rattle.std.specs.List.{AllByRecursion, insert}
 use Rattle.std.specs.Ordering.{is_le, ordering_then}
 use Rattle.std.specs.declared.cmp.Ordering.{Ordering}
@@ -21,7 +21,7 @@ use Rattle.mesa_schema.specs.declared.columns.ValueColumn.{ValueColumn}
 use Rattle.mesa_schema.specs.declared.rows.Row.{Row}
 use Rattle.mesa_schema.proofs.Apart.{Apart}
 use Rattle.mesa_schema.proofs.SchemaChanges.{schema_rules}
-use Rattle.mesa_digest.specs.Digests.{Cell, Label, cell_cmp, cells, in_order, key_cells, key_label, label_cmp, put_cell, value_cells, value_label}
+use Rattle.mesa_digest.specs.Digests.{Cell, Label, cells, in_order, key_cells, key_label, label_cmp, put_cell, value_cells, value_label}
 use Rattle.mesa_digest.specs.Places.{cell_at, count_of, label_at, labels, no_label, place_among}
 use Rattle.mesa_digest.proofs.Orders.{label_tied, order_push, put_no, put_none, put_yes}
 

@@ -17,7 +17,6 @@ use Rattle.mesa_schema.specs.Columns.{Columns, chosen, key_names, kinds_of, valu
 use Rattle.mesa_schema.specs.Folded.{regrouped}
 use Rattle.mesa_schema.specs.Laws.{AreAllKeys}
 use Rattle.mesa_schema.specs.Lineages.{is_view_of}
-use Rattle.mesa_schema.specs.Names.{has_name, repeated}
 use Rattle.mesa_schema.specs.Rows.{IsRowOf}
 use Rattle.mesa_schema.specs.Schema.{is_schema}
 use Rattle.mesa_schema.specs.Views.{choice_checked, view_columns, view_key_places, view_value_places}

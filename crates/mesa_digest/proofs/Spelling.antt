@@ -1,5 +1,5 @@
 -- The columns of a row as they are spelled.
-use Rattle.std.proofs.Common.{◌≡◌, ℕ, zero, suc, ◌+◌, ◌-◌, ◌<◌, ◌≤◌, List, [], ◌∷◌, ◌++◌, map, length, get_or, cond, true, refl, sym, ◌∙◌, ap, subst, arith, append_assoc}
+use Rattle.std.proofs.Common.{◌≡◌, ℕ, zero, suc, ◌+◌, ◌-◌, ◌<◌, ◌≤◌, List, [], ◌∷◌, ◌++◌, map, length, get_or, cond, true, refl, sym, ◌∙◌, ap, arith, append_assoc}
 use Rattle.std.specs.Prelude.{ℤ, pos, slice_get, Some, Result, Ok, Err, OnOk, is_ok}
 use Rattle.std.specs.List.{AllByRecursion}
 use Rattle.std.proofs.lemmas.List.{get_or_append_left, get_or-append_right, length-map}
@@ -11,7 +11,7 @@ use Rattle.mesa_schema.specs.Rows.{IsRowOf}
 use Rattle.mesa_schema.specs.declared.columns.KeyColumn.{KeyColumn}
 use Rattle.mesa_schema.specs.declared.columns.ValueColumn.{ValueColumn}
 use Rattle.mesa_schema.specs.declared.rows.Row.{Row}
-use Rattle.mesa_digest.specs.Digests.{Cell, amount_bytes, cell_bytes, cells, key_bytes, key_cells, value_cells}
+use Rattle.mesa_digest.specs.Digests.{Cell, amount_bytes, cell_bytes, key_bytes, key_cells, value_cells}
 use Rattle.mesa_digest.specs.Places.{cell_at, count_of, label_at, no_label}
 use Rattle.mesa_digest.proofs.Placing.{cell_label, columns_count}
 

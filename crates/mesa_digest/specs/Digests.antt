@@ -1,5 +1,5 @@
 -- Digests of a relation's rows.
-use Rattle.std.specs.Prelude.{ℕ, ℤ, ◌-◌, ◌^◌, ◌%◌, List, [], ◌∷◌, ◌++◌, map, length, take, flat_map, if◌then◌else◌}
+use Rattle.std.specs.Prelude.{ℕ, ℤ, ◌-◌, ◌^◌, ◌%◌, List, [], ◌∷◌, ◌++◌, length, take, flat_map, if◌then◌else◌}
 use Rattle.std.specs.Int.{w128, cast_unsigned, from_be_bytes, to_be_bytes}
 use Rattle.std.specs.List.{sum_by}
 use Rattle.std.specs.Ordering.{is_le, nat_cmp, ordering_then}

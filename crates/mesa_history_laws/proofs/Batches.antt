@@ -18,11 +18,11 @@ use Rattle.mesa_history_spec.specs.mesa_schema.declared.rows.Row.{Row}
 use Rattle.mesa_history_spec.specs.mesa_schema.declared.columns.ValueColumn.{ValueColumn}
 use Rattle.mesa_history_spec.specs.mesa_schema.Columns.{Columns, aggs_of, kinds_of, place_of}
 use Rattle.mesa_history_spec.specs.mesa_schema.Changes.{columns_of}
-use Rattle.mesa_history_spec.specs.mesa_schema.Numbers.{amount_of, any_signed, is_i64, key_value_of, signed_of}
+use Rattle.mesa_history_spec.specs.mesa_schema.Numbers.{amount_of, any_signed, is_i64, key_value_of}
 use Rattle.mesa_history_spec.specs.mesa_schema.Rows.{AreOf, AreRowsOf, IsRowOf}
 use Rattle.mesa_history_spec.proofs.mesa_schema.NumberWords.{is_i64-fits}
 use Rattle.mesa_history_spec.proofs.mesa_schema.Places.{place_named}
-use Rattle.mesa_history_spec.proofs.mesa_batch.RowForms.{is_of, then_fits}
+use Rattle.mesa_history_spec.proofs.mesa_batch.RowForms.{is_of}
 use Rattle.mesa_history_spec.specs.mesa_batch.declared.words.RowWords.{RowWords}
 use Rattle.mesa_history_spec.specs.mesa_batch.declared.words.BatchError.TheVariants.{BadRow, NoTable}
 use Rattle.mesa_history_spec.specs.mesa_batch.Batch.{Named, Placed, batch_from, batch_of, columns_at, is_at, key_from, placed_of, refuse_twice, row_of, rows_for, values_from}

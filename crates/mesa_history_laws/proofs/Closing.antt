@@ -8,7 +8,7 @@ use Rattle.mesa_history_spec.proofs.mesa_schema.LineageRecasts.{recast_goes_on}
 use Rattle.mesa_history_spec.specs.mesa_model.Refusals.{recast_refusal}
 use Rattle.mesa_history_spec.specs.mesa_model.declared.replies.Refusal.TheVariants as no
 use Rattle.mesa_history_spec.specs.Claims.{HasClaimAt, HasErrand, HasRecastClaim}
-use Rattle.mesa_history_spec.specs.Machine.{Claim, Recasts}
+use Rattle.mesa_history_spec.specs.Machine.{Claim}
 use Rattle.mesa_history_spec.specs.Run.{Stage, State, begins}
 use Rattle.mesa_history_spec.proofs.Claims.{begins_hold, runs_hold}
 use Rattle.mesa_history_laws.specs.Closing.{ClosesByViews, IsHeldAt, RecastsCloseByViews, lineage_now}

@@ -1,5 +1,5 @@
 -- An expiry changes no answer at a version that outlives it, and one of a table none over another table.
-use Rattle.std.proofs.Common.{◌≡◌, ℕ, ◌+◌, ◌-◌, ◌<◌, ◌≤◌, List, [], refl, sym, ◌∙◌, ap, subst, arith, Bool, true, false, not, Option, Some, None, Result, Ok, Err, nat_le, ◌==◌, get_or, is_ok, ◌⊎◌, inl, inr}
+use Rattle.std.proofs.Common.{◌≡◌, ℕ, ◌+◌, ◌-◌, ◌<◌, ◌≤◌, List, [], refl, sym, ◌∙◌, ap, subst, arith, true, not, Option, Some, None, Result, Ok, Err, nat_le, ◌==◌, get_or, ◌⊎◌, inl, inr}
 use Rattle.std.specs.Prelude.{max}
 use Rattle.std.proofs.lemmas.Bool.{cases_lt, eq-eqb, le-ltb, leb-true}
 use Rattle.std.proofs.lemmas.List.{get_or-drop}
@@ -18,7 +18,7 @@ use Rattle.mesa_history_spec.specs.mesa_model.Step.{done_or_refused, step}
 use Rattle.mesa_history_spec.specs.mesa_model.Versions.{expire_to, store_from, table_from, version_asked, version_checked}
 use Rattle.mesa_history_spec.specs.mesa_model.Query.{query_answer}
 use Rattle.mesa_history_laws.specs.Versions.{differ, is_of_another, outlives}
-use Rattle.mesa_history_laws.proofs.AnswersOver.{AreLike, SeesSame, answer_at, answer_in, answers_same, like_mapped, like_set, present_version}
+use Rattle.mesa_history_laws.proofs.AnswersOver.{AreLike, SeesSame, answer_at, answers_same, like_mapped, like_set, present_version}
 use Rattle.mesa_history_laws.proofs.Checks.{after_check, after_some, passed}
 use Rattle.mesa_history_laws.proofs.WellFormed.{version_there}
 

@@ -1,5 +1,5 @@
 -- A change of a schema and a recast keep the fold law: each content is lifted or grouped, and so is all that the law folds.
-use Rattle.std.proofs.Common.{◌≡◌, ℕ, ◌-◌, ◌<◌, ◌≤◌, List, [], ◌∷◌, map, filter, cond, true, false, Bool, refl, sym, ◌∙◌, ap, subst, arith, inl, inr, nat_le}
+use Rattle.std.proofs.Common.{◌≡◌, ℕ, ◌-◌, List, [], ◌∷◌, map, filter, cond, true, false, Bool, refl, sym, ◌∙◌, ap, subst, arith, inl, inr, nat_le}
 use Rattle.std.specs.List.{AllByRecursion}
 use Rattle.std.proofs.lemmas.Bool.{cases_lt}
 use Rattle.std.proofs.lemmas.List.{length-map}
@@ -7,7 +7,7 @@ use Rattle.std.proofs.lemmas.Simd.{map-map}
 use Rattle.mesa_history_spec.specs.mesa_schema.declared.rows.Row.{Row}
 use Rattle.mesa_history_spec.specs.mesa_schema.declared.changes.Change.{Change}
 use Rattle.mesa_history_spec.specs.mesa_schema.Columns.{Columns, aggs_of}
-use Rattle.mesa_history_spec.specs.mesa_schema.Changes.{Lineage, changed, columns_of, epoch_of, lifted_once, with_change}
+use Rattle.mesa_history_spec.specs.mesa_schema.Changes.{Lineage, changed, columns_of, lifted_once, with_change}
 use Rattle.mesa_history_spec.specs.mesa_schema.Folded.{folded, rows_of}
 use Rattle.mesa_history_spec.specs.mesa_schema.Lineages.{HasDefault}
 use Rattle.mesa_history_spec.specs.mesa_schema.Recasts.{IsRecastOf, Recast, recast_columns, recast_lineage, recast_rows}

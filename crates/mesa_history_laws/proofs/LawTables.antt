@@ -1,5 +1,5 @@
 -- A table or a view more, a change, a recast and an expiry keep the fold law.
-use Rattle.std.proofs.Common.{◌≡◌, ℕ, zero, suc, ◌+◌, ◌-◌, ◌<◌, ◌≤◌, ◌==◌, List, [], ◌∷◌, ◌++◌, map, length, filter, set, refl, sym, ◌∙◌, ap, subst, arith, cond, Bool, true, false, slice_get, slice_index_or, Some, nat_le, inl, inr}
+use Rattle.std.proofs.Common.{◌≡◌, ℕ, zero, suc, ◌+◌, ◌-◌, ◌≤◌, ◌==◌, List, [], ◌∷◌, ◌++◌, map, length, filter, set, refl, sym, ◌∙◌, ap, subst, arith, cond, Bool, true, false, slice_get, slice_index_or, Some, nat_le, inl, inr}
 use Rattle.std.specs.List.{AllByRecursion}
 use Rattle.std.specs.Prelude.{max}
 use Rattle.std.proofs.lemmas.Bool.{cases_lt, eqb-false, eqb-true}
@@ -14,7 +14,7 @@ use Rattle.mesa_history_spec.specs.mesa_schema.Folded.{folded, folded_at, keys_o
 use Rattle.mesa_history_spec.specs.mesa_schema.Lineages.{HasDefault}
 use Rattle.mesa_history_spec.specs.mesa_schema.Recasts.{IsRecastOf, Recast, recast_rows}
 use Rattle.mesa_history_spec.specs.mesa_model.declared.commands.ViewWords.{ViewWords}
-use Rattle.mesa_history_spec.specs.mesa_model.Warehouse.{Store, Table, Warehouse, table_at, with_table}
+use Rattle.mesa_history_spec.specs.mesa_model.Warehouse.{Store, Table, Warehouse, table_at}
 use Rattle.mesa_history_spec.specs.mesa_model.Tables.{new_table, table_changed, table_recast, with_recast}
 use Rattle.mesa_history_spec.specs.mesa_model.Versions.{store_from, table_from}
 use Rattle.mesa_history_spec.specs.Law.{Regroups, carried_content, carried_through, written_through}

@@ -6,7 +6,7 @@ use Rattle.mesa_history_spec.specs.mesa_list.Checks.{◌>>=◌, ◌>>◌, refuse
 use Rattle.mesa_history_spec.specs.mesa_schema.declared.rows.Row.{Row}
 use Rattle.mesa_history_spec.specs.mesa_schema.declared.views.View.{View}
 use Rattle.mesa_history_spec.specs.mesa_schema.Columns.{Columns}
-use Rattle.mesa_history_spec.specs.mesa_schema.Changes.{columns_of, epoch_of}
+use Rattle.mesa_history_spec.specs.mesa_schema.Changes.{epoch_of}
 use Rattle.mesa_history_spec.specs.mesa_filter.declared.words.QueryWords.{QueryWords}
 use Rattle.mesa_history_spec.specs.mesa_filter.declared.words.VersionWord.TheVariants as asks
 use Rattle.mesa_history_spec.specs.mesa_filter.Asked.{asked_of}

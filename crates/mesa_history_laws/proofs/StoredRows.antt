@@ -1,5 +1,5 @@
 -- The rows that a query sees have keys of the relation's types, in the present tables and in those of a pin.
-use Rattle.std.proofs.Common.{◌≡◌, ℕ, ◌-◌, List, [], ◌∷◌, refl, subst, Option, Some, None}
+use Rattle.std.proofs.Common.{◌≡◌, ℕ, ◌-◌, List, [], refl, subst, Option, Some, None}
 use Rattle.std.specs.List.{AllByRecursion}
 use Rattle.mesa_history_spec.specs.mesa_key.declared.KeyType.{KeyType}
 use Rattle.mesa_history_spec.specs.mesa_schema.declared.columns.KeyColumn.{KeyColumn}

@@ -1,5 +1,5 @@
 -- Versions that outlive an expiry.
-use Rattle.std.specs.Prelude.{ℕ, List, Bool, true, false, ◌==◌, not, nat_le, Option, Some, None}
+use Rattle.std.specs.Prelude.{ℕ, List, Bool, true, ◌==◌, not, nat_le, Option, Some, None}
 use Rattle.mesa_history_spec.specs.mesa_filter.declared.words.VersionWord.{VersionWord}
 use Rattle.mesa_history_spec.specs.mesa_filter.declared.words.VersionWord.TheVariants as asks
 use Rattle.mesa_history_spec.specs.mesa_model.Warehouse.{Store}

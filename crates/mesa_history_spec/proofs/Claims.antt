@@ -35,10 +35,10 @@ use Rattle.mesa_script.specs.mesa_model.Versions.{expire_to}
 use Rattle.mesa_script.specs.mesa_model.Pins.{make_pin, release_pin}
 use Rattle.mesa_script.specs.mesa_model.Step.{nothing_done}
 use Rattle.mesa_script.specs.mesa_model.Query.{Answer, query_answer}
-use Rattle.mesa_history_spec.specs.Machine.{Machine, Claim, Errand, Merges, Recasts, new_ranges, ranges_at, claim_of, recast_claim_of, claimed, claim_checked, claim_renewed, claim_ended, claim_merged, claim_recast, max_deltas, refuse_busy, singletons_of, still_checked, without_cumulatives, explained}
+use Rattle.mesa_history_spec.specs.Machine.{Machine, Claim, Errand, Merges, Recasts, new_ranges, ranges_at, claim_of, recast_claim_of, claimed, claim_checked, claim_renewed, claim_ended, claim_merged, max_deltas, refuse_busy, singletons_of, still_checked, without_cumulatives, explained}
 use Rattle.mesa_history_spec.specs.Run.{State, Stage, First, Looked, Answered, Granted, Renewed, Finished, CutOff, Place, Run, place_of, command_of, begins}
-use Rattle.mesa_history_spec.specs.Replay.{Turned, turned, turn_as, turn_of, standing, decide, decided, decided_query, decided_explain, grants, renews, renew, completes, claim_asked, does, recasts, recasted, close, leaves, prints, refused_turn, closed_if, closes, some_damage, machine_after, work_name, place_after, with_machine, go, runs}
-use Rattle.mesa_history_spec.specs.Claims.{IsClaim, HasClaim, HasClaimAt, HasErrand, HasRanges, HasRecastClaim, is_live}
+use Rattle.mesa_history_spec.specs.Replay.{Turned, turned, turn_as, turn_of, standing, decide, decided, decided_query, decided_explain, grants, renews, renew, completes, claim_asked, does, recasts, recasted, close, leaves, prints, refused_turn, closed_if, closes, some_damage, machine_after, place_after, with_machine, go, runs}
+use Rattle.mesa_history_spec.specs.Claims.{IsClaim, HasClaimAt, HasErrand, HasRanges, is_live}
 use Rattle.mesa_history_spec.proofs.Checks.{ok_bind, ok_check, ok_then, passed_as}
 use Rattle.mesa_history_spec.proofs.Claiming.{claimed_keeps, claimed_live, dead, ended_keeps, ended_live, granted_claim, merged_keeps, recast_keeps, renewed_keeps, renewed_live, set_get, table_keeps}
 use Rattle.mesa_history_spec.proofs.Growing.{made_by, Grows, alter_grows, done_grows, expire_grows, load_grows, nothing_grows, pin_grows, release_grows, table_grows, view_grows}

@@ -10,7 +10,6 @@ use Rattle.mesa_script.specs.mesa_schema.Changes.{columns_of, change_checked}
 use Rattle.mesa_script.specs.mesa_batch.declared.words.RowWords.{RowWords}
 use Rattle.mesa_script.specs.mesa_batch.Batch.{Placed, batch_of}
 use Rattle.mesa_script.specs.mesa_filter.declared.words.VersionWord.{VersionWord}
-use Rattle.mesa_script.specs.mesa_filter.declared.words.VersionWord.TheVariants as asks
 use Rattle.mesa_script.specs.mesa_model.declared.commands.TableWords.{TableWords}
 use Rattle.mesa_script.specs.mesa_model.declared.commands.ViewWords.{ViewWords}
 use Rattle.mesa_script.specs.mesa_model.declared.commands.AlterWords.{AlterWords}
@@ -19,7 +18,7 @@ use Rattle.mesa_script.specs.mesa_model.declared.replies.Reply.TheVariants as re
 use Rattle.mesa_script.specs.mesa_model.declared.replies.Refusal.{Refusal}
 use Rattle.mesa_script.specs.mesa_model.declared.replies.Refusal.TheVariants as no
 use Rattle.mesa_script.specs.mesa_model.declared.replies.SchemaFault.TheVariants as fault
-use Rattle.mesa_script.specs.mesa_model.Warehouse.{Table, Warehouse, max_tables, max_versions, max_pins, table_at, newest_of}
+use Rattle.mesa_script.specs.mesa_model.Warehouse.{Table, Warehouse, max_tables, max_versions, max_pins, table_at}
 use Rattle.mesa_script.specs.mesa_model.Relations.{table_number, is_taken}
 use Rattle.mesa_script.specs.mesa_model.Refusals.{bad_schema, batch_refusal, change_refusal, no_such_table, refuse_closed, schema_refusal}
 use Rattle.mesa_script.specs.mesa_model.Tables.{columns_asked, names_are_good, new_table, make_table, make_view, view_of_table_checked, change_asked, changed_name, alter_table, table_changed}

@@ -2,7 +2,7 @@
 use Rattle.std.specs.Prelude.{◌≡◌, ℕ, ◌-◌, ◌<◌, ◌≤◌, ◌==◌, List, [], ◌∷◌, ◌++◌, map, nat_lt, if◌then◌else◌, Option, Some, None, slice_get, Result, Ok, Err}
 use Rattle.mesa_script.specs.mesa_schema.declared.rows.Row.{Row}
 use Rattle.mesa_script.specs.mesa_schema.Columns.{aggs_of}
-use Rattle.mesa_script.specs.mesa_schema.Changes.{Lineage, columns_of, epoch_of}
+use Rattle.mesa_script.specs.mesa_schema.Changes.{columns_of, epoch_of}
 use Rattle.mesa_script.specs.mesa_schema.Folded.{folded}
 use Rattle.mesa_script.specs.mesa_schema.Recasts.{Recast}
 use Rattle.mesa_script.specs.mesa_batch.declared.words.BatchError.{BatchError}
@@ -16,7 +16,7 @@ use Rattle.mesa_script.specs.mesa_model.declared.replies.Reply.TheVariants as re
 use Rattle.mesa_script.specs.mesa_model.Warehouse.{Table, Store, Warehouse, content_at, table_at}
 use Rattle.mesa_script.specs.mesa_model.Load.{tables_named}
 use Rattle.mesa_script.specs.mesa_model.WellFormed.{IsWellFormed}
-use Rattle.mesa_history_spec.specs.Machine.{Claim, Errand, Merges, Recasts}
+use Rattle.mesa_history_spec.specs.Machine.{Errand, Merges, Recasts}
 use Rattle.mesa_history_spec.specs.Run.{State, Stage, Granted, Renewed, Told, Run, command_of, place_of, begins}
 use Rattle.mesa_history_spec.specs.Replay.{told_by, go, runs}
 use Rattle.mesa_history_spec.specs.Sources.{Source, Written, rows_now, source_recast, sources_from, sources_to, written_recast}

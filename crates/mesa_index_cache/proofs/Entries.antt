@@ -1,5 +1,5 @@
 -- Indexes that are looked up, kept and forgotten.
-use Rattle.std.proofs.Common.{◌≡◌, ◌≢◌, ◌⊎◌, inl, inr, ℕ, Bool, true, false, cond, Option, Some, None, Result, Ok, Err, OnOk, OnErr, refl, sym, ◌∙◌, ap, subst}
+use Rattle.std.proofs.Common.{◌≡◌, ◌≢◌, ◌⊎◌, inl, inr, ℕ, Bool, true, false, cond, Option, Some, None, Result, Ok, Err, OnOk, OnErr, refl, sym, ◌∙◌, ap}
 use Rattle.std.proofs.lemmas.Bool.{false≢true}
 use Rattle.std.proofs.lemmas.Option.{none-some, same_Some}
 use Rattle.std.specs.Option.{option_map}
@@ -10,7 +10,7 @@ use Rattle.std.specs.Map.{lookup}
 use Rattle.std.specs.Ordering.{is_eq, nat_cmp}
 use Rattle.std.specs.declared.cmp.Ordering.TheVariants.{Less, Equal, Greater}
 use Rattle.mesa_delta.specs.Indexed.{Indexed}
-use Rattle.mesa_index_cache.specs.Kept.{AreWith, AreWithout, index_in, index_kept, kept_at}
+use Rattle.mesa_index_cache.specs.Kept.{AreWith, AreWithout, index_in, kept_at}
 use Rattle.mesa_index_cache.specs.declared.indexes.Indexes.{Indexes}
 use Rattle.mesa_index_cache.specs.declared.kept.Kept.{Kept}
 

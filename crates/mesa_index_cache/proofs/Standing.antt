@@ -1,5 +1,5 @@
 -- Indexes stay true while the disk is called.
-use Rattle.std.proofs.Common.{◌≡◌, ◌≢◌, inl, inr, ⊎_elim, ℕ, List, Option, Some, None, refl, sym, ◌∙◌, ap, subst}
+use Rattle.std.proofs.Common.{◌≡◌, ⊎_elim, ℕ, List, Option, Some, None, sym, ◌∙◌, ap, subst}
 use Rattle.std.proofs.lemmas.Option.{none-some}
 use Rattle.mesa_disk.specs.Image.{Image, file_of, InArea, Adopts, Loses, May, Torn}
 use Rattle.mesa_disk.specs.Story.{Steps}

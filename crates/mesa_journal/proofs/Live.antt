@@ -1,11 +1,11 @@
 -- The two areas of an image.
-use Rattle.std.proofs.Common.{◌≡◌, ◌⊎◌, inl, inr, ℕ, ◌+◌, ◌<◌, ◌≤◌, List, [], ◌∷◌, ◌++◌, length, Bool, true, false, ◌==◌, refl, sym, ◌∙◌, ap, subst, arith}
+use Rattle.std.proofs.Common.{◌≡◌, inl, inr, ℕ, ◌+◌, ◌<◌, ◌≤◌, List, [], ◌∷◌, ◌++◌, length, true, false, ◌==◌, refl, sym, ◌∙◌, ap, subst, arith}
 use Rattle.std.proofs.lemmas.Bool.Decides.{nat_tests}
-use Rattle.mesa_disk.specs.Image.{Image, area_of, with_area, InArea}
+use Rattle.mesa_disk.specs.Image.{Image, area_of, InArea}
 use Rattle.mesa_disk.specs.declared.area.Area.{Area}
 use Rattle.mesa_disk.specs.declared.area.Area.TheVariants.{Zero, One}
-use Rattle.mesa_journal.specs.Journal.{IsJournal, IsDamaged, Closed}
-use Rattle.mesa_journal.specs.Areas.{other_of, rank, Leads, IsBehind, HasJournal, IsWhole, IsDamagedIn, holds_body, MayClose, Closes}
+use Rattle.mesa_journal.specs.Journal.{IsJournal, Closed}
+use Rattle.mesa_journal.specs.Areas.{other_of, rank, Leads, IsBehind, HasJournal, IsDamagedIn, holds_body, MayClose, Closes}
 use Rattle.mesa_journal.proofs.Unique.{same_journal, same_end, not_damaged}
 
 -- a change of one area leaves the other

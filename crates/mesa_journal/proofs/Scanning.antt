@@ -1,5 +1,5 @@
 -- What is known of areas whose first bodies were read.
-use Rattle.std.proofs.Common.{◌≡◌, get_or, inl, inr, ⊎_elim, ℕ, zero, suc, ◌+◌, ◌<◌, ◌≤◌, List, [], ◌∷◌, ◌++◌, length, Bool, true, false, ◌==◌, Option, Some, None, is_some, Result, Ok, Err, refl, sym, ◌∙◌, ap, subst, arith, append_assoc}
+use Rattle.std.proofs.Common.{◌≡◌, get_or, inl, inr, ℕ, zero, ◌+◌, ◌<◌, ◌≤◌, List, [], ◌∷◌, ◌++◌, length, true, false, ◌==◌, Option, is_some, Result, Ok, Err, refl, sym, ◌∙◌, ap, subst, arith, append_assoc}
 use Rattle.std.specs.Prelude.{unwrap_or, if◌then◌else◌, IfOk, IfErr}
 use Rattle.std.specs.Int.{w32, from_be_bytes}
 use Rattle.std.proofs.lemmas.Bool.Decides.{nat_tests}
@@ -8,7 +8,7 @@ use Rattle.mesa_disk.specs.declared.area.Area.{Area}
 use Rattle.mesa_disk.specs.declared.area.Area.TheVariants.{Zero, One}
 use Rattle.mesa_journal.specs.Journal.{word, of_word, frames, IsJournal}
 use Rattle.mesa_journal.specs.Areas.{is_checkpoint, number_in, number_of, rank, Leads, IsBehind, HasJournal, IsWhole, holds_body, other_of}
-use Rattle.mesa_journal.specs.Live.{first_number, rank_of, FindsLive, IsLiveJournal, IsScanned, IsUnread, IsUnreadIn}
+use Rattle.mesa_journal.specs.Live.{first_number, rank_of, FindsLive, IsScanned, IsUnread, IsUnreadIn}
 use Rattle.mesa_journal.specs.Read.{Agrees, bodies_of, placed_from}
 use Rattle.mesa_journal.specs.declared.both.LiveJournal.{LiveJournal}
 use Rattle.mesa_journal.specs.declared.reading.JournalError.{JournalError}

@@ -1,5 +1,5 @@
 -- What is known of drafts that are opened or given back.
-use Rattle.std.specs.Prelude.{◌≡◌, ◌<◌, ℕ, List, [], ◌∷◌, ◌++◌, Option, Some, Result, Ok, Err, ⊤}
+use Rattle.std.specs.Prelude.{◌≡◌, ℕ, List, [], ◌∷◌, ◌++◌, Option, Some, Result, Ok, Err, ⊤}
 use Rattle.mesa_open_files.specs.mesa_io.Causes.{Rose}
 use Rattle.mesa_load.specs.FilesToWrite.{IsCounted}
 use Rattle.mesa_open_files.specs.declared.made.MadeFile.{MadeFile}

@@ -1,5 +1,5 @@
 -- The ids of drafts, one after the other.
-use Rattle.std.proofs.Common.{◌≡◌, ℕ, zero, suc, ◌+◌, ◌*◌, ◌^◌, ◌%◌, ◌<◌, refl, sym, ap, ◌∙◌, arith}
+use Rattle.std.proofs.Common.{◌≡◌, ℕ, zero, suc, ◌+◌, ◌*◌, ◌^◌, ◌%◌, ◌<◌, refl, arith}
 use Rattle.mesa_open_files.specs.Serials.{AreSerials, Drafts, after_drafts, drawn}
 
 -- a draft changes neither the run nor the session

@@ -5,7 +5,6 @@ use Rattle.std.specs.List.{AllByRecursion, concat, cons_option, enumerate_from, 
 use Rattle.std.proofs.lemmas.Bool.{ltb-true}
 use Rattle.std.proofs.lemmas.List.{append-nil, length-map}
 use Rattle.std.proofs.lemmas.Simd.{map-map}
-use Rattle.mesa_model.specs.mesa_value.declared.Agg.{Agg}
 use Rattle.mesa_model.specs.mesa_value.Agg.{IsOrderless}
 use Rattle.mesa_model.specs.mesa_key.declared.KeyType.{KeyType}
 use Rattle.mesa_model.specs.mesa_key.declared.KeyValue.{KeyValue}
@@ -32,11 +31,10 @@ use Rattle.mesa_schema.proofs.Outlasting.{asks, orderless}
 use Rattle.mesa_schema.proofs.Regrouping.{bytes_of, columns_count, regrouped_columns, rows_form}
 use Rattle.mesa_filter.specs.declared.terms.Term.{Term}
 use Rattle.mesa_filter.specs.Among.{Holds, term_among}
-use Rattle.mesa_filter.specs.Asked.{Asked, places_below}
-use Rattle.mesa_filter.specs.Filter.{are_within, filtered, meets, meets_term, value_meets}
-use Rattle.mesa_filter.specs.Query.{are_places}
+use Rattle.mesa_filter.specs.Asked.{Asked}
+use Rattle.mesa_filter.specs.Filter.{are_within, meets, meets_term, value_meets}
 use Rattle.mesa_filter.proofs.PlacesAmong.{chosen_among, slot_among}
-use Rattle.mesa_model.specs.Orders.{has_place, is_candidate, is_further_order}
+use Rattle.mesa_model.specs.Orders.{has_place, is_further_order}
 use Rattle.mesa_model.specs.Query.{answer_rows}
 use Rattle.mesa_order.specs.Order.{AnswersThrough, IsAskedOf, asked_through}
 

@@ -1,6 +1,6 @@
 -- A query that is asked of a further order is one of it.
-use Rattle.std.proofs.Common.{◌≡◌, ℕ, zero, suc, ◌<◌, List, [], ◌∷◌, length, map, Bool, true, false, cond, refl, sym, ◌∙◌, ap, subst, arith, Option, Some, None, Result, Ok, Err, find, nat_lt, slice_get}
-use Rattle.std.specs.Prelude.{◌&&◌, IfOk, IsTrue}
+use Rattle.std.proofs.Common.{◌≡◌, ℕ, zero, suc, ◌<◌, List, [], ◌∷◌, length, Bool, true, false, cond, refl, sym, ◌∙◌, ap, subst, arith, Option, Some, None, Result, Ok, Err, find, nat_lt, slice_get}
+use Rattle.std.specs.Prelude.{IfOk, IsTrue}
 use Rattle.std.specs.List.{AllByRecursion, list_all}
 use Rattle.std.proofs.lemmas.Bool.{ltb-true}
 use Rattle.std.proofs.lemmas.List.{length-map}
@@ -15,7 +15,7 @@ use Rattle.mesa_schema.proofs.ChosenAgain.{both, choice_there, places_within}
 use Rattle.mesa_schema.proofs.GroupKeys.{chosen_mapped}
 use Rattle.mesa_schema.proofs.Outlasting.{asks}
 use Rattle.mesa_filter.specs.declared.terms.Term.{Term}
-use Rattle.mesa_filter.specs.Among.{Holds, place_among}
+use Rattle.mesa_filter.specs.Among.{Holds}
 use Rattle.mesa_filter.specs.Asked.{lists_all_keys}
 use Rattle.mesa_filter.specs.Filter.{are_within}
 use Rattle.mesa_filter.specs.Query.{BuiltQuery, IsQueryOf, are_places}

@@ -1,6 +1,5 @@
 -- The leading columns that have a term with `=`, one after another.
-use Rattle.std.proofs.Common.{◌≡◌, ℕ, zero, suc, ◌+◌, ◌<◌, ◌≤◌, List, [], ◌∷◌, length, drop, map, take, get_or, Bool, true, false, cond, refl, sym, ◌∙◌, ap, add-one, drop-cons, arith, Option, Some, None}
-use Rattle.std.specs.Prelude.{◌||◌}
+use Rattle.std.proofs.Common.{◌≡◌, ℕ, zero, suc, ◌+◌, ◌<◌, ◌≤◌, List, [], ◌∷◌, length, drop, map, get_or, Bool, true, false, cond, refl, sym, ◌∙◌, ap, add-one, drop-cons, arith, Option, Some, None}
 use Rattle.std.specs.List.{cons_option, enumerate_from, prefix_len}
 use Rattle.std.proofs.lemmas.List.{length-take-le}
 use Rattle.std.proofs.Math.ListN.{drop_of_length-le}

@@ -1,5 +1,5 @@
 -- Fields by their places.
-use Rattle.std.proofs.Common.{◌≡◌, ℕ, zero, suc, List, [], ◌∷◌, refl, Some, None, get_or, ◌+◌, drop, sym, ap, ◌∙◌, add-one}
+use Rattle.std.proofs.Common.{◌≡◌, ℕ, zero, suc, List, [], ◌∷◌, refl, Some, None, get_or, ◌+◌, drop, ap, ◌∙◌, add-one}
 use Rattle.csv.specs.Records.{field_at}
 use Rattle.mesa_script.specs.Records.{field}
 

@@ -9,7 +9,7 @@ use Rattle.clap.specs.declared.parser.matches.Found.{Found}
 use Rattle.clap.specs.declared.parser.matches.SubCommand.{SubCommand}
 use Rattle.clap.specs.declared.parser.matches.ArgMatches.TheViews.{out-SubCommand}
 use Rattle.clap.proofs.WalkLemmas.{first_value-rows}
-use Rattle.mesa_parse.specs.declared.forms.Form.TheVariants.{Run, Check, Digest}
+use Rattle.mesa_parse.specs.declared.forms.Form.TheVariants.{Run, Check}
 use Rattle.mesa_parse.specs.Found.{digest_found, form_found, gen_found}
 
 module _ {Z : Type 0} where

@@ -1,5 +1,5 @@
 -- Jobs, whose blocks are read and grouped.
-use Rattle.std.proofs.Common.{◌≡◌, ℕ, zero, suc, ◌+◌, ◌<◌, ◌≤◌, List, [], ◌∷◌, ◌++◌, length, map, take, drop, get_or, refl, sym, ◌∙◌, ap, subst, arith, append_assoc, Option, Some, None, true}
+use Rattle.std.proofs.Common.{◌≡◌, ℕ, zero, suc, ◌+◌, ◌<◌, ◌≤◌, List, [], ◌∷◌, ◌++◌, length, map, take, drop, get_or, refl, sym, ◌∙◌, ap, subst, arith, append_assoc, Option, Some, true}
 use Rattle.std.specs.Prelude.{flat_map, slice_get, slice_index_or, IfSome, IsTrue, Vec}
 use Rattle.std.specs.declared.alloc.Global.{Global}
 use Rattle.std.specs.List.{AllByRecursion}
@@ -33,7 +33,7 @@ use Rattle.mesa_query.specs.declared.jobs.Job.{Job}
 use Rattle.mesa_query.specs.declared.pieces.Piece.{Piece}
 use Rattle.mesa_query.specs.Jobs.{CanGroup, HasGrouped, IsJob, pieces_in}
 use Rattle.mesa_query.specs.Pieces.{AreDecodingsOf, IsDecodingOf, IsPieceOf, piece_of, rows_at, rows_in, rows_of_pieces}
-use Rattle.mesa_query.proofs.Decoded.{HasFile, file_of}
+use Rattle.mesa_query.proofs.Decoded.{file_of}
 use Rattle.mesa_query.proofs.Files.{all_at}
 use Rattle.mesa_query.proofs.PieceRows.{rows_append, seen}
 

@@ -1,5 +1,5 @@
 -- The rows of the blocks that are read for a query.
-use Rattle.std.proofs.Common.{◌≡◌, ℕ, zero, suc, ◌+◌, ◌<◌, ◌≤◌, List, [], ◌∷◌, ◌++◌, length, map, get_or, refl, sym, ◌∙◌, ap, subst, arith, Option, Some, None}
+use Rattle.std.proofs.Common.{◌≡◌, ℕ, ◌+◌, ◌<◌, ◌≤◌, List, [], ◌∷◌, ◌++◌, length, map, get_or, refl, sym, ◌∙◌, ap, subst, arith, Option, Some}
 use Rattle.std.specs.Prelude.{flat_map, slice_get}
 use Rattle.std.specs.List.{AllByRecursion}
 use Rattle.std.proofs.lemmas.Grind.{flat_map-append}
@@ -8,16 +8,15 @@ use Rattle.std.proofs.lemmas.Option.{get_or_from_slice_get}
 use Rattle.mesa_schema.specs.declared.lifting.Lift.{Lift}
 use Rattle.mesa_schema.specs.declared.rows.Row.{Row}
 use Rattle.mesa_schema.specs.Changes.{Lineage, columns_at, columns_of, epoch_of, lifted}
-use Rattle.mesa_schema.specs.Columns.{Columns, kinds_of}
+use Rattle.mesa_schema.specs.Columns.{kinds_of}
 use Rattle.mesa_schema.specs.Lifting.{Lifts, lifted_with}
 use Rattle.mesa_schema.specs.Rows.{AreRowsOf}
 use Rattle.mesa_filter.specs.Filter.{KeyFilter, filtered}
-use Rattle.mesa_delta.specs.Indexed.{Indexed}
-use Rattle.mesa_delta.specs.Reading.{IsBlock, IsIndexed, index_of}
+use Rattle.mesa_delta.specs.Reading.{index_of}
 use Rattle.mesa_delta.specs.Spread.{blocks_of}
 use Rattle.mesa_delta.specs.declared.input.Input.{Input}
-use Rattle.mesa_scan.proofs.Lifted.{block_forms, lifts_all}
-use Rattle.mesa_merge.specs.Inputs.{AreTold, IsTold, Known, known_of, lifted_in}
+use Rattle.mesa_scan.proofs.Lifted.{lifts_all}
+use Rattle.mesa_merge.specs.Inputs.{IsTold, Known, known_of}
 use Rattle.mesa_scan.specs.MatchingRows.{matching_rows}
 use Rattle.mesa_scan.specs.Scanning.{matching, matching_block}
 use Rattle.mesa_scan.proofs.Blocks.{matching_more}

@@ -1,5 +1,5 @@
 -- The whole answer to a query.
-use Rattle.std.specs.Prelude.{ℕ, ◌-◌, ◌^◌, List, false, None}
+use Rattle.std.specs.Prelude.{◌-◌, ◌^◌, List, false, None}
 use Rattle.mesa_schema.specs.declared.rows.Row.{Row}
 use Rattle.mesa_schema.specs.Columns.{Columns, aggs_of}
 use Rattle.mesa_schema.specs.Folded.{folded}

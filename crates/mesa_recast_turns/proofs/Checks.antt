@@ -1,6 +1,6 @@
 -- What the check before a recast's close tells.
-use Rattle.std.proofs.Common.{◌≡◌, ℕ, Bool, true, false, refl, sym, ◌∙◌, ap, Result, Ok, Err}
-use Rattle.std.specs.Prelude.{◌==◌, ◌≢◌}
+use Rattle.std.proofs.Common.{◌≡◌, ℕ, refl, sym, ◌∙◌, ap, Result, Ok, Err}
+use Rattle.std.specs.Prelude.{◌≢◌}
 use Rattle.std.proofs.lemmas.Bool.{eq-eqb, ne_eqb}
 use Rattle.mesa_list.specs.Checks.{◌>>◌, refuse_unless, refused_as}
 use Rattle.mesa_engine.specs.mesa_binding.Told.{recast_failure}

@@ -1,5 +1,5 @@
 -- How the close of a recast whose table is recast keeps an engine.
-use Rattle.std.proofs.Common.{◌≡◌, ◌∙◌, ℕ, ◌+◌, ◌<◌, ◌≤◌, ◌^◌, List, [], ◌∷◌, ◌++◌, length, true, false, ◌||◌, not, refl, sym, ap, subst, arith, Option, Some, Ok}
+use Rattle.std.proofs.Common.{◌≡◌, ℕ, ◌+◌, ◌<◌, ◌≤◌, ◌^◌, List, [], ◌∷◌, ◌++◌, length, true, false, ◌||◌, not, refl, sym, subst, arith, Option, Some, Ok}
 use Rattle.std.specs.Prelude.{vec_capacity}
 use Rattle.mesa_work_turns.specs.mesa_key.Spelling.{AreBytes}
 use Rattle.mesa_disk.specs.Files.{AreAbsent, files_of}

@@ -1,5 +1,5 @@
 -- How the close of a recast whose table is recast keeps a vault.
-use Rattle.std.proofs.Common.{◌≡◌, inl, inr, ◌∙◌, ℕ, ◌+◌, ◌<◌, ◌^◌, List, [], ◌∷◌, ◌++◌, map, length, Bool, true, false, ◌||◌, refl, sym, ap, subst, arith, Option, None, Some, Ok, IsTrue}
+use Rattle.std.proofs.Common.{◌≡◌, ◌∙◌, ℕ, ◌+◌, ◌<◌, ◌^◌, List, [], ◌∷◌, ◌++◌, map, length, Bool, true, false, ◌||◌, refl, sym, ap, subst, arith, Option, None, Some, Ok, IsTrue}
 use Rattle.std.specs.List.{AllByRecursion}
 use Rattle.mesa_work_turns.specs.mesa_key.Spelling.{AreBytes}
 use Rattle.mesa_work_turns.proofs.mesa_schema.Lists.{map_at}

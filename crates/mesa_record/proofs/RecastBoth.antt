@@ -1,16 +1,15 @@
 -- What a recast makes of a table, both ways.
 use Rattle.std.proofs.Common.{◌≡◌, ℕ, List, ◌++◌, length, refl, ap, subst, ◌∙◌, append_assoc, Bool, true, false, Ok, Option, Some, None}
 use Rattle.std.specs.Prelude.{IsTrue, ◌&&◌}
-use Rattle.std.specs.List.{AllByRecursion, list_all}
+use Rattle.std.specs.List.{list_all}
 use Rattle.mesa_list.proofs.Whole.{both}
 use Rattle.mesa_record_fields.specs.declared.edition.Edition.TheVariants.{Fourth}
-use Rattle.mesa_record.specs.declared.checkpoint.CheckpointSingle.{CheckpointSingle}
 use Rattle.mesa_record.specs.declared.recasting.RecastBase.{RecastBase}
 use Rattle.mesa_record.specs.declared.recasting.Recasting.{Recasting}
 use Rattle.mesa_record_fields.specs.Reading.{Left, flag_of, half_at, meaning, names_at, sized_at, word_at}
 use Rattle.mesa_record.specs.Reading.{files_if_any_at, recast_base_at, recast_base_if, recast_base_if_any_at, recasting_at, stated_single_at}
 use Rattle.mesa_record_fields.specs.Rules.{is_count_of_columns, is_long}
-use Rattle.mesa_record.specs.Rules.{FitsSingle, IsTypedRecastBase, IsTypedRecasting, IsTypedSingle, are_files_if_any, are_recast_columns, are_recast_deltas, is_recast_base, is_recasting, is_stated_single}
+use Rattle.mesa_record.specs.Rules.{FitsSingle, IsTypedRecastBase, IsTypedRecasting, IsTypedSingle, are_recast_columns, are_recast_deltas, is_recast_base, is_recasting, is_stated_single}
 use Rattle.mesa_record_fields.specs.Spelling.{counted, flag, half, sized, text, word}
 use Rattle.mesa_record.specs.Spelling.{files_if_any, recast_base, recast_base_if_any, recast_columns, recast_deltas, recasting_fields, stated_single}
 use Rattle.mesa_record_fields.proofs.Both.{Again, Begins, Found, begins_two, here, of_ok, ok_is, step_of}

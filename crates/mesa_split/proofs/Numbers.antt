@@ -1,5 +1,5 @@
 -- Numbers of lists, another one for each.
-use Rattle.std.proofs.Common.{◌≡◌, ℕ, zero, suc, ◌+◌, ◌<◌, List, [], ◌∷◌, refl, sym, ap, arith}
+use Rattle.std.proofs.Common.{◌≡◌, ℕ, zero, suc, ◌+◌, ◌<◌, List, [], ◌∷◌, refl, ap, arith}
 use Rattle.std.specs.Prelude.{Option, None, Some}
 use Rattle.mesa_split.specs.Held.{doubled, number_of, number_told}
 

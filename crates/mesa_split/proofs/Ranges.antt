@@ -1,26 +1,18 @@
 -- The file of a range.
-use Rattle.std.proofs.Common.{◌≡◌, ◌⊎◌, inl, inr, ℕ, ◌<◌, ◌≤◌, List, [], ◌∷◌, length, map, refl, sym, ap, subst, ◌∙◌, arith, true, false}
+use Rattle.std.proofs.Common.{◌≡◌, inl, ℕ, ◌<◌, ◌≤◌, List, [], refl, subst, ◌∙◌, arith, true, false}
 use Rattle.std.specs.Prelude.{Bool, Option, None, Some, Result, Ok, Err}
-use Rattle.std.specs.List.{AllByRecursion}
-use Rattle.mesa_compact.specs.mesa_io.Causes.{HasFaultCause, Rose}
+use Rattle.mesa_compact.specs.mesa_io.Causes.{Rose}
 use Rattle.mesa_file.specs.declared.damage.Damage.{Damage}
-use Rattle.mesa_schema.specs.declared.rows.Row.{Row}
 use Rattle.mesa_schema.specs.Columns.{Columns}
-use Rattle.mesa_delta.specs.declared.error.FileError.{FileError}
 use Rattle.mesa_delta.specs.declared.input.Input.{Input}
 use Rattle.mesa_delta.specs.declared.writer.DeltaWriter.{DeltaWriter}
-use Rattle.mesa_delta.specs.Writing.{HasTaken, columns_of, draft_of, id_of}
 use Rattle.mesa_answer.specs.declared.groups.Groups.{Groups}
-use Rattle.mesa_merge.specs.Inputs.{knowns_of}
 use Rattle.mesa_open_files.specs.Made.{IsMadeFile}
 use Rattle.mesa_open_files.specs.declared.made.MadeFile.{MadeFile}
 use Rattle.mesa_open_files.specs.declared.merging.CompactError.{CompactError}
-use Rattle.mesa_compact.specs.Grouping.{HavePut, wanted_in}
-use Rattle.mesa_compact.specs.Writing.{HasCauses, IsDraftFault, IsReadFault, damaged_by}
-use Rattle.mesa_split.specs.Held.{held_bytes}
+use Rattle.mesa_compact.specs.Writing.{HasCauses}
 use Rattle.mesa_split.specs.Lending.{AreReady}
-use Rattle.mesa_split.specs.Rounds.{HasAll, HasRangeFile, HasRun, IsRangeFile}
-use Rattle.mesa_split.specs.Written.{HasPoured}
+use Rattle.mesa_split.specs.Rounds.{HasRangeFile, HasRun}
 use Rattle.mesa_split.specs.declared.held.Held.{Held}
 use Rattle.mesa_split.specs.declared.parts.Part.{Part}
 use Rattle.mesa_split.proofs.Staying.{stay_none}

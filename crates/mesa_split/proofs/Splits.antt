@@ -1,7 +1,7 @@
 -- A task whose files were merged in parts.
-use Rattle.std.proofs.Common.{◌≡◌, ◌⊎◌, inl, inr, ℕ, ◌<◌, List, [], ◌∷◌, ◌++◌, length, map, refl, sym, ap, subst, ◌∙◌, arith, Global, Vec}
+use Rattle.std.proofs.Common.{◌≡◌, ◌⊎◌, inl, inr, ℕ, ◌<◌, List, [], ◌∷◌, ◌++◌, length, refl, sym, subst, ◌∙◌, arith, Global, Vec}
 use Rattle.std.proofs.lemmas.Bool.{eqb-true}
-use Rattle.std.specs.Prelude.{◌==◌, Bool, true, Option, None, Some, Result, Ok, Err, IfErr, flat_map}
+use Rattle.std.specs.Prelude.{◌==◌, Bool, true, Option, None, Some, Result, Ok, Err, flat_map}
 use Rattle.std.specs.List.{AllByRecursion}
 use Rattle.mesa_file.specs.declared.damage.Damage.{Damage}
 use Rattle.mesa_schema.specs.declared.rows.Row.{Row}
@@ -9,7 +9,6 @@ use Rattle.mesa_schema.specs.Changes.{Lineage, columns_of}
 use Rattle.mesa_delta.specs.declared.error.FileError.TheVariants.{Memory}
 use Rattle.mesa_delta.specs.declared.input.Input.{Input}
 use Rattle.mesa_answer.specs.Answering.{KeepsSums}
-use Rattle.mesa_answer.specs.declared.groups.Groups.{Groups}
 use Rattle.mesa_compact.specs.mesa_scan.Cursors.{IsInput}
 use Rattle.mesa_merge.specs.Faults.{faults_of}
 use Rattle.mesa_merge.specs.Inputs.{knowns_of}
@@ -29,14 +28,13 @@ use Rattle.mesa_open_files.specs.declared.merging.Task.{Task}
 use Rattle.mesa_open_files.specs.declared.merging.TaskView.{TaskView}
 use Rattle.mesa_compact.specs.Bounded.{AreBounded, AreViewsBounded, IsBounded}
 use Rattle.mesa_compact.specs.Damaged.{IsMergeDamage, IsNewestOf, ViewLeaves}
-use Rattle.mesa_compact.specs.Grouping.{HavePut}
-use Rattle.mesa_compact.specs.Tasks.{AreNumbered, IsFilesDamage, IsSameTask, IsViewDamage, known_views}
+use Rattle.mesa_compact.specs.Tasks.{AreNumbered, IsSameTask, IsViewDamage, known_views}
 use Rattle.mesa_compact.specs.Writing.{HasCauses, damaged_by}
 use Rattle.mesa_compact.proofs.Causing.{caused_memory, caused_ok, caused_on, same_end}
 use Rattle.mesa_compact.proofs.Tasking.{files_damage, first_table, total_damage}
 use Rattle.mesa_compact.proofs.Viewing.{table_kept}
 use Rattle.mesa_split.specs.Lending.{views_of}
-use Rattle.mesa_split.specs.Rounds.{IsFrontTotal, IsRangeFile}
+use Rattle.mesa_split.specs.Rounds.{IsFrontTotal}
 use Rattle.mesa_split.specs.Split.{HasSplit, IsPartsDamage, IsSpareDamage}
 use Rattle.mesa_split.proofs.Splitting.{Known_spares, spares_same, spares_stay, split_ended, split_merged}
 

@@ -1,11 +1,10 @@
 -- The file of a table's range, by the readers that were lent for it.
-use Rattle.std.proofs.Common.{◌≡◌, ◌⊎◌, inl, inr, ℕ, ◌+◌, ◌<◌, List, [], ◌∷◌, ◌++◌, length, map, refl, sym, ap, subst, ◌∙◌, arith, Global, Vec}
+use Rattle.std.proofs.Common.{◌≡◌, ◌⊎◌, inl, inr, ℕ, ◌+◌, ◌<◌, List, ◌++◌, length, map, sym, ap, subst, ◌∙◌, Global, Vec}
 use Rattle.std.proofs.lemmas.Result.{IfErr-weaker, IfOk-weaker}
-use Rattle.std.specs.Prelude.{Option, None, Some, Result, Ok, Err, IfErr, IfOk, flat_map, slice_get}
+use Rattle.std.specs.Prelude.{Option, None, Result, Ok, Err, IfErr, IfOk, flat_map, slice_get}
 use Rattle.std.specs.List.{AllByRecursion}
 use Rattle.mesa_file.specs.declared.damage.Damage.{Damage}
 use Rattle.mesa_schema.specs.declared.rows.Row.{Row}
-use Rattle.mesa_schema.specs.Columns.{Columns}
 use Rattle.mesa_schema.specs.Changes.{Lineage, columns_of}
 use Rattle.mesa_schema.specs.Lineages.{IsLineage}
 use Rattle.mesa_batch.specs.Bound.{FoldsTotals}
@@ -15,9 +14,8 @@ use Rattle.mesa_delta.specs.declared.input.Input.{Input}
 use Rattle.mesa_answer.specs.Answering.{KeepsSums}
 use Rattle.mesa_answer.specs.declared.groups.Groups.{Groups}
 use Rattle.mesa_compact.specs.mesa_scan.Cursors.{IsInput}
-use Rattle.mesa_merge.specs.Faults.{HaveFaultCause, NoneFell, SomeRose, faults_of}
+use Rattle.mesa_merge.specs.Faults.{HaveFaultCause, faults_of}
 use Rattle.mesa_merge.specs.Inputs.{AreInputs, knowns_of}
-use Rattle.mesa_merge.proofs.Inputs.{none_fell}
 use Rattle.mesa_open_files.specs.GivingBack.{spare_inputs}
 use Rattle.mesa_open_files.specs.Inputs.{AreInputsOf, IsMergeOf}
 use Rattle.mesa_open_files.specs.Spares.{AreSpareInputs}
@@ -29,10 +27,10 @@ use Rattle.mesa_compact.specs.Bounded.{AreBounded}
 use Rattle.mesa_compact.specs.Damaged.{IsMergeDamage}
 use Rattle.mesa_compact.specs.Writing.{HasCauses, IsReadFault, damaged_by}
 use Rattle.mesa_compact.proofs.Viewing.{mergeable, of_table}
-use Rattle.mesa_split.specs.Lending.{AllTell, AreLent, AreReady, IsDamageIn, IsEndOf, Moved, Tells, counts_in, items_of, knowns_in, lists_in, lists_of, own_in, returned, views_of}
+use Rattle.mesa_split.specs.Lending.{AllTell, AreLent, AreReady, IsEndOf, Moved, Tells, items_of, knowns_in, lists_in, lists_of, own_in, returned, views_of}
 use Rattle.mesa_split.specs.Parts.{IsPartOf}
 use Rattle.mesa_split.specs.Rounds.{HasRangeFile, IsFrontTotal, IsRangeFile, merge_of}
-use Rattle.mesa_split.specs.Split.{IsGained, IsSpareDamage}
+use Rattle.mesa_split.specs.Split.{IsSpareDamage}
 use Rattle.mesa_split.specs.declared.parts.Part.{Part}
 use Rattle.mesa_split.proofs.Loans.{damaged_list, lent_all, lent_moved, lent_same, lists_all, own_lent, parts_all}
 use Rattle.mesa_split.proofs.Splitting.{damage_at, each_input, fold_keeps, lists_each, lists_tell, own_known, rest_known, spares_inputs, spares_ready, whole_keeps, whole_merge}

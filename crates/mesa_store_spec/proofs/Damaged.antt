@@ -5,7 +5,6 @@ use Rattle.mesa_delta.specs.mesa_disk.Image.{Image}
 use Rattle.mesa_commit.specs.mesa_journal.Journal.{Closed, IsDamaged, frames, word, of_word}
 use Rattle.mesa_record.specs.Reading.{fields_of}
 use Rattle.mesa_record.specs.mesa_record_fields.Reading as reading_below
-use Rattle.mesa_record.specs.Reading as reading
 use Rattle.mesa_delta.specs.mesa_disk.declared.area.Area.TheVariants.{Zero}
 use Rattle.mesa_store_spec.specs.Catalog.{empty_catalog}
 use Rattle.mesa_store_spec.specs.Fitting.{fits, catalog_from}

@@ -7,7 +7,6 @@ use Rattle.mesa_commit.specs.mesa_journal.Journal.{Closed, word, of_word}
 use Rattle.mesa_commit.specs.mesa_journal.Areas.{HasJournal, number_in}
 use Rattle.mesa_record.specs.Reading.{fields_of, stated_at}
 use Rattle.mesa_record.specs.mesa_record_fields.Reading as reading_below
-use Rattle.mesa_record.specs.Reading as reading
 use Rattle.mesa_store_spec.specs.Catalog.{empty_catalog}
 use Rattle.mesa_store_spec.specs.Fitting.{fits, catalog_from}
 use Rattle.mesa_store_spec.specs.Journaled.{catalog}

@@ -9,7 +9,6 @@ use Rattle.mesa_history_spec.specs.mesa_file.declared.file_ref.FileRef.{FileRef}
 use Rattle.mesa_record.specs.mesa_record_fields.Reading.{file_ref_at}
 use Rattle.mesa_record.specs.Reading.{fields_of, files_at}
 use Rattle.mesa_record.specs.mesa_record_fields.Reading as reading_below
-use Rattle.mesa_record.specs.Reading as reading
 use Rattle.mesa_delta.specs.mesa_disk.declared.area.Area.TheVariants.{Zero}
 use Rattle.mesa_store_spec.specs.Catalog.{TableMeta, empty_delta}
 use Rattle.mesa_store_spec.specs.Fitting.{fits, catalog_from}

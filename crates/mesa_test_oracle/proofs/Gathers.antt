@@ -1,5 +1,5 @@
 -- What a load's rows come to as a batch.
-use Rattle.std.proofs.Common.{◌≡◌, ◌≢◌, ℕ, List, [], ◌∷◌, ◌++◌, sym, ◌∙◌, ap, subst, Result, Ok, Err, Some, get_or}
+use Rattle.std.proofs.Common.{◌≡◌, ◌≢◌, ℕ, List, [], ◌∷◌, sym, ◌∙◌, ap, subst, Result, Ok, Err, Some, get_or}
 use Rattle.std.specs.Prelude.{slice_get, option_map, unwrap_or, OnOk, IfErr}
 use Rattle.std.specs.Result.{MatchResult, result_err}
 use Rattle.std.proofs.lemmas.Option.{get_or_from_slice_get, slice_get-map}

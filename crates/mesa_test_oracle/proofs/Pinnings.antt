@@ -5,7 +5,6 @@ use Rattle.std.specs.List.{AllByRecursion, list_any}
 use Rattle.std.proofs.lemmas.List.{append-nil, get_or-drop, length-map, length-replicate}
 use Rattle.mesa_schema.specs.Changes.{columns_of}
 use Rattle.mesa_batch.specs.Glance.{Known}
-use Rattle.mesa_model.specs.Warehouse.{Table}
 use Rattle.mesa_model.specs.Versions.{oldest_among}
 use Rattle.mesa_model.specs.Pins.{count_at, counted_at, table_pinned}
 use Rattle.mesa_test_oracle.specs.Kept.{Contents, From, content_in, contents_in, gone_in, greatest_of, oldest_in, shared, tables_in, totals_in}

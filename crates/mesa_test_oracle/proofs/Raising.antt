@@ -1,5 +1,5 @@
 -- The greatest of numbers, and numbers that are raised.
-use Rattle.std.proofs.Common.{◌≡◌, ◌∙◌, ◌<◌, ◌+◌, ◌++◌, ◌∷◌, [], ℕ, zero, suc, List, ap, append_assoc, arith, drop, get_or, length, map, refl, replicate, set, sym, take}
+use Rattle.std.proofs.Common.{◌≡◌, ◌∙◌, ◌<◌, ◌+◌, ◌++◌, ◌∷◌, [], ℕ, List, ap, append_assoc, arith, drop, get_or, length, map, set, sym, take}
 use Rattle.std.specs.Prelude.{max}
 use Rattle.std.proofs.lemmas.List.{drop-set-lt, drop_more, take_more_set}
 use Rattle.mesa_test_oracle.specs.Kept.{greatest_of}

@@ -1,20 +1,20 @@
 -- A table that is recast.
-use Rattle.std.proofs.Common.{◌≡◌, ◌≢◌, ◌<◌, ◌+◌, ℕ, List, [], ◌∷◌, length, map, drop, get_or, set, take, Option, Some, None, refl, sym, ◌∙◌, ap, subst, arith, zero, suc, zero-add}
+use Rattle.std.proofs.Common.{◌≡◌, ◌≢◌, ◌<◌, ℕ, List, [], ◌∷◌, length, map, drop, get_or, set, take, Option, Some, None, refl, sym, ◌∙◌, ap, subst, arith, zero, suc, zero-add}
 use Rattle.std.specs.Prelude.{slice_get}
 use Rattle.std.specs.List.{AllByRecursion}
-use Rattle.std.proofs.lemmas.List.{append-nil, get_or-set_other, get_or-set_same, length-map, length-set}
+use Rattle.std.proofs.lemmas.List.{append-nil, get_or-set_other, get_or-set_same, length-set}
 use Rattle.std.proofs.lemmas.Option.{slice_get-get_or}
 use Rattle.mesa_value.specs.declared.Agg.{Agg}
 use Rattle.mesa_value.specs.declared.Agg.TheVariants as agg
 use Rattle.mesa_schema.specs.declared.rows.Row.{Row}
 use Rattle.mesa_schema.specs.Columns.{Columns, aggs_of}
-use Rattle.mesa_schema.specs.Changes.{Lineage, columns_of}
+use Rattle.mesa_schema.specs.Changes.{columns_of}
 use Rattle.mesa_schema.specs.Folded.{rows_of}
 use Rattle.mesa_schema.specs.Recasts.{IsRecastOf, Recast, recast_columns, recast_lineage, recast_rows, recast_values}
 use Rattle.mesa_schema.specs.Rows.{AreRowsOf}
 use Rattle.mesa_schema.proofs.Recasting.{recast_folds, recast_form}
 use Rattle.mesa_batch.specs.Glance.{Known}
-use Rattle.mesa_batch.specs.Totals.{AreAtMost, abs_totals, chosen_totals, sum_bound, sum_places, sums_in, totals_recast, with_total}
+use Rattle.mesa_batch.specs.Totals.{AreAtMost, abs_totals, chosen_totals, sum_bound, sums_in, totals_recast, with_total}
 use Rattle.mesa_batch.proofs.RecastTotals.{totals_count, totals_last}
 use Rattle.mesa_model.specs.Tables.{table_recast}
 use Rattle.mesa_test_oracle.specs.Found.{known_at, no_known}

@@ -1,5 +1,5 @@
 -- Queries over a catalogue's tables.
-use Rattle.std.proofs.Common.{◌≡◌, ℕ, suc, ◌+◌, List, [], ◌∷◌, map, get_or, refl, sym, ◌∙◌, ap, subst, arith, add-zero, Bool, true, false, cond, Option, Some, None, Result, Ok, Err}
+use Rattle.std.proofs.Common.{◌≡◌, ℕ, suc, ◌+◌, List, [], ◌∷◌, map, get_or, refl, sym, ◌∙◌, ap, subst, arith, add-zero, Bool, true, false, cond, Option, Some, None, Ok, Err}
 use Rattle.std.specs.Prelude.{find, option_and_then, option_map, position, slice_get, IsOk}
 use Rattle.std.specs.List.{position_from}
 use Rattle.std.specs.Option.{option_or}

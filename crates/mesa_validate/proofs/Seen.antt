@@ -1,5 +1,5 @@
 -- What a warehouse with a catalogue's tables is asked, the catalogue can tell.
-use Rattle.std.proofs.Common.{◌≡◌, ℕ, ◌+◌, ◌<◌, List, [], ◌∷◌, ◌++◌, arith, drop, length, map, get_or, refl, sym, ◌∙◌, ap, Bool, true, false, cond, Option, Some, None, Result, Ok, Err}
+use Rattle.std.proofs.Common.{◌≡◌, ℕ, ◌+◌, ◌<◌, List, [], ◌∷◌, ◌++◌, arith, drop, length, map, get_or, refl, sym, ◌∙◌, ap, Bool, true, false, cond, Option, Some, None, Result, Ok}
 use Rattle.std.specs.Prelude.{◌||◌, find, flat_map, is_some, max, nat_le, option_map}
 use Rattle.std.specs.List.{list_any}
 use Rattle.std.proofs.Math.ListN.{get_or-map}

@@ -1,4 +1,4 @@
-use Rattle.std.proofs.Common.{◌≡◌, ◌<◌, ◌^◌, ◌∙◌, ap, length, rules, sym}
+use Rattle.std.proofs.Common.{◌≡◌, ◌<◌, ◌^◌, length}
 use Rattle.mesa_block.proofs.Made.{laid_more}
 use Rattle.mesa_block.proofs.flat.made_rows.Goals as goal
 

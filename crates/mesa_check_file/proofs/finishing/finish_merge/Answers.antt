@@ -1,12 +1,11 @@
 use Rattle.std.proofs.Common.{◌≡◌, ◌∷◌, [], ◌++◌, List, refl, sym, ap, subst, ◌∙◌, append_assoc}
 use Rattle.std.proofs.lemmas.Bool.{false≢true}
 use Rattle.mesa_schema.specs.declared.rows.Row.{Row}
-use Rattle.mesa_schema.specs.Columns.{Columns}
 use Rattle.mesa_schema.specs.Folded.{rows_of}
 use Rattle.mesa_open_files.specs.mesa_batch.Bound.{KeepsBound}
 use Rattle.mesa_schema.specs.Columns.{aggs_of}
 use Rattle.mesa_merge.specs.Inputs.{AreAll, AreTold, lifted_parts}
-use Rattle.mesa_merge.specs.Merged.{HasMerged, failed_of, row_in}
+use Rattle.mesa_merge.specs.Merged.{row_in}
 use Rattle.std.specs.Prelude.{Ok, Err}
 use Rattle.mesa_delta.specs.declared.error.FileError.TheVariants.{Memory, Read}
 use Rattle.mesa_check_file.proofs.Counting.{failed_after, quiet_after}

@@ -3,13 +3,13 @@ use Rattle.std.proofs.lemmas.Result.{err_from_is_err_and}
 use Rattle.std.specs.Bool.{then_some}
 use Rattle.std.specs.Prelude.{Option, Some, None, Err, Ok, option_map, option_to_list}
 use Rattle.mesa_schema.specs.declared.rows.Row.{Row}
-use Rattle.mesa_schema.specs.Columns.{Columns, aggs_of}
+use Rattle.mesa_schema.specs.Columns.{aggs_of}
 use Rattle.mesa_schema.specs.Folded.{folded, rows_of}
 use Rattle.mesa_schema.specs.Lent.{lent}
 use Rattle.mesa_open_files.specs.mesa_batch.Bound.{KeepsBound}
 use Rattle.mesa_delta.specs.declared.error.FileError.TheVariants.{Memory, Read}
 use Rattle.mesa_merge.specs.Inputs.{AreTold, knowns_of, lifted_parts}
-use Rattle.mesa_merge.specs.Merged.{HasMerged, failed_of, inputs_of, row_in}
+use Rattle.mesa_merge.specs.Merged.{inputs_of, row_in}
 use Rattle.mesa_check_file.specs.Difference.{first_difference}
 use Rattle.mesa_check_file.specs.Compared.{Shows}
 use Rattle.mesa_check_file.proofs.Counting.{failed_after, quiet_after}

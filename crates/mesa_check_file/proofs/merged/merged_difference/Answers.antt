@@ -13,7 +13,7 @@ use Rattle.mesa_delta.specs.declared.error.FileError.TheVariants.{Memory, Read}
 use Rattle.mesa_delta.specs.Reading.{IsIndexed}
 use Rattle.mesa_scan.specs.Cursors.{IsSameInput, at_hand, lift_by}
 use Rattle.mesa_merge.specs.Inputs.{AreTold, knowns_of, lifted_parts}
-use Rattle.mesa_merge.specs.Merged.{HasMerged, failed_of, inputs_of, row_in}
+use Rattle.mesa_merge.specs.Merged.{inputs_of, row_in}
 use Rattle.mesa_check_file.specs.Difference.{first_difference}
 use Rattle.mesa_check_file.proofs.Streams.{same_input}
 use Rattle.mesa_check_file.specs.Compared.{Shows}

@@ -1,4 +1,4 @@
-use Rattle.std.proofs.Common.{◌≡◌, inl, ◌<◌, ◌≤◌, ℕ, length, Some, sym, ◌∙◌, arith}
+use Rattle.std.proofs.Common.{◌≡◌, inl, ◌<◌, length, Some, sym, ◌∙◌, arith}
 use Rattle.mesa_disk.specs.Image.{Image, area_of}
 use Rattle.mesa_journal.specs.Areas.{MayClose}
 use Rattle.mesa_journal.proofs.Live.{may_close}

@@ -1,6 +1,6 @@
-use Rattle.std.proofs.Common.{◌≡◌, ◌+◌, ◌∷◌, [], length, Some, sym, ◌∙◌, ap, subst}
-use Rattle.mesa_disk.specs.Image.{Image, InArea, AnyChange}
-use Rattle.mesa_disk.specs.Story.{Story, Steps, After, Spans}
+use Rattle.std.proofs.Common.{◌+◌, ◌∷◌, [], length, subst}
+use Rattle.mesa_disk.specs.Image.{InArea, AnyChange}
+use Rattle.mesa_disk.specs.Story.{Steps, After, Spans}
 use Rattle.mesa_disk.specs.declared.area.Area.{Area}
 use Rattle.mesa_disk.proofs.Run.{told_twice}
 use Rattle.mesa_journal.specs.Settled.{IsSettled, IsWithinAppend}

@@ -1,4 +1,4 @@
-use Rattle.std.proofs.Common.{◌≡◌, ◌++◌, ◌<◌, suc, zero, List, [], ◌∷◌, refl, sym, ◌∙◌, ap, subst}
+use Rattle.std.proofs.Common.{◌≡◌, ◌++◌, ◌<◌, suc, zero, [], ◌∷◌, refl, sym, ◌∙◌, ap, subst}
 use Rattle.std.specs.Prelude.{Option, Some, None, Err, option_map, option_to_list}
 use Rattle.std.specs.List.{AllByRecursion}
 use Rattle.mesa_schema.specs.Changes.{columns_of}

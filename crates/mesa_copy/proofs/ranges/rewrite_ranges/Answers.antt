@@ -1,4 +1,4 @@
-use Rattle.std.proofs.Common.{◌≡◌, ◌≢◌, ◌+◌, ◌<◌, ◌≤◌, suc, [], ◌∷◌, ◌++◌, List, length, take, get_or, set, refl, sym, ◌∙◌, ap, subst, arith, add-one, append_assoc, append-nil, length-append}
+use Rattle.std.proofs.Common.{◌≡◌, ◌≢◌, ◌+◌, ◌<◌, ◌≤◌, suc, [], ◌∷◌, ◌++◌, List, length, take, get_or, refl, sym, ◌∙◌, ap, subst, arith, add-one, append_assoc, append-nil, length-append}
 use Rattle.std.proofs.lemmas.List.{get_or-set_other, take_all}
 use Rattle.mesa_schema.proofs.Lists.{all_set}
 use Rattle.mesa_compact.specs.mesa_merge.Inputs.{knowns_of}
@@ -6,7 +6,6 @@ use Rattle.mesa_open_files.specs.Inputs.{AreInputsTo}
 use Rattle.mesa_open_files.specs.Recasts.{AreRewritten, IsRangeRewritten, own, recast_ids}
 use Rattle.mesa_open_files.specs.Serials.{AreNext}
 use Rattle.mesa_open_files.specs.declared.recasting.RecastRange.{RecastRange}
-use Rattle.mesa_open_files.specs.declared.recasting.RecastedRange.{RecastedRange}
 use Rattle.mesa_compact.specs.Bounded.{AreBounded}
 use Rattle.mesa_compact.proofs.Causing.{caused_memory, caused_ok, caused_on}
 use Rattle.mesa_compact.proofs.Putting.{all_at, map_set}

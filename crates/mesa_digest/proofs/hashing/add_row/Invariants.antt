@@ -1,4 +1,4 @@
-use Rattle.std.proofs.Common.{◌≡◌, ◌++◌, ℕ, List, take}
+use Rattle.std.proofs.Common.{◌++◌, ℕ, List, take}
 use Rattle.std.specs.Prelude.{flat_map}
 use Rattle.sha2.specs.Hashers.{Holds256}
 use Rattle.mesa_digest.specs.Digests.{amount_bytes}

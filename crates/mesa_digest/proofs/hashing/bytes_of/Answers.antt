@@ -1,5 +1,4 @@
-use Rattle.std.proofs.Common.{rules, ◌≡◌, ap, ◌∙◌}
-use Rattle.std.specs.Int.{w128, cast_unsigned, to_be_bytes}
+use Rattle.std.proofs.Common.{rules}
 use Rattle.mesa_digest.specs.Digests.{amount_bytes}
 use Rattle.mesa_digest.proofs.hashing.bytes_of.Goals as goal
 

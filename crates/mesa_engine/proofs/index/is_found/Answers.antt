@@ -1,4 +1,4 @@
-use Rattle.std.proofs.Common.{◌-◌, ◌≡◌, ltb, get_or, sym, subst, ◌∙◌, ap, arith, rules, false}
+use Rattle.std.proofs.Common.{◌-◌, ◌≡◌, ltb, get_or, sym, ◌∙◌, ap, arith, rules, false}
 use Rattle.std.proofs.lemmas.Bool.Decides.{nat_tests}
 use Rattle.std.proofs.lemmas.List.Sorted.{IsPartitionPoint-from_clause, IsPartitionedBy-ltb}
 use Rattle.mesa_commit.specs.declared.trash.Hold.{Hold}

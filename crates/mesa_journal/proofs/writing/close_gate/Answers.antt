@@ -1,10 +1,9 @@
-use Rattle.std.proofs.Common.{◌≡◌, ◌≢◌, ◌⊎◌, inl, inr, ⊎_elim, ◌≤◌, ◌<◌, ℕ, zero, suc, [], ◌∷◌, List, length, drop, refl, sym, ◌∙◌, subst, ap, arith}
+use Rattle.std.proofs.Common.{◌≡◌, inl, inr, ◌≤◌, ℕ, [], ◌∷◌, List, length, drop, refl, sym, ◌∙◌, subst, ap, arith}
 use Rattle.std.proofs.lemmas.Bool.{cases_eq}
 use Rattle.mesa_disk.specs.Image.{Image, area_of, Torn, InArea, AnyChange}
 use Rattle.mesa_disk.specs.Story.{Story, Steps, After, Follows}
 use Rattle.mesa_disk.specs.declared.area.Area.{Area}
 use Rattle.mesa_disk.proofs.Run.{starts, goes_on, told_changed}
-use Rattle.mesa_journal.specs.Journal.{IsJournal}
 use Rattle.mesa_journal.specs.Areas.{MayClose, Closes}
 use Rattle.mesa_journal.proofs.writing.close_gate.Goals as goal
 

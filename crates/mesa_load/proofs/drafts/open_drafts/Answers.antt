@@ -1,4 +1,4 @@
-use Rattle.std.proofs.Common.{◌≡◌, ℕ, suc, List, ap, sym, subst, ◌∙◌, add-one, arith}
+use Rattle.std.proofs.Common.{ℕ, suc, List, ap, sym, subst, ◌∙◌, add-one, arith}
 use Rattle.std.specs.List.{AllByRecursion}
 use Rattle.mesa_batch.proofs.mesa_list.Whole.{each_push}
 use Rattle.mesa_open_files.specs.Serials.{after_drafts, drawn, next_ids, next_serials}

@@ -1,18 +1,13 @@
-use Rattle.std.proofs.Common.{◌≡◌, ◌<◌, List, [], ◌∷◌, ◌++◌, Bool, true, false, length, map, Ok, Err, refl, sym, subst, ◌∙◌, arith}
-use Rattle.std.specs.Prelude.{Result, OnOk, nat_le, ◌||◌, ◌==◌}
-use Rattle.std.proofs.lemmas.Bool.{eqb-true}
+use Rattle.std.proofs.Common.{◌≡◌, ◌<◌, Bool, true, false, length, Ok, Err, refl, sym, ◌∙◌, arith}
+use Rattle.std.specs.Prelude.{Result, OnOk, nat_le, ◌||◌}
 use Rattle.std.proofs.lemmas.List.{nil_from_length}
-use Rattle.std.specs.List.{AllByRecursion, list_any}
-use Rattle.mesa_schema.specs.declared.rows.Row.{Row}
-use Rattle.mesa_schema.specs.Changes.{Lineage, columns_of}
+use Rattle.std.specs.List.{list_any}
+use Rattle.mesa_schema.specs.Changes.{Lineage}
 use Rattle.mesa_batch.specs.Gathered.{rows_at}
 use Rattle.mesa_batch.specs.Totals.{sum_bound}
 use Rattle.mesa_batch.specs.Glance.{Known}
 use Rattle.mesa_load.proofs.Places.{if_some, splits_at}
 use Rattle.mesa_load.proofs.Shares.{next_table, plan_next, plan_same}
-use Rattle.mesa_load.specs.Filing.{AreFileRows}
-use Rattle.mesa_load.specs.FilesToWrite.{IsFit, content_in}
-use Rattle.mesa_load.specs.Plans.{table_contents}
 use Rattle.mesa_load.specs.declared.planning.Plan.{Plan}
 use Rattle.mesa_load.specs.declared.planning.Planned.{Planned}
 use Rattle.mesa_load.proofs.planning.add_table.Goals as goal

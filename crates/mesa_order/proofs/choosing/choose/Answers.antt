@@ -1,7 +1,6 @@
-use Rattle.std.proofs.Common.{◌≡◌, List, ℕ, ◌∙◌, ap, subst}
+use Rattle.std.proofs.Common.{List, ℕ, ◌∙◌, subst}
 use Rattle.std.specs.Prelude.{IfSome, IsTrue, slice_get}
 use Rattle.mesa_schema.specs.Changes.{columns_of}
-use Rattle.mesa_filter.specs.declared.terms.Term.{Term}
 use Rattle.mesa_model.specs.Orders.{choice, is_candidate}
 use Rattle.mesa_order.proofs.choosing.choose.Goals as goal
 

@@ -1,4 +1,4 @@
-use Rattle.std.proofs.Common.{◌≡◌, ◌+◌, List, ℕ, [], drop, length, map, set, true, Some, None, sym, ◌∙◌, ap, subst, arith}
+use Rattle.std.proofs.Common.{◌+◌, drop, length, map, true, Some, None, sym, ◌∙◌, ap, subst, arith}
 use Rattle.std.proofs.lemmas.List.{length-set}
 use Rattle.mesa_schema.specs.Columns.{place_of, places_in}
 use Rattle.mesa_order.proofs.Marks.{Marks, all_left, mark_more, marked_all, none_yet}

@@ -1,4 +1,4 @@
-use Rattle.std.proofs.Common.{◌+◌, List, ℕ, drop, map, sym, ◌∙◌, ap, arith}
+use Rattle.std.proofs.Common.{◌+◌, drop, map, sym, ◌∙◌, ap, arith}
 use Rattle.mesa_schema.specs.declared.columns.KeyColumn.{KeyColumn}
 use Rattle.mesa_schema.specs.Columns.{place_of, places_in}
 use Rattle.mesa_model.specs.Orders.{leading}

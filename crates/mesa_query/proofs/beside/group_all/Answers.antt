@@ -1,4 +1,4 @@
-use Rattle.std.proofs.Common.{◌≡◌, List, sym, subst}
+use Rattle.std.proofs.Common.{List, sym, subst}
 use Rattle.mesa_merge.specs.Inputs.{Known}
 use Rattle.mesa_answer.specs.Gathering.{Wanted}
 use Rattle.mesa_query.specs.declared.jobs.Job.{Job}

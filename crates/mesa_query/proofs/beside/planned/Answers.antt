@@ -1,4 +1,4 @@
-use Rattle.std.proofs.Common.{◌≡◌, ◌∙◌, [], List, ap, subst, sym}
+use Rattle.std.proofs.Common.{◌∙◌, [], List, ap, subst, sym}
 use Rattle.std.specs.List.{AllByRecursion}
 use Rattle.mesa_merge.specs.Inputs.{Known, knowns_of}
 use Rattle.mesa_answer.specs.Gathered.{wanted_of}

@@ -1,9 +1,8 @@
-use Rattle.std.proofs.Common.{◌≡◌, ◌∙◌, refl, subst, sym, List}
+use Rattle.std.proofs.Common.{◌∙◌, refl, subst, sym, List}
 use Rattle.std.proofs.lemmas.Result.{err_from_is_err_and}
 use Rattle.std.specs.Prelude.{Err}
-use Rattle.mesa_merge.specs.Inputs.{Known, knowns_of}
+use Rattle.mesa_merge.specs.Inputs.{Known}
 use Rattle.mesa_merge.proofs.Causing.{cause_on, cause_quiet}
-use Rattle.mesa_query.specs.Files.{inputs_in}
 use Rattle.mesa_query.specs.Jobs.{AreRun}
 use Rattle.mesa_query.specs.Pieces.{AreLiftsOf}
 use Rattle.mesa_query.proofs.Files.{moved_further, moved_known}

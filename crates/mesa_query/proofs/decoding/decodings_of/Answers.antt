@@ -1,4 +1,4 @@
-use Rattle.std.proofs.Common.{◌≡◌, ◌∙◌, ◌+◌, ◌<◌, ◌≤◌, ◌++◌, ◌∷◌, [], List, ap, arith, get_or, length, subst, sym, take}
+use Rattle.std.proofs.Common.{◌<◌, ◌≤◌, List, ap, arith, get_or, length, subst, sym}
 use Rattle.mesa_schema.specs.declared.lifting.Lift.{Lift}
 use Rattle.mesa_merge.specs.Inputs.{Known, known_of, knowns_of}
 use Rattle.mesa_query.specs.Files.{inputs_in}

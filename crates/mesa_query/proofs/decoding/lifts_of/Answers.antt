@@ -1,10 +1,7 @@
-use Rattle.std.proofs.Common.{◌≡◌, ◌∙◌, ◌+◌, ◌<◌, ◌≤◌, ◌++◌, ◌∷◌, [], List, ap, arith, get_or, length, subst, sym, take}
-use Rattle.std.specs.List.{AllByRecursion}
-use Rattle.mesa_schema.specs.declared.lifting.Lift.{Lift}
+use Rattle.std.proofs.Common.{◌+◌, ◌<◌, ◌≤◌, ◌++◌, ◌∷◌, [], List, ap, arith, get_or, length, subst, sym, take}
 use Rattle.mesa_schema.specs.Changes.{Lineage, epoch_of}
 use Rattle.mesa_schema.specs.Lifting.{Lifts}
 use Rattle.mesa_schema.specs.Lineages.{IsLineage}
-use Rattle.mesa_delta.specs.declared.input.Input.{Input}
 use Rattle.mesa_scan.specs.Cursors.{IsInput}
 use Rattle.mesa_merge.specs.Inputs.{Known, known_of, knowns_of}
 use Rattle.mesa_query.specs.Files.{inputs_in}

@@ -1,7 +1,5 @@
 use Rattle.std.proofs.Common.{◌≡◌, ◌∙◌, List, ap, inl, inr, subst, sym}
-use Rattle.std.specs.Prelude.{IfErr}
 use Rattle.std.proofs.lemmas.Result.{err_from_is_err_and, on_ok_weaker}
-use Rattle.mesa_file.specs.declared.damage.Damage.{Damage}
 use Rattle.mesa_schema.specs.declared.rows.Row.{Row}
 use Rattle.mesa_schema.specs.Folded.{rows_of}
 use Rattle.mesa_filter.specs.Filter.{filtered}
@@ -13,9 +11,8 @@ use Rattle.mesa_answer.specs.Answering.{KeepsSums}
 use Rattle.mesa_answer.specs.Gathered.{HasPut, wanted_of}
 use Rattle.mesa_answer.specs.declared.groups.Groups.{Groups}
 use Rattle.mesa_answer.proofs.Results.{if_err}
-use Rattle.mesa_query.specs.Files.{IsDamageIn, inputs_in}
+use Rattle.mesa_query.specs.Files.{inputs_in}
 use Rattle.mesa_query.specs.Relation.{parts_ungrouped}
-use Rattle.mesa_query.specs.Sums.{IsSumIn}
 use Rattle.mesa_query.proofs.Blocks.{some_here}
 use Rattle.mesa_query.proofs.Files.{moved_known, moved_owns, moved_pinned}
 use Rattle.mesa_query.proofs.Holding.{damage_moved, parts_moved, sum_before}

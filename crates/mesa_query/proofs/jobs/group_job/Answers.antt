@@ -1,4 +1,4 @@
-use Rattle.std.proofs.Common.{◌≡◌, refl, sym, ◌∙◌, ap, subst, true}
+use Rattle.std.proofs.Common.{refl, sym, ◌∙◌, ap, subst}
 use Rattle.mesa_schema.specs.Columns.{kinds_of}
 use Rattle.mesa_merge.specs.Inputs.{AreAlike}
 use Rattle.mesa_answer.specs.Gathering.{Wanted}

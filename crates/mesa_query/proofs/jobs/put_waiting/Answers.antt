@@ -1,12 +1,10 @@
-use Rattle.std.proofs.Common.{◌≡◌, ◌∙◌, ◌<◌, ◌++◌, ◌∷◌, [], List, Some, ap, drop, length, map, subst, sym}
+use Rattle.std.proofs.Common.{◌≡◌, ◌∙◌, ◌++◌, List, ap, drop, subst, sym}
 use Rattle.std.specs.Prelude.{slice_get}
-use Rattle.mesa_schema.specs.declared.rows.Row.{Row}
 use Rattle.mesa_schema.specs.Columns.{kinds_of}
-use Rattle.mesa_schema.specs.Lifting.{lifted_with}
 use Rattle.mesa_schema.specs.Rows.{AreRowsOf}
 use Rattle.mesa_filter.proofs.PlacesAsked.{slot_there}
 use Rattle.mesa_delta.specs.Ahead.{AreAhead, Untested}
-use Rattle.mesa_answer.specs.Gathered.{HasPut, wanted_of}
+use Rattle.mesa_answer.specs.Gathered.{wanted_of}
 use Rattle.mesa_answer.specs.Gathering.{Wanted}
 use Rattle.mesa_merge.specs.Inputs.{tolds_of}
 use Rattle.mesa_query.proofs.JobSteps.{HasPutSome, lifted_good, put_all, put_more, put_none, taken_within}

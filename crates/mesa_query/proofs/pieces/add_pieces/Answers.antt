@@ -1,4 +1,4 @@
-use Rattle.std.proofs.Common.{◌≡◌, ◌∙◌, ◌<◌, ◌≤◌, ◌++◌, ◌∷◌, [], List, ap, append_assoc, append-nil, arith, length, sym}
+use Rattle.std.proofs.Common.{◌∙◌, ◌<◌, ◌≤◌, ◌++◌, ◌∷◌, [], List, ap, append_assoc, append-nil, arith, length, sym}
 use Rattle.std.proofs.lemmas.Bool.{OnFalse_at}
 use Rattle.mesa_delta.specs.Reading.{index_of}
 use Rattle.mesa_query.specs.declared.pieces.Piece.{Piece}

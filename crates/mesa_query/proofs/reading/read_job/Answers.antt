@@ -2,9 +2,8 @@ use Rattle.std.proofs.Common.{◌≡◌, ◌∙◌, List, ap, arith, length, ref
 use Rattle.std.proofs.lemmas.Result.{err_from_is_err_and}
 use Rattle.std.specs.declared.alloc.Global.{Global}
 use Rattle.std.specs.Prelude.{Err, Vec}
-use Rattle.mesa_merge.specs.Inputs.{Known, knowns_of}
+use Rattle.mesa_merge.specs.Inputs.{Known}
 use Rattle.mesa_merge.proofs.Causing.{cause_on, cause_quiet}
-use Rattle.mesa_query.specs.Files.{inputs_in}
 use Rattle.mesa_query.specs.Jobs.{IsJob}
 use Rattle.mesa_query.specs.declared.pieces.Piece.{Piece}
 use Rattle.mesa_query.proofs.Files.{moved_further, moved_known, moved_none}

@@ -3,12 +3,10 @@ use Rattle.std.proofs.lemmas.Result.{err_from_is_err_and}
 use Rattle.mesa_delta.specs.declared.error.FileError.TheVariants as file_error
 use Rattle.mesa_schema.specs.Columns.{Columns, kinds_of}
 use Rattle.mesa_schema.specs.Folded.{rows_of}
-use Rattle.mesa_schema.specs.Rows.{AreRowsOf}
 use Rattle.mesa_filter.specs.Query.{are_places}
 use Rattle.mesa_merge.proofs.Causing.{cause_other, cause_quiet}
-use Rattle.mesa_answer.specs.Answering.{grouped_columns}
 use Rattle.mesa_answer.specs.Gathered.{wanted_of}
-use Rattle.mesa_answer.specs.Gathering.{Wanted, wanted_by}
+use Rattle.mesa_answer.specs.Gathering.{Wanted}
 use Rattle.mesa_open_files.specs.Pins.{IsPinnedInput}
 use Rattle.std.specs.List.{AllByRecursion}
 use Rattle.std.specs.Prelude.{None}

@@ -1,4 +1,4 @@
-use Rattle.std.proofs.Common.{◌≡◌, ◌∙◌, ◌<◌, length, not, false, refl, sym, ap, subst}
+use Rattle.std.proofs.Common.{◌∙◌, length, not, false, refl, sym, ap, subst}
 use Rattle.mesa_work_turns.specs.mesa_history_spec.Machine.{still_checked}
 use Rattle.mesa_work_turns.specs.mesa_history_spec.Run.{Renewed}
 use Rattle.mesa_work_turns.specs.mesa_history_spec.Turns.{IsDue}

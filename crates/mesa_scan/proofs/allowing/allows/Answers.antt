@@ -1,4 +1,4 @@
-use Rattle.std.proofs.Common.{◌≡◌, ◌∙◌, ◌+◌, ◌<◌, [], Bool, arith, false, get_or, length, subst, sym, true}
+use Rattle.std.proofs.Common.{◌+◌, ◌<◌, [], Bool, arith, false, get_or, length, subst, true}
 use Rattle.std.specs.Bool.{OnFalse}
 use Rattle.mesa_schema.specs.Lineages.{IsLineage}
 use Rattle.mesa_filter.specs.Pruning.{NoneMeets}

@@ -1,4 +1,4 @@
-use Rattle.std.proofs.Common.{◌≡◌, ◌+◌, ◌++◌, ◌≤◌, [], ◌∷◌, List, drop, map, take, refl, sym, ap, subst, ◌∙◌, arith, add-one}
+use Rattle.std.proofs.Common.{◌≡◌, ◌+◌, ◌∷◌, List, drop, map, take, refl, sym, ap, ◌∙◌, arith, add-one}
 use Rattle.mesa_open_files.specs.declared.merging.Spare.{Spare}
 use Rattle.mesa_compact.proofs.Putting.{map_set}
 use Rattle.mesa_compact.proofs.Viewing.{drop_some}

@@ -1,4 +1,4 @@
-use Rattle.std.proofs.Common.{◌+◌, ◌<◌, [], length, arith}
+use Rattle.std.proofs.Common.{◌+◌, ◌<◌, length, arith}
 use Rattle.mesa_split.proofs.Collected.{piece_cut, piece_none}
 use Rattle.mesa_split.proofs.parts.piece_rows.Goals.{in_default-via-in-Some+else-at-cuts, in_default-via-in_default}
 use Rattle.mesa_split.proofs.parts.piece_rows.Goals as goal

@@ -1,4 +1,4 @@
-use Rattle.std.proofs.Common.{◌≡◌, ◌∙◌, None, ap}
+use Rattle.std.proofs.Common.{◌∙◌, None, ap}
 use Rattle.std.proofs.lemmas.Result.{IfOk-weaker}
 use Rattle.mesa_delta.specs.Places.{shorts_of}
 use Rattle.mesa_split.specs.Sampling.{indexes_of, risen, spread}

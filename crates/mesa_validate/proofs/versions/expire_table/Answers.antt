@@ -1,8 +1,7 @@
-use Rattle.std.proofs.Common.{◌≡◌, ◌∙◌, ◌≤◌, ◌<◌, ap, arith, length, refl, subst, sym, Some, None, Ok, Err}
+use Rattle.std.proofs.Common.{◌≡◌, ◌∙◌, ◌≤◌, ◌<◌, ap, arith, length, refl, subst, sym, Some}
 use Rattle.std.specs.Prelude.{IfSome, OnOk}
 use Rattle.mesa_model.specs.declared.replies.Reply.TheVariants as reply
 use Rattle.mesa_model.specs.Versions.{version_checked}
-use Rattle.mesa_catalog.specs.mesa_store_spec.Catalog.{meta_at}
 use Rattle.mesa_validate.specs.Seen.{number_of}
 use Rattle.mesa_validate.proofs.Doing.{nowhere_expired, refused_expiry, ruled_table_expiry, meta_named}
 use Rattle.mesa_validate.proofs.versions.expire_table.Goals as goal

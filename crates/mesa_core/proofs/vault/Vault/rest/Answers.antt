@@ -1,4 +1,4 @@
-use Rattle.std.proofs.Common.{◌≡◌, ◌<◌, inl, sym, ap, ◌∙◌, subst, true, Ok, Err}
+use Rattle.std.proofs.Common.{◌≡◌, ◌<◌, inl, sym, ap, ◌∙◌, subst, true, Ok}
 use Rattle.mesa_core.specs.Recasts.{known_recast}
 use Rattle.mesa_core.specs.Works.{WasGranted}
 use Rattle.mesa_recast_turns.specs.mesa_file_records.Grown.{HasBecome}

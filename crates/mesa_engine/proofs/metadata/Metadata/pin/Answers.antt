@@ -1,6 +1,6 @@
 use Rattle.std.proofs.Common.{◌≡◌, ◌∙◌, ◌++◌, [], ◌∷◌, ap, map, sym}
 use Rattle.mesa_catalog.specs.Kept.{Reserved}
-use Rattle.mesa_engine.specs.EngineState.{HeldPin, next_id}
+use Rattle.mesa_engine.specs.EngineState.{next_id}
 use Rattle.mesa_engine.specs.Turned.{pin_now, pinned_state}
 use Rattle.mesa_engine.specs.declared.holders.Pin.{Pin}
 use Rattle.mesa_engine.specs.Meaning.{pin_as, pins_in, queries_in, query_as}

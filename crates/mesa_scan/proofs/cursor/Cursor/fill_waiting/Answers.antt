@@ -1,4 +1,4 @@
-use Rattle.std.proofs.Common.{◌≡◌, ◌∙◌, sym, subst, Result, Ok, Err}
+use Rattle.std.proofs.Common.{◌∙◌, sym, subst, Result, Ok, Err}
 use Rattle.std.specs.Prelude.{IfErr, OnOk}
 use Rattle.mesa_delta.specs.Reading.{IsIndexed, index_of}
 use Rattle.mesa_scan.specs.Cursors.{IsDamageFrom, reader_in}

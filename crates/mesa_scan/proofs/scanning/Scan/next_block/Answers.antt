@@ -1,4 +1,4 @@
-use Rattle.std.proofs.Common.{◌≡◌, ◌<◌, ◌∙◌, ℕ, true, refl, sym, ap, subst, arith, length}
+use Rattle.std.proofs.Common.{◌≡◌, ◌<◌, ◌∙◌, true, refl, sym, ap, subst, arith, length}
 use Rattle.std.specs.Prelude.{IsTrue}
 use Rattle.std.specs.List.{AllByRecursion}
 use Rattle.mesa_key.specs.Spelling.{is_spelling}
@@ -8,11 +8,10 @@ use Rattle.mesa_schema.specs.Lineages.{IsLineage}
 use Rattle.mesa_schema.proofs.Lists.{all_map}
 use Rattle.mesa_delta.specs.Indexed.{Indexed, IsIndex}
 use Rattle.mesa_delta.specs.Reading.{index_of}
-use Rattle.mesa_delta.specs.declared.input.Input.{Input}
-use Rattle.mesa_scan.specs.Cursors.{IsInput, IsSameInput, reader_in}
+use Rattle.mesa_scan.specs.Cursors.{IsSameInput, reader_in}
 use Rattle.mesa_scan.specs.Allowing.{allows_block}
 use Rattle.mesa_scan.specs.Damaged.{IsDamaged}
-use Rattle.mesa_scan.specs.Scanning.{HasScanned, filter_of, next_of}
+use Rattle.mesa_scan.specs.Scanning.{filter_of, next_of}
 use Rattle.mesa_scan.proofs.Going.{block_spells, input_failed, onward_read, onward_skipped, read_few}
 use Rattle.mesa_scan.proofs.Moving.{ahead_left, own_left, stays_input, stays_own, stays_same, stays_scanned}
 use Rattle.mesa_scan.proofs.Onwards.{damaged_before, same_input}

@@ -1,4 +1,4 @@
-use Rattle.std.proofs.Common.{◌≡◌, ◌∙◌, ◌<◌, ◌≤◌, ◌+◌, ◌-◌, ◌∷◌, [], List, ℕ, ap, arith, length, map, replicate, subst, sym}
+use Rattle.std.proofs.Common.{◌≡◌, ◌∙◌, ◌<◌, ◌≤◌, ◌-◌, ◌∷◌, [], ap, arith, length, map, replicate, subst, sym}
 use Rattle.mesa_batch.specs.Numbers.{known_of}
 use Rattle.mesa_model.specs.Pins.{store_at}
 use Rattle.mesa_model.specs.Versions.{common_oldest}

@@ -1,4 +1,4 @@
-use Rattle.std.proofs.Common.{◌≡◌, ◌∙◌, ◌<◌, ap, map, subst, sym}
+use Rattle.std.proofs.Common.{◌≡◌, ◌∙◌, ap, map, subst, sym}
 use Rattle.mesa_batch.specs.Numbers.{known_of}
 use Rattle.mesa_model.specs.Versions.{common_oldest}
 use Rattle.mesa_test_oracle.specs.Kept.{Versioned, from_of, greatest_of}

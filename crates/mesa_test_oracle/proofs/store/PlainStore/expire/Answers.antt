@@ -1,8 +1,8 @@
-use Rattle.std.proofs.Common.{◌≡◌, ◌∙◌, ◌-◌, ap, subst, map, length, length-drop, arith}
+use Rattle.std.proofs.Common.{◌≡◌, ◌∙◌, ◌-◌, ap, subst, map, arith}
 use Rattle.mesa_batch.specs.Numbers.{known_of}
 use Rattle.mesa_model.specs.Versions.{store_from}
 use Rattle.mesa_test_oracle.specs.Kept.{Versioned, from_of, tables_in}
-use Rattle.mesa_test_oracle.proofs.Stores.{kept_from, raised, tables_from}
+use Rattle.mesa_test_oracle.proofs.Stores.{kept_from, tables_from}
 use Rattle.mesa_test_oracle.proofs.store.PlainStore.expire.Goals as goal
 
 pub invariant_of-self : goal.invariant_of-self

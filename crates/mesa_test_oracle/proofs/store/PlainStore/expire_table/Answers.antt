@@ -2,7 +2,6 @@ use Rattle.std.proofs.Common.{◌≡◌, ◌∙◌, ◌<◌, ◌≤◌, ap, arit
 use Rattle.mesa_batch.specs.Numbers.{known_of}
 use Rattle.mesa_model.specs.Versions.{table_from}
 use Rattle.mesa_model.specs.Warehouse.{Table, table_at}
-use Rattle.mesa_test_oracle.specs.Found.{known_at}
 use Rattle.mesa_test_oracle.specs.Kept.{Versioned, from_of, oldest_in, tables_in, with_table_from}
 use Rattle.mesa_test_oracle.proofs.Pinnings.{length-tables_in}
 use Rattle.mesa_test_oracle.proofs.Seen.{table_kept}

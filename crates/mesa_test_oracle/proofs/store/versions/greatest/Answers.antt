@@ -1,4 +1,4 @@
-use Rattle.std.proofs.Common.{◌<◌, arith, length}
+use Rattle.std.proofs.Common.{◌<◌, length}
 use Rattle.mesa_test_oracle.specs.Kept.{greatest_of}
 use Rattle.mesa_test_oracle.proofs.Raising.{greatest_step}
 use Rattle.mesa_test_oracle.proofs.store.versions.greatest.Goals as goal
