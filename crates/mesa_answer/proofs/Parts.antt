@@ -11,11 +11,10 @@ use Rattle.mesa_key.specs.Spelling.{key_of}
 use Rattle.mesa_key.proofs.Columns.{both}
 use Rattle.mesa_schema.specs.declared.rows.Row.{Row}
 use Rattle.mesa_schema.specs.declared.columns.ValueColumn.{ValueColumn}
-use Rattle.mesa_schema.specs.Columns.{Columns, aggs_of, chosen, kinds_of}
+use Rattle.mesa_schema.specs.Columns.{Columns, aggs_of, chosen, is_replace, kinds_of}
 use Rattle.mesa_schema.specs.Laws.{AreAllKeys}
 use Rattle.mesa_schema.specs.Rows.{AreRowsOf, IsRowOf}
 use Rattle.mesa_schema.specs.Folded.{folded, folded_at, grouped, keys_of, regrouped, rows_of}
-use Rattle.mesa_schema.specs.Views.{is_replace}
 use Rattle.mesa_schema.proofs.FilteredFolds.{filtered_folds}
 use Rattle.mesa_schema.proofs.Folds.{folded-folded}
 use Rattle.mesa_schema.proofs.GroupedFolds.{groups_folded}

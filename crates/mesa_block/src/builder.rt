@@ -9,7 +9,7 @@ use crate::layout::{row_size, widths};
 use crate::writing::{kinds, put_head, put_keys, put_values};
 use crate::{Width, is_full};
 use mesa_list::{Fields, TryCopy};
-use mesa_schema::{Amount, Format, KeyType, LentRow, Schema, reads_back};
+use mesa_columns::{Amount, Format, KeyType, LentRow, Schema, reads_back};
 use std::alloc::{AllocError, Global};
 use std::marker::Model;
 use std::mem::swap;

@@ -8,7 +8,7 @@ ghost use Rattle.mesa_block.specs.Reading.{bad_text, bad_column, is_less, out_of
 
 use crate::column::Column;
 use crate::flat::Block;
-use mesa_schema::{KeyText, KeyType, compare};
+use mesa_columns::{KeyText, KeyType, compare};
 use std::cmp::Ordering;
 
 // The first cell that is no text key.

@@ -4,7 +4,7 @@ ghost use Rattle.mesa_block.specs.Cells.{pieces};
 ghost use Rattle.mesa_block.specs.Layout.{size_of};
 
 use crate::Width;
-use mesa_schema::KeyType;
+use mesa_columns::KeyType;
 use std::alloc::{AllocError, Global};
 use std::marker::Model;
 

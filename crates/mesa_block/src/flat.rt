@@ -9,7 +9,7 @@ ghost use Rattle.mesa_block.specs.Reading.{key_at, values_at, rows_of, sealed};
 use crate::Width;
 use crate::column::{Column, Numbers};
 use mesa_list::Fields;
-use mesa_schema::{Amount, KeyType, LentRow, Lift, Row};
+use mesa_columns::{Amount, KeyType, LentRow, Lift, Row};
 use std::alloc::{AllocError, Global};
 use std::marker::Model;
 

@@ -9,7 +9,7 @@ ghost use Rattle.mesa_block.specs.Reading.{block_at};
 ghost use Rattle.mesa_block.specs.Rows.{AreRows, IsRow};
 ghost use Rattle.mesa_block.specs.Spelling.{block};
 
-use mesa_schema::reads_back;
+use mesa_columns::reads_back;
 
 /// The rows of a block are read again from its bytes.
 pub fn reads_blocks()

@@ -2,7 +2,7 @@
 ghost use Rattle.std.specs.Prelude.{◌≡◌, IfOk};
 ghost use Rattle.mesa_block.specs.Layout.{size_of, values_size, width_of, widths_in};
 
-use mesa_schema::{Agg, Format, Schema};
+use mesa_columns::{Agg, Format, Schema};
 use std::alloc::{AllocError, Global};
 
 /// How many bytes a value takes in a block.

@@ -13,7 +13,7 @@ use crate::flat::{Block, made_rows};
 use crate::layout::widths;
 use crate::writing::kinds;
 use crate::{BlockError, MOST_BYTES, MOST_ROWS, Width};
-use mesa_schema::{Format, KeyType, Schema, reads_back, reads_spellings};
+use mesa_columns::{Format, KeyType, Schema, reads_back, reads_spellings};
 use std::alloc::{AllocError, Global};
 
 // A piece, and the bytes after it.

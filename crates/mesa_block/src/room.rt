@@ -4,7 +4,7 @@ ghost use Rattle.mesa_schema.specs.Lent.{lent};
 ghost use Rattle.mesa_block.specs.Fill.{is_full as is_full_of};
 
 use crate::{MOST_BYTES, MOST_ROWS};
-use mesa_schema::LentRow;
+use mesa_columns::LentRow;
 
 /// Whether a block with so many rows and so many bytes has no room for the row, whose values take so many bytes.
 pub fn is_full(size: usize, rows: usize, len: usize, row: LentRow) -> bool

@@ -11,7 +11,7 @@ ghost use Rattle.mesa_block.specs.Spelling.{cell, front, lengths, rest, column, 
 
 use crate::Width;
 use mesa_list::Fields;
-use mesa_schema::{Amount, Column, ColumnValue, KeyColumns, KeyType, Schema};
+use mesa_columns::{Amount, Column, ColumnValue, KeyColumns, KeyType, Schema};
 use std::alloc::{AllocError, Global};
 use std::mem::swap;
 

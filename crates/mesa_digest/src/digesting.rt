@@ -5,7 +5,7 @@ ghost use Rattle.mesa_digest.specs.Digests.{digests_of};
 
 use crate::hashing::{add_row, mark};
 use crate::naming::{Naming, spell};
-use mesa_schema::{RowList, Schema};
+use mesa_columns::{RowList, Schema};
 use sha2::{Digest, Sha256};
 use std::alloc::{AllocError, Global};
 

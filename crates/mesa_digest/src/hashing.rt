@@ -3,7 +3,7 @@ ghost use Rattle.std.specs.Prelude.{◌≡◌, ◌++◌, ℕ, List};
 ghost use Rattle.sha2.specs.Hashers.{Holds256};
 ghost use Rattle.mesa_digest.specs.Digests.{amount_bytes, mark_of, row_bytes};
 
-use mesa_schema::Row;
+use mesa_columns::Row;
 use mesa_value::Amount;
 use sha2::{Digest, Sha256};
 

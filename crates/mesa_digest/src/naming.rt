@@ -9,7 +9,7 @@ ghost use Rattle.mesa_digest.specs.Places.{IsOrder, cell_at, count_of};
 use crate::hashing::bytes_of;
 use crate::ordering::{column_order, label};
 use mesa_key::{Column, KeyColumns, KeyType};
-use mesa_schema::{Row, Schema};
+use mesa_columns::{Row, Schema};
 use std::alloc::{AllocError, Global};
 
 // How rows of a schema are spelled: the types of its key columns, and the places of its columns in the order of their names.

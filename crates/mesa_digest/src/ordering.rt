@@ -5,7 +5,7 @@ ghost use Rattle.std.specs.Ordering.{is_le};
 ghost use Rattle.mesa_digest.specs.Digests.{label_cmp};
 ghost use Rattle.mesa_digest.specs.Places.{IsOrder, count_of, label_at, place_among};
 
-use mesa_schema::Schema;
+use mesa_columns::Schema;
 use std::alloc::{AllocError, Global};
 
 // The places of a schema's columns in the order of their names.

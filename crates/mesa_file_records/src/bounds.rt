@@ -15,7 +15,7 @@ use mesa_disk::Made;
 use mesa_list::TryCopy;
 use mesa_model::Refusal;
 use mesa_open_files::PreparedPart;
-use mesa_schema::Totals;
+use mesa_columns::Totals;
 
 // Refuses a batch with which a sum column would pass its bound: the first, by the tables' numbers.
 pub(crate) fn check_bounds<M: Made>(

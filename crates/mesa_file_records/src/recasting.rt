@@ -24,7 +24,7 @@ use mesa_file::FileId;
 use mesa_list::{Items, TryCopy};
 use mesa_open_files::{MadeFile, Recast, Recasted, RecastedRange};
 use mesa_record::{CheckpointSingle, Files, RecastBase, Recasting, Record};
-use mesa_schema::Totals;
+use mesa_columns::Totals;
 use std::alloc::{AllocError, Global};
 use std::collections::VecDeque;
 

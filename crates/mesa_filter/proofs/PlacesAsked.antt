@@ -10,8 +10,7 @@ use Rattle.mesa_list.specs.Bytes.{same_bytes}
 use Rattle.mesa_list.specs.Split.{split_at}
 use Rattle.mesa_schema.specs.declared.columns.KeyColumn.{KeyColumn}
 use Rattle.mesa_schema.specs.declared.columns.ValueColumn.{ValueColumn}
-use Rattle.mesa_schema.specs.Columns.{Columns, chosen, key_names}
-use Rattle.mesa_schema.specs.Views.{is_replace}
+use Rattle.mesa_schema.specs.Columns.{Columns, chosen, is_replace, key_names}
 use Rattle.mesa_filter.specs.Asked.{group_columns, places_of}
 use Rattle.mesa_filter.specs.Query.{are_places}
 

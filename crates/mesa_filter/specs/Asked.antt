@@ -6,8 +6,7 @@ use Rattle.mesa_list.specs.Checks.{◌>>=◌, ◌>>◌, refused_as, each_of}
 use Rattle.mesa_list.specs.Split.{entries_of}
 use Rattle.mesa_list.specs.Bytes.{same_bytes}
 use Rattle.mesa_schema.specs.declared.columns.ValueColumn.{ValueColumn}
-use Rattle.mesa_schema.specs.Columns.{Columns, place_of, key_names, value_names, chosen}
-use Rattle.mesa_schema.specs.Views.{is_replace}
+use Rattle.mesa_schema.specs.Columns.{Columns, chosen, is_replace, key_names, place_of, value_names}
 use Rattle.mesa_filter.specs.declared.words.QueryWords.{QueryWords}
 use Rattle.mesa_filter.specs.declared.terms.Term.{Term}
 use Rattle.mesa_filter.specs.declared.terms.FilterError.{FilterError}

@@ -17,7 +17,7 @@ use crate::parsing::terms;
 use crate::query::kinds_at;
 use crate::{FilterError, Term};
 use mesa_list::{Items, TryCopy};
-use mesa_schema::{KeyType, Schema};
+use mesa_columns::{KeyType, Schema};
 use std::alloc::{AllocError, Global};
 use std::marker::Model;
 

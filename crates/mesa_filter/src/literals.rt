@@ -7,7 +7,7 @@ ghost use Rattle.mesa_list.specs.Split.{split_at};
 
 use crate::Comparison;
 use mesa_list::{Items, Parts};
-use mesa_schema::{KeyType, KeyValue, Words, key_value};
+use mesa_columns::{KeyType, KeyValue, Words, key_value};
 use std::alloc::{AllocError, Global};
 
 /// How many literals a term may have.

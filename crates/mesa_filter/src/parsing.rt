@@ -7,7 +7,7 @@ ghost use Rattle.mesa_filter.specs.Filter.{are_within, operator_of, term_of, fil
 use crate::literals::{literals, values};
 use crate::{Comparison, FilterError, Term};
 use mesa_list::{Items, Parts};
-use mesa_schema::{Schema, is_name_byte, place_of};
+use mesa_columns::{Schema, is_name_byte, place_of};
 use std::alloc::{AllocError, Global};
 
 /// How many terms a filter may have.

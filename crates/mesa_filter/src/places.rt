@@ -8,7 +8,7 @@ ghost use Rattle.mesa_filter.specs.Query.{are_places};
 
 use crate::QueryError;
 use mesa_list::{Items, Parts};
-use mesa_schema::{Name, Named, Schema, place_of};
+use mesa_columns::{Name, Named, Schema, place_of};
 use std::alloc::{AllocError, Global};
 
 /// Places of columns among those of their sort.

@@ -13,7 +13,7 @@ use crate::asking::{Asking, what_is_asked};
 use crate::resuming::{prefix, resume_key};
 use crate::{Filter, QueryError, QueryWords};
 use mesa_list::{Items, TryCopy};
-use mesa_schema::{KeyBytes, KeyType, Name, Schema, Words};
+use mesa_columns::{KeyBytes, KeyType, Name, Schema, Words};
 use std::alloc::{AllocError, Global};
 use std::marker::Model;
 

@@ -12,7 +12,7 @@ use crate::literals::hex_value;
 use hex::FromHexError;
 use itoa::Buffer;
 use mesa_list::Items;
-use mesa_schema::{KeyBytes, KeyColumn, KeyType, Name, Schema, Words, spells_key};
+use mesa_columns::{KeyBytes, KeyColumn, KeyType, Name, Schema, Words, spells_key};
 use std::alloc::{AllocError, Global};
 
 // The first four parts of a query's resume keys: relation, version, epoch and group columns, each with a `/` behind it.

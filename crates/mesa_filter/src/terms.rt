@@ -1,6 +1,6 @@
 // The terms of a filter.
 use mesa_list::Items;
-use mesa_schema::KeyValue;
+use mesa_columns::KeyValue;
 
 /// How a column's value compares with a literal.
 #[derive(Clone, Copy, Debug, PartialEq, Eq)]

@@ -11,11 +11,11 @@ use Rattle.mesa_invariant_spec.specs.mesa_schema.declared.schema.SchemaError.The
 use Rattle.mesa_invariant_spec.specs.mesa_schema.declared.views.ViewError.{ViewError}
 use Rattle.mesa_invariant_spec.specs.mesa_schema.declared.views.ViewError.TheVariants as view
 use Rattle.mesa_invariant_spec.specs.mesa_schema.declared.rows.Row.{Row}
-use Rattle.mesa_invariant_spec.specs.mesa_schema.Columns.{Columns, key_names, value_names, places_in}
+use Rattle.mesa_invariant_spec.specs.mesa_schema.Columns.{Columns, is_replace, key_names, places_in, value_names}
 use Rattle.mesa_invariant_spec.specs.mesa_schema.Changes.{columns_of}
 use Rattle.mesa_invariant_spec.specs.mesa_schema.Names.{has_name, is_name, repeated}
 use Rattle.mesa_invariant_spec.specs.mesa_schema.Schema.{schema_checked}
-use Rattle.mesa_invariant_spec.specs.mesa_schema.Views.{choice_checked, is_replace, max_views, values_named, view_checked}
+use Rattle.mesa_invariant_spec.specs.mesa_schema.Views.{choice_checked, max_views, values_named, view_checked}
 use Rattle.mesa_invariant_spec.proofs.mesa_schema.Lists.{all_append, all_found, all_map, all_set}
 use Rattle.mesa_invariant_spec.specs.mesa_batch.declared.words.RowWords.{RowWords}
 use Rattle.mesa_invariant_spec.specs.mesa_batch.declared.words.BatchError.{BatchError}

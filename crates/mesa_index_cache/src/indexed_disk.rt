@@ -6,7 +6,7 @@ use mesa_delta::Index;
 use mesa_disk::{Area, Disk, DiskFailed, ListFault, Made, OpenFault};
 use mesa_file::{FileId, FileRef};
 use mesa_open_files::DeltaDisk;
-use mesa_schema::Schema;
+use mesa_columns::Schema;
 use std::alloc::Global;
 use std::marker::{Model, PhantomData};
 

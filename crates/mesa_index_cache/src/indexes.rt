@@ -9,7 +9,7 @@ ghost use Rattle.mesa_index_cache.specs.Kept.{AreWith, AreWithout, index_kept};
 use crate::kept::Kept;
 use mesa_delta::Index;
 use mesa_file::{FileId, FileRef};
-use mesa_schema::Schema;
+use mesa_columns::Schema;
 use std::alloc::Global;
 use std::collections::BTreeMap;
 

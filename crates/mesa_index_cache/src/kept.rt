@@ -9,7 +9,7 @@ use crate::same::same_columns;
 use mesa_delta::Index;
 use mesa_file::FileRef;
 use mesa_key::short;
-use mesa_schema::Schema;
+use mesa_columns::Schema;
 
 /// The index of a file, and the SHA-256 of the tail that tells it.
 #[derive(Drop)]

@@ -1,7 +1,7 @@
 // Whether the columns of two schemas are the same. Takes no memory.
 ghost use Rattle.std.specs.Prelude.{◌≡◌, ◌↔◌, IsTrue};
 
-use mesa_schema::{KeyColumn, Schema, ValueColumn};
+use mesa_columns::{KeyColumn, Schema, ValueColumn};
 
 pub(crate) fn same_columns(a: &Schema, b: &Schema) -> bool
     ensures { IsTrue result ↔ (a.now ≡ b.now) }

@@ -4,9 +4,9 @@ use Rattle.std.specs.List.{list_all, list_any, enumerate_from}
 use Rattle.mesa_list.specs.Checks.{◌>>=◌, refused_as}
 use Rattle.mesa_schema.specs.declared.columns.ValueColumn.{ValueColumn}
 use Rattle.mesa_schema.specs.declared.views.View.{View}
-use Rattle.mesa_schema.specs.Columns.{Columns}
+use Rattle.mesa_schema.specs.Columns.{Columns, is_replace}
 use Rattle.mesa_schema.specs.Changes.{columns_of}
-use Rattle.mesa_schema.specs.Views.{is_replace, view_key_places, view_value_places}
+use Rattle.mesa_schema.specs.Views.{view_key_places, view_value_places}
 use Rattle.mesa_filter.specs.declared.terms.Comparison.{Comparison}
 use Rattle.mesa_filter.specs.declared.terms.Comparison.TheVariants as op
 use Rattle.mesa_filter.specs.declared.terms.Term.{Term}

@@ -3,7 +3,7 @@ use mesa_file::Damage;
 use mesa_filter::VersionWord;
 use mesa_key::KeyBytes;
 use mesa_list::Items;
-use mesa_schema::{Name, RowList};
+use mesa_columns::{Name, RowList};
 
 /// A page of a query's answer: its version, its rows in the order of their group keys, and where
 /// further rows follow the key after which they begin.

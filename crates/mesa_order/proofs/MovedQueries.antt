@@ -8,9 +8,9 @@ use Rattle.mesa_schema.specs.declared.columns.KeyColumn.{KeyColumn}
 use Rattle.mesa_schema.specs.declared.columns.ValueColumn.{ValueColumn}
 use Rattle.mesa_schema.specs.declared.views.View.{View}
 use Rattle.mesa_schema.specs.declared.views.ViewError.TheVariants.{NoKey, NoValue}
-use Rattle.mesa_schema.specs.Columns.{Columns, chosen, key_names, kinds_of, value_names}
+use Rattle.mesa_schema.specs.Columns.{Columns, chosen, is_replace, key_names, kinds_of, value_names}
 use Rattle.mesa_schema.specs.Lineages.{is_view_of}
-use Rattle.mesa_schema.specs.Views.{is_replace, values_named, view_columns, view_key_places, view_value_places}
+use Rattle.mesa_schema.specs.Views.{values_named, view_columns, view_key_places, view_value_places}
 use Rattle.mesa_schema.proofs.ChosenAgain.{both, choice_there, places_within}
 use Rattle.mesa_schema.proofs.GroupKeys.{chosen_mapped}
 use Rattle.mesa_schema.proofs.Outlasting.{asks}

@@ -10,7 +10,7 @@ use crate::failed::Failed;
 use mesa_key::KeyType;
 use mesa_list::{Items, Parts};
 use mesa_model::{KeyWords, ValueWords};
-use mesa_schema::Fields;
+use mesa_columns::Fields;
 use mesa_script::Reason;
 use mesa_value::Agg;
 use std::alloc::{AllocError, Global};

@@ -10,7 +10,7 @@ use crate::number_in;
 use clap::ArgMatches;
 use clap::error::ErrorKind;
 use mesa_list::Items;
-use mesa_schema::Words;
+use mesa_columns::Words;
 use std::alloc::{AllocError, Global};
 
 /// The greatest seed.

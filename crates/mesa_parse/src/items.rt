@@ -19,7 +19,7 @@ use mesa_filter::QueryWords;
 use mesa_model::{
     AlterWords, Command, ExplainWords, RecastWords, TableWords, ViewWords, WorkWords,
 };
-use mesa_schema::Words;
+use mesa_columns::Words;
 use mesa_script::Reason;
 use std::alloc::{AllocError, Global};
 

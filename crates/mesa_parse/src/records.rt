@@ -8,7 +8,7 @@ ghost use Rattle.mesa_parse.specs.Left.{IsBetween, records_left};
 
 use csv::{ByteRecord, Reader, ReaderBuilder};
 use mesa_list::Items;
-use mesa_schema::Words;
+use mesa_columns::Words;
 use mesa_script::ScriptError;
 use std::alloc::{AllocError, Global};
 

@@ -6,11 +6,11 @@ use Rattle.mesa_catalog_table.specs.mesa_value.Agg.{IsOrderless}
 use Rattle.mesa_catalog_table.specs.mesa_value.declared.Agg.{Agg}
 use Rattle.mesa_catalog_table.specs.mesa_value.declared.Agg.TheVariants.{Sum, Min, Max, Replace}
 use Rattle.mesa_schema.specs.Changes.{Lineage, columns_of, epoch_of, lifted}
-use Rattle.mesa_schema.specs.Columns.{Columns, aggs_of, chosen, key_names, value_names}
+use Rattle.mesa_schema.specs.Columns.{Columns, aggs_of, chosen, is_replace, key_names, value_names}
 use Rattle.mesa_schema.specs.Folded.{folded, folded_at, keys_of, rows_of}
 use Rattle.mesa_schema.specs.Lineages.{is_view_of}
 use Rattle.mesa_schema.specs.Rows.{AreRowsOf}
-use Rattle.mesa_schema.specs.Views.{choice_checked, is_replace, values_named, view_columns, view_key_places, view_rows, view_value_places}
+use Rattle.mesa_schema.specs.Views.{choice_checked, values_named, view_columns, view_key_places, view_rows, view_value_places}
 use Rattle.mesa_schema.specs.declared.columns.ValueColumn.{ValueColumn}
 use Rattle.mesa_schema.specs.declared.rows.Row.{Row}
 use Rattle.mesa_schema.specs.declared.views.View.{View}

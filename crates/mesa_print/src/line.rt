@@ -4,7 +4,7 @@ ghost use Rattle.mesa_filter.specs.Hex.{hex_of};
 ghost use Rattle.mesa_print.specs.Lines.{Puts};
 
 use itoa::Buffer;
-use mesa_schema::Name;
+use mesa_columns::Name;
 
 /// The room for a head line, in bytes: no head line is longer.
 pub const HEAD_ROOM: usize = 512;

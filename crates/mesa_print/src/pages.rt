@@ -12,7 +12,7 @@ use csv::ByteRecord;
 use mesa_key::KeyType;
 use mesa_list::Items;
 use mesa_model::Page;
-use mesa_schema::Row;
+use mesa_columns::Row;
 use mesa_script::Rendered;
 use std::alloc::{AllocError, Global};
 

@@ -5,7 +5,7 @@ ghost use Rattle.mesa_print.specs.Lines.{Puts};
 
 use crate::line::Line;
 use mesa_model::Reply;
-use mesa_schema::Name;
+use mesa_columns::Name;
 
 impl Line<'_> {
     // Puts the head of a query's answer.

@@ -4,7 +4,7 @@ ghost use Rattle.mesa_record.specs.Reading.{stated_of};
 
 use crate::Files;
 use mesa_list::Items;
-use mesa_schema::{Change, KeyColumn, Name, Totals, ValueColumn, View};
+use mesa_columns::{Change, KeyColumn, Name, Totals, ValueColumn, View};
 
 /// A base or a cumulative. It has no files where it has no rows.
 #[derive(Drop)]

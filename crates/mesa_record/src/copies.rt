@@ -9,7 +9,7 @@ use crate::{
     Recasting, Record, ViewRef,
 };
 use mesa_list::{Items, TryCopy};
-use mesa_schema::{KeyColumn, Name, ValueColumn};
+use mesa_columns::{KeyColumn, Name, ValueColumn};
 use std::alloc::AllocError;
 
 impl TryCopy for ViewRef {

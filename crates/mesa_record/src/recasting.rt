@@ -12,7 +12,7 @@ use mesa_list::Items;
 use mesa_record_fields::{
     Cursor, Edition, RecordError, put_half, put_word, read_names, write_counted,
 };
-use mesa_schema::Name;
+use mesa_columns::Name;
 use std::alloc::{AllocError, Global};
 
 /// The base that a recast leaves. It has no files where it has no rows.

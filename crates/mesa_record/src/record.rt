@@ -6,7 +6,7 @@ ghost use Rattle.mesa_record.specs.declared.record.Record.TheVariants as record_
 use crate::{Checkpoint, Recasting};
 use mesa_file::FileRef;
 use mesa_list::Items;
-use mesa_schema::{Change, KeyColumn, Name, Totals, ValueColumn};
+use mesa_columns::{Change, KeyColumn, Name, Totals, ValueColumn};
 
 /// A view's file of a delta. A table's views are numbered from 0 in the order in which they were made.
 #[derive(Drop)]

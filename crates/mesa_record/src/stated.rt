@@ -17,7 +17,7 @@ use mesa_record_fields::{
     Cursor, Edition, Field, RecordError, put_half, put_word, read_change, read_key_columns,
     read_names, read_totals, read_value_columns, write_change, write_counted,
 };
-use mesa_schema::{Change, View};
+use mesa_columns::{Change, View};
 use std::alloc::{AllocError, Global};
 
 /// A field that stands in a checkpoint's lists.

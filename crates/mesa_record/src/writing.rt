@@ -15,7 +15,7 @@ use crate::{Part, Record, reads_records};
 use mesa_record_fields::{
     Edition, Field, put_half, put_word, write_change, write_counted, write_rising,
 };
-use mesa_schema::{Change, KeyColumn, Name, ValueColumn};
+use mesa_columns::{Change, KeyColumn, Name, ValueColumn};
 use std::alloc::{AllocError, Global};
 
 /// The bytes of a record.

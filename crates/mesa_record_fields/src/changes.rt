@@ -9,7 +9,7 @@ use crate::cursor::Cursor;
 use crate::field::Field;
 use mesa_key::{KeyText, KeyType, KeyValue};
 use mesa_list::Items;
-use mesa_schema::{Change, KeyColumn, ValueColumn};
+use mesa_columns::{Change, KeyColumn, ValueColumn};
 use std::alloc::{AllocError, Global};
 
 // ---- reading

@@ -6,7 +6,7 @@ use crate::RecordError;
 use crate::cursor::Cursor;
 use crate::field::read_fields;
 use mesa_list::Items;
-use mesa_schema::{KeyColumn, Name, ValueColumn};
+use mesa_columns::{KeyColumn, Name, ValueColumn};
 use std::alloc::Global;
 
 pub fn read_key_columns(

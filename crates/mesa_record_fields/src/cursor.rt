@@ -6,7 +6,7 @@ ghost use Rattle.mesa_schema.specs.Codes.{agg_of, kind_of};
 use crate::{Edition, RecordError};
 use mesa_key::{Amount, Format, KeyBytes, KeyType};
 use mesa_list::Items;
-use mesa_schema::{Name, NameError, agg_of_byte, kind_of_byte};
+use mesa_columns::{Name, NameError, agg_of_byte, kind_of_byte};
 use mesa_value::Agg;
 use std::alloc::Global;
 use std::marker::Model;

@@ -12,7 +12,7 @@ ghost use Rattle.mesa_record_fields.specs.Rules.{IsHalf, IsLong, IsNamed, IsTota
 use crate::RecordError;
 use crate::cursor::Cursor;
 use mesa_list::Items;
-use mesa_schema::{KeyColumn, Name, ValueColumn, agg_byte, kind_byte};
+use mesa_columns::{KeyColumn, Name, ValueColumn, agg_byte, kind_byte};
 use mesa_value::Amount;
 use std::alloc::{AllocError, Global};
 

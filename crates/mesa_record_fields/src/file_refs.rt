@@ -10,7 +10,7 @@ use crate::{Edition, RecordError};
 use mesa_file::{FileId, FileRef};
 use mesa_key::{Format, Values};
 use mesa_list::Items;
-use mesa_schema::Totals;
+use mesa_columns::Totals;
 use std::alloc::{AllocError, Global};
 
 // ---- reading

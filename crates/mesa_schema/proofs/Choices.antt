@@ -8,9 +8,9 @@ use Rattle.mesa_schema.specs.declared.columns.ValueColumn.{ValueColumn}
 use Rattle.mesa_schema.specs.declared.views.ViewError.{ViewError}
 use Rattle.mesa_schema.specs.declared.views.ViewError.TheVariants.{NameTwice}
 use Rattle.mesa_schema.specs.Names.{has_name, repeated}
-use Rattle.mesa_schema.specs.Columns.{chosen, place_of, places_in}
+use Rattle.mesa_schema.specs.Columns.{chosen, is_replace, place_of, places_in}
 use Rattle.mesa_schema.proofs.Places.{place_named}
-use Rattle.mesa_schema.specs.Views.{choice_checked, is_replace}
+use Rattle.mesa_schema.specs.Views.{choice_checked}
 
 -- Where all names are there, and some are: whether one is repeated decides.
 pub choice_left : (names : List (List ℕ)) (none : ViewError) (asked : List (List ℕ)) (t : Bool) → list_all (λ name. has_name name names) asked ≡ true → (length asked == 0) ≡ false → is_some (repeated asked) ≡ t

@@ -11,10 +11,10 @@ use Rattle.mesa_schema.specs.declared.columns.KeyColumn.{KeyColumn}
 use Rattle.mesa_schema.specs.declared.columns.ValueColumn.{ValueColumn}
 use Rattle.mesa_schema.specs.declared.views.View.{View}
 use Rattle.mesa_schema.specs.declared.views.ViewError.TheVariants.{NoKey, NoValue}
-use Rattle.mesa_schema.specs.Columns.{Columns, chosen, key_names, places_in, value_names}
+use Rattle.mesa_schema.specs.Columns.{Columns, chosen, is_replace, key_names, places_in, value_names}
 use Rattle.mesa_schema.specs.Schema.{is_schema}
 use Rattle.mesa_schema.specs.Changes.{Lineage, columns_after, columns_of, drop_checked, epoch_of, refuse_used}
-use Rattle.mesa_schema.specs.Views.{choice_checked, is_replace, values_named, view_checked}
+use Rattle.mesa_schema.specs.Views.{choice_checked, values_named, view_checked}
 use Rattle.mesa_schema.specs.Lineages.{IsKept, IsLineage, is_view_of}
 
 -- no replace column was found

@@ -12,8 +12,8 @@ use Rattle.mesa_schema.specs.declared.rows.Row.{Row}
 use Rattle.mesa_schema.specs.declared.views.View.{View}
 use Rattle.mesa_schema.specs.declared.views.ViewError.{ViewError}
 use Rattle.mesa_schema.specs.declared.views.ViewError.TheVariants.{NoKey, NoValue, ReplaceInView}
-use Rattle.mesa_schema.specs.Columns.{Columns, aggs_of, chosen, key_names, value_names}
-use Rattle.mesa_schema.specs.Views.{choice_checked, is_replace, values_named, view_columns, view_key_places, view_rows, view_value_places}
+use Rattle.mesa_schema.specs.Columns.{Columns, aggs_of, chosen, is_replace, key_names, value_names}
+use Rattle.mesa_schema.specs.Views.{choice_checked, values_named, view_columns, view_key_places, view_rows, view_value_places}
 use Rattle.mesa_schema.specs.Lineages.{is_view_of}
 use Rattle.mesa_schema.specs.Folded.{folded, regrouped, rows_of}
 use Rattle.mesa_schema.specs.Rows.{AreRowsOf, IsRowOf}

@@ -10,8 +10,7 @@ use Rattle.mesa_schema.specs.declared.columns.KeyColumn.{KeyColumn}
 use Rattle.mesa_schema.specs.declared.columns.ValueColumn.{ValueColumn}
 use Rattle.mesa_schema.specs.declared.rows.Row.{Row}
 use Rattle.mesa_schema.specs.declared.views.ViewError.TheVariants.{NoKey}
-use Rattle.mesa_schema.specs.Columns.{Columns, aggs_of, chosen, key_names}
-use Rattle.mesa_schema.specs.Views.{is_replace}
+use Rattle.mesa_schema.specs.Columns.{Columns, aggs_of, chosen, is_replace, key_names}
 use Rattle.mesa_schema.specs.Folded.{folded, folded_at, grouped, keys_of, regrouped, rows_of}
 use Rattle.mesa_schema.specs.Laws.{AreAllKeys}
 use Rattle.mesa_schema.specs.Rows.{AreRowsOf, keys_rise}

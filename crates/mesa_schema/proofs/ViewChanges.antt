@@ -21,9 +21,9 @@ use Rattle.mesa_schema.specs.declared.views.ViewError.TheVariants.{NoKey, NoValu
 use Rattle.mesa_schema.specs.declared.changes.Change.{Change}
 use Rattle.mesa_schema.specs.declared.changes.Change.TheVariants.{AddKey, AddValue, DropValue}
 use Rattle.mesa_schema.specs.Names.{has_name}
-use Rattle.mesa_schema.specs.Columns.{Columns, aggs_of, chosen, key_names, kinds_of, place_of, places_in, value_names}
+use Rattle.mesa_schema.specs.Columns.{Columns, aggs_of, chosen, is_replace, key_names, kinds_of, place_of, places_in, value_names}
 use Rattle.mesa_schema.specs.Changes.{Lineage, changed, columns_of, lifted_once, rule_checked, without}
-use Rattle.mesa_schema.specs.Views.{choice_checked, is_replace, values_named, view_key_places, view_rows, view_value_places}
+use Rattle.mesa_schema.specs.Views.{choice_checked, values_named, view_key_places, view_rows, view_value_places}
 use Rattle.mesa_schema.specs.Lineages.{is_view_of}
 use Rattle.mesa_schema.specs.Folded.{folded, regrouped}
 use Rattle.mesa_schema.specs.Rows.{AreRowsOf, IsRowOf}

@@ -1,7 +1,8 @@
 -- The columns of a table or a view, and their places.
-use Rattle.std.specs.Prelude.{ℕ, List, map, Option, slice_get, position, filter_map}
+use Rattle.std.specs.Prelude.{ℕ, List, map, Bool, false, true, Option, slice_get, position, filter_map}
 use Rattle.mesa_key.specs.mesa_list.Bytes.{same_bytes}
 use Rattle.mesa_key.specs.mesa_value.declared.Agg.{Agg}
+use Rattle.mesa_key.specs.mesa_value.declared.Agg.TheVariants as agg
 use Rattle.mesa_key.specs.declared.KeyType.{KeyType}
 use Rattle.mesa_schema.specs.declared.columns.KeyColumn.{KeyColumn}
 use Rattle.mesa_schema.specs.declared.columns.ValueColumn.{ValueColumn}
@@ -22,6 +23,10 @@ kinds_of s = map (λ (c : KeyColumn). c.kind) s.keys
 
 abbrev pub aggs_of : Columns → List Agg
 aggs_of s = map (λ (c : ValueColumn). c.agg) s.values
+
+-- whether the newest of the values of a key counts
+abbrev pub is_replace : ValueColumn → Bool
+is_replace column = elim (column.agg) [ agg.Sum ↦ false | agg.Min ↦ false | agg.Max ↦ false | agg.Replace ↦ true ]
 
 -- the place of a name among names
 abbrev pub place_of : List ℕ → List (List ℕ) → Option ℕ

@@ -11,8 +11,8 @@ use Rattle.mesa_schema.specs.declared.recasts.RecastError.{RecastError}
 use Rattle.mesa_schema.specs.declared.recasts.RecastError.TheVariants as no
 use Rattle.mesa_schema.specs.Changes.{Lineage, columns_of, epoch_of, max_changes}
 use Rattle.mesa_schema.specs.Names.{has_name}
-use Rattle.mesa_schema.specs.Columns.{Columns, chosen, key_names, places_in, value_names}
-use Rattle.mesa_schema.specs.Views.{choice_checked, is_replace}
+use Rattle.mesa_schema.specs.Columns.{Columns, chosen, is_replace, key_names, places_in, value_names}
+use Rattle.mesa_schema.specs.Views.{choice_checked}
 use Rattle.mesa_schema.specs.Folded.{grouped}
 
 -- The columns that a recast asks for, by name and in this order.

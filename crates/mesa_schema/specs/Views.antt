@@ -1,24 +1,20 @@
 -- Views: which are allowed, their columns and their content.
-use Rattle.std.specs.Prelude.{ℕ, List, [], ◌∷◌, ◌++◌, length, find, Bool, ◌==◌, true, false, Option, None, Some, is_some, Result, Ok, Err}
+use Rattle.std.specs.Prelude.{ℕ, List, [], ◌∷◌, ◌++◌, length, find, ◌==◌, Option, None, Some, is_some, Result, Ok, Err}
 use Rattle.std.specs.List.{list_all}
 use Rattle.mesa_key.specs.mesa_list.Checks.{◌>>◌, refuse_if, refuse_unless}
-use Rattle.mesa_key.specs.mesa_value.declared.Agg.TheVariants as agg
 use Rattle.mesa_schema.specs.declared.columns.ValueColumn.{ValueColumn}
 use Rattle.mesa_schema.specs.declared.rows.Row.{Row}
 use Rattle.mesa_schema.specs.declared.views.View.{View}
 use Rattle.mesa_schema.specs.declared.views.ViewError.{ViewError}
 use Rattle.mesa_schema.specs.declared.views.ViewError.TheVariants as no
 use Rattle.mesa_schema.specs.Names.{has_name, repeated}
-use Rattle.mesa_schema.specs.Columns.{Columns, key_names, value_names, places_in, chosen}
+use Rattle.mesa_schema.specs.Columns.{Columns, is_replace, key_names, value_names, places_in, chosen}
 use Rattle.mesa_schema.specs.Changes.{Lineage}
 use Rattle.mesa_schema.specs.Folded.{grouped}
 
 -- how many views a table may have
 abbrev pub max_views : ℕ
 max_views = 8
-
-abbrev pub is_replace : ValueColumn → Bool
-is_replace column = elim (column.agg) [ agg.Sum ↦ false | agg.Min ↦ false | agg.Max ↦ false | agg.Replace ↦ true ]
 
 -- the value columns of these names
 abbrev pub values_named : Columns → List (List ℕ) → List ValueColumn

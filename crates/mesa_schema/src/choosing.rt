@@ -1,8 +1,8 @@
 // Columns that are chosen by their names, as those of a view are.
 ghost use Rattle.std.specs.Prelude.{◌≡◌, ◌<◌, IfOk, IfSome, length, map, find, option_and_then, option_map, slice_get};
 ghost use Rattle.mesa_schema.specs.declared.columns.ValueColumn.{ValueColumn as Column};
-ghost use Rattle.mesa_schema.specs.Columns.{chosen, places_in};
-ghost use Rattle.mesa_schema.specs.Views.{choice_checked, is_replace as replaces};
+ghost use Rattle.mesa_schema.specs.Columns.{chosen, is_replace as replaces, places_in};
+ghost use Rattle.mesa_schema.specs.Views.{choice_checked};
 
 use crate::{Name, Named, ValueColumn, ViewError, has_names, place_of, repeated_place};
 use mesa_key::TryCopy;

@@ -1,6 +1,6 @@
 // The columns of tables and views.
 ghost use Rattle.std.specs.Prelude.{◌≡◌};
-ghost use Rattle.mesa_schema.specs.Views.{is_replace as replaces};
+ghost use Rattle.mesa_schema.specs.Columns.{is_replace as replaces};
 
 use crate::Name;
 use mesa_key::{Agg, KeyType};

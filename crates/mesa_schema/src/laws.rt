@@ -1,30 +1,10 @@
-// What holds of every fold, grouping, lifted row and table, whichever function made them.
-ghost use Rattle.mesa_schema.specs.Laws.{CarriesFolds, CarriesForm, ChangedColumns, ChangedLineages, FiltersFold, FoldsForm, FoldsFull, FoldsRise, GroupsFolds, GroupsForm, GroupsRise, GroupsWhole, GroupsWholeFolds, KeepsForm, KeysGrow, LiftedFolds, LiftedForms, LiftedKeys, LiftedMore, LiftedNow, LiftedRise, LiftsFolds, NewLineages, PutsGiven, PutsOne, RecastLineages, RecastsFold, RecastsGoOn, RecastsForm, RecastsRise, Refolds, SameFolds, ViewedLineages, ViewsOutlast, ViewsOutlive};
+// What holds of every lifted row, recast and table, whichever function made them.
+ghost use Rattle.mesa_schema.specs.Laws.{CarriesFolds, CarriesForm, ChangedColumns, ChangedLineages, KeepsForm, KeysGrow, LiftedFolds, LiftedForms, LiftedKeys, LiftedMore, LiftedNow, LiftedRise, LiftsFolds, NewLineages, RecastLineages, RecastsFold, RecastsGoOn, RecastsForm, RecastsRise, ViewedLineages, ViewsOutlast, ViewsOutlive};
 
-/// Parts that stand one after the other may be folded first.
-pub fn folds_again()
-    ensures { Refolds }
-{}
-
-/// What a fold's rows are: they depend on the values at each key alone, their keys rise, and they have a value for each column.
-pub fn folds_by_key()
-    ensures same { SameFolds }
-    ensures rise { FoldsRise }
-    ensures full { FoldsFull }
-    ensures filtered { FiltersFold }
-{}
-
-/// What a row more makes of a fold.
-pub fn folds_go_on()
-    ensures one { PutsOne }
-    ensures given { PutsGiven }
-{}
-
-/// Rows may be lifted before folding or after it, and lifted and folded rows keep the form of their columns.
+/// Rows may be lifted before folding or after it, and lifted rows have the form of the later columns.
 pub fn lifts_folds()
     ensures folds { LiftsFolds }
     ensures lifted_form { KeepsForm }
-    ensures folded_form { FoldsForm }
 {}
 
 /// What rows of an epoch are at present.
@@ -36,23 +16,6 @@ pub fn lifts_to_present()
     ensures rise { LiftedRise }
     ensures now { LiftedNow }
     ensures more { LiftedMore }
-{}
-
-/// Rows may be folded before grouping or after it, where none of the value columns is a replace column.
-pub fn groups_folds()
-    ensures { GroupsFolds }
-{}
-
-/// Where all key columns are group columns, a group has one key, and rows may be folded before grouping or after it whatever their aggregations.
-pub fn groups_whole()
-    ensures keys { GroupsWhole }
-    ensures folds { GroupsWholeFolds }
-{}
-
-/// What grouped rows are: their keys rise, and they have the form of the columns that they are grouped to.
-pub fn groups_rise()
-    ensures rise { GroupsRise }
-    ensures form { GroupsForm }
 {}
 
 /// Tables follow the rules from their making on, through changes and when views are added.

@@ -9,6 +9,7 @@ mod columns;
 mod copies;
 mod epochs;
 mod evolving;
+mod folds;
 mod laws;
 mod lifting;
 mod named;
@@ -23,11 +24,8 @@ pub use changes::{Change, ChangeError};
 pub use codes::{agg_byte, agg_of_byte, kind_byte, kind_of_byte};
 pub use columns::{KeyColumn, ValueColumn};
 pub use evolving::{Evolving, MAX_CHANGES, MAX_VIEWS};
-pub use laws::{
-    folds_again, folds_by_key, folds_go_on, groups_folds, groups_rise, groups_whole, lifts_folds,
-    lifts_to_present, recasts_fold, rows_are_carried, tables_keep_rules, views_outlast,
-    views_outlive,
-};
+pub use folds::{folds_again, folds_by_key, folds_go_on, folds_keep_form, groups_folds, groups_rise, groups_whole};
+pub use laws::{lifts_folds, lifts_to_present, recasts_fold, rows_are_carried, tables_keep_rules, views_outlast, views_outlive};
 pub use lifting::Lift;
 pub use mesa_key::{
     Agg, Amount, Column, ColumnValue, Format, KeyBytes, KeyColumns, KeyText, KeyType, KeyValue,

@@ -10,7 +10,7 @@ use mesa_check::Verdict;
 use mesa_io::Sink;
 use mesa_key::KeyBytes;
 use mesa_print::Printer;
-use mesa_schema::Name;
+use mesa_columns::Name;
 
 // Prints a key in hexadecimal, in pieces.
 fn put_key<K: Sink>(printer: &mut Printer<K>, key: &[u8])

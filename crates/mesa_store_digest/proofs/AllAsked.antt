@@ -11,10 +11,9 @@ use Rattle.mesa_pick_files.specs.mesa_key.Spelling.{columns_of, key_of, value_sp
 use Rattle.mesa_pick_files.specs.mesa_schema.declared.columns.KeyColumn.{KeyColumn}
 use Rattle.mesa_pick_files.specs.mesa_schema.declared.columns.ValueColumn.{ValueColumn}
 use Rattle.mesa_pick_files.specs.mesa_schema.declared.rows.Row.{Row}
-use Rattle.mesa_pick_files.specs.mesa_schema.Columns.{Columns, aggs_of, chosen, kinds_of}
+use Rattle.mesa_pick_files.specs.mesa_schema.Columns.{Columns, aggs_of, chosen, is_replace, kinds_of}
 use Rattle.mesa_pick_files.specs.mesa_schema.Folded.{folded, regrouped}
 use Rattle.mesa_pick_files.specs.mesa_schema.Rows.{AreRowsOf, IsRowOf, keys_rise}
-use Rattle.mesa_pick_files.specs.mesa_schema.Views.{is_replace}
 use Rattle.mesa_pick_files.proofs.mesa_schema.GroupKeys.{columns_spelled, concat_spelled}
 use Rattle.mesa_filter.specs.Asked.{Asked, asked_of, filter_refusal, places_below, refuse_replace, replace_asked}
 use Rattle.mesa_filter.specs.Filter.{filter_of, filtered}

@@ -27,7 +27,7 @@ use mesa_delta::{Ahead, FileError, Input};
 use mesa_disk::FileReader;
 use mesa_filter::Filter;
 use mesa_list::TryCopy;
-use mesa_schema::{RowList, Schema};
+use mesa_columns::{RowList, Schema};
 use std::alloc::Global;
 
 /// The rows of the view of a number that an input's rows come to, lifted to the present and grouped. Beside them at most a block of the file is held.

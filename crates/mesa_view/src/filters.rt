@@ -3,7 +3,7 @@ ghost use Rattle.std.specs.Prelude.{◌≡◌, [], IfOk};
 ghost use Rattle.mesa_schema.specs.Columns.{kinds_of};
 
 use mesa_filter::Filter;
-use mesa_schema::Schema;
+use mesa_columns::Schema;
 use std::alloc::{AllocError, Global};
 
 /// The filter that every row of a schema meets.

@@ -15,7 +15,7 @@ use mesa_answer::{GroupError, Groups};
 use mesa_delta::FileError;
 use mesa_disk::{Damage, FileId};
 use mesa_scan::MatchingRows;
-use mesa_schema::LentRow;
+use mesa_columns::LentRow;
 
 /// One row more of a file. A sum that would leave its type is damage of the file: of sound files none does.
 pub fn put_row(groups: &mut Groups, file: FileId, row: LentRow) -> Result<(), FileError>

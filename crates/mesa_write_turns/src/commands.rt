@@ -16,7 +16,7 @@ use mesa_disk::{Disk, Made};
 use mesa_engine::{Engine, Naming, Who};
 use mesa_io::Sink;
 use mesa_model::{AlterWords, TableWords, ViewWords};
-use mesa_schema::Words;
+use mesa_columns::Words;
 use std::alloc::Global;
 
 /// The turn that makes a table.

@@ -5,7 +5,7 @@ ghost use Rattle.mesa_write_turns.specs.Ruling.{IsAllowed, IsRefused};
 
 use mesa_engine::{Failure, Metadata};
 use mesa_model::{AlterWords, TableWords, ViewWords};
-use mesa_schema::Words;
+use mesa_columns::Words;
 use mesa_validate::Ruled;
 use std::alloc::Global;
 

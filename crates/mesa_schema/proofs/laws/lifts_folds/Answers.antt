@@ -1,5 +1,5 @@
-use Rattle.mesa_schema.proofs.Forms.{folded_form, lifted_form, lifts_folded}
+use Rattle.mesa_schema.proofs.Forms.{lifted_form, lifts_folded}
 use Rattle.mesa_schema.proofs.laws.lifts_folds.Goals as goal
 
 pub returns : goal.returns
-returns c = record { folds = lifts_folded; lifted_form = lifted_form; folded_form = folded_form }
+returns c = record { folds = lifts_folded; lifted_form = lifted_form }
