@@ -6,12 +6,12 @@ use Rattle.std.proofs.lemmas.List.{append-nil, length-map, map-append}
 use Rattle.std.proofs.lemmas.List.Sums.{sum_by-append, sum_by-cons}
 use Rattle.mesa_value.specs.declared.Agg.{Agg}
 use Rattle.mesa_value.specs.declared.Agg.TheVariants.{Sum}
-use Rattle.mesa_schema.specs.declared.rows.Row.{Row}
-use Rattle.mesa_schema.specs.declared.columns.ValueColumn.{ValueColumn}
-use Rattle.mesa_schema.specs.Columns.{Columns, aggs_of, chosen}
-use Rattle.mesa_schema.specs.Folded.{folded, grouped, regrouped}
-use Rattle.mesa_schema.specs.Laws.{AreFull}
-use Rattle.mesa_schema.specs.Rows.{AreRowsOf}
+use Rattle.mesa_model.specs.mesa_columns.declared.rows.Row.{Row}
+use Rattle.mesa_model.specs.mesa_columns.declared.columns.ValueColumn.{ValueColumn}
+use Rattle.mesa_model.specs.mesa_columns.Columns.{Columns, aggs_of, chosen}
+use Rattle.mesa_model.specs.mesa_fold.Folded.{folded, grouped, regrouped}
+use Rattle.mesa_model.specs.mesa_fold.Laws.{AreFull}
+use Rattle.mesa_model.specs.mesa_columns.Rows.{AreRowsOf}
 use Rattle.mesa_batch.specs.Totals.{abs_total, sum_bound}
 use Rattle.mesa_batch.specs.Bound.{KeepsBound}
 use Rattle.mesa_batch.proofs.Merged.{folds_totals}

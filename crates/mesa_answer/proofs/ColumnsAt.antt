@@ -3,7 +3,7 @@ use Rattle.std.proofs.Common.{◌≡◌, ℕ, zero, suc, ◌+◌, ◌-◌, ◌�
 use Rattle.std.specs.Prelude.{slice_get}
 use Rattle.std.specs.List.{concat}
 use Rattle.std.proofs.lemmas.List.{drop-drop}
-use Rattle.mesa_schema.specs.Columns.{chosen}
+use Rattle.mesa_model.specs.mesa_columns.Columns.{chosen}
 use Rattle.mesa_filter.proofs.PlacesAsked.{chosen_more, chosen_same}
 
 pub take-front : {X : Type 0} (n : ℕ) (xs ys : List X) → length xs ≡ n → take n (xs ++ ys) ≡ xs

@@ -16,13 +16,13 @@ use Rattle.std.proofs.lemmas.Bool.{cases_eq}
 use Rattle.std.proofs.lemmas.List.{get_or-append-add, get_or-set_other, get_or-set_same, get_or_append_left, length-append, length-map, length-set, map-append, take_all}
 use Rattle.std.proofs.lemmas.Map.Keys.{sorted_head, sorted_tail}
 use Rattle.mesa_batch.proofs.Place.{flipped}
-use Rattle.mesa_schema.proofs.Folding.{is_less}
+use Rattle.mesa_model.proofs.mesa_fold.Folding.{is_less}
 use Rattle.mesa_value.specs.declared.Agg.{Agg}
 use Rattle.mesa_key.specs.Order.{byte_cmp}
-use Rattle.mesa_schema.specs.declared.rows.Row.{Row}
-use Rattle.mesa_schema.specs.Folded.{row_combined}
-use Rattle.mesa_schema.specs.Laws.{AreFull}
-use Rattle.mesa_schema.specs.Put.{put_row}
+use Rattle.mesa_model.specs.mesa_columns.declared.rows.Row.{Row}
+use Rattle.mesa_model.specs.mesa_fold.Folded.{row_combined}
+use Rattle.mesa_model.specs.mesa_fold.Laws.{AreFull}
+use Rattle.mesa_model.specs.mesa_fold.Put.{put_row}
 use Rattle.mesa_answer.specs.Held.{ArePlaced, Entry, HasPlace, IsNotBehind, StandsAt, is_key, key_cmp, key_in, no_row, row_in, rows_in, value_at, values_in, with_values}
 use Rattle.mesa_answer.proofs.ColumnsAt.{take-front}
 

@@ -4,9 +4,9 @@ use Rattle.std.specs.declared.cmp.Ordering.TheVariants.{Less, Equal, Greater}
 use Rattle.std.specs.FinMap.Entries.{by_order}
 use Rattle.mesa_value.specs.declared.Agg.{Agg}
 use Rattle.mesa_key.specs.Order.{byte_cmp}
-use Rattle.mesa_schema.specs.declared.rows.Row.{Row}
-use Rattle.mesa_schema.specs.Folded.{row_combined}
-use Rattle.mesa_schema.specs.Put.{put_row}
+use Rattle.mesa_model.specs.mesa_columns.declared.rows.Row.{Row}
+use Rattle.mesa_model.specs.mesa_fold.Folded.{row_combined}
+use Rattle.mesa_model.specs.mesa_fold.Put.{put_row}
 
 pub take-again : (n : ℕ) (rows : List Row) → take n (take n rows) ≡ take n rows
 take-again zero rows = refl

@@ -2,9 +2,9 @@
 use Rattle.std.proofs.Common.{◌≡◌, true, sym, ◌∙◌, ap}
 use Rattle.mesa_key.specs.Spelling.{is_spelling, key_of}
 use Rattle.mesa_key.proofs.Keys.{spelling_passes}
-use Rattle.mesa_schema.specs.declared.rows.Row.{Row}
-use Rattle.mesa_schema.specs.Columns.{Columns, kinds_of}
-use Rattle.mesa_schema.specs.Rows.{IsRowOf}
+use Rattle.mesa_model.specs.mesa_columns.declared.rows.Row.{Row}
+use Rattle.mesa_model.specs.mesa_columns.Columns.{Columns, kinds_of}
+use Rattle.mesa_model.specs.mesa_columns.Rows.{IsRowOf}
 
 -- a row's key spells a key of its columns' types
 pub row_spells : (s : Columns) (row : Row) → IsRowOf s row → is_spelling (kinds_of s) row.key ≡ true

@@ -12,14 +12,14 @@ use Rattle.std.specs.FinMap.{slice_cmp-IsAntisymmetric, nat_cmp-IsAntisymmetric}
 use Rattle.std.specs.FinMap.Entries.{below_all, by_order}
 use Rattle.mesa_value.specs.declared.Agg.{Agg}
 use Rattle.mesa_key.specs.Order.{byte_cmp}
-use Rattle.mesa_schema.specs.declared.rows.Row.{Row}
-use Rattle.mesa_schema.specs.Folded.{folded, keys_of, row_combined, rows_of}
-use Rattle.mesa_schema.specs.Put.{put_row, put_rows}
-use Rattle.mesa_schema.proofs.Folding.{of_rows}
-use Rattle.mesa_schema.proofs.Folds.{both_false, is_equal, keys, keys-folded_at, rising-keys_of}
-use Rattle.mesa_schema.proofs.Keys.{is_rising, pairs}
-use Rattle.mesa_schema.proofs.Refolds.{refolded}
-use Rattle.mesa_schema.proofs.SameFolds.{puts_one}
+use Rattle.mesa_model.specs.mesa_columns.declared.rows.Row.{Row}
+use Rattle.mesa_model.specs.mesa_fold.Folded.{folded, keys_of, row_combined, rows_of}
+use Rattle.mesa_model.specs.mesa_fold.Put.{put_row, put_rows}
+use Rattle.mesa_model.proofs.mesa_fold.Folding.{of_rows}
+use Rattle.mesa_model.proofs.mesa_fold.Folds.{both_false, is_equal, keys, keys-folded_at, rising-keys_of}
+use Rattle.mesa_model.proofs.mesa_fold.Keys.{is_rising, pairs}
+use Rattle.mesa_model.proofs.mesa_fold.Refolds.{refolded}
+use Rattle.mesa_model.proofs.mesa_fold.SameFolds.{puts_one}
 use Rattle.mesa_answer.proofs.Firsts.{take-again, take-put_row}
 
 -- ---- keys that rise

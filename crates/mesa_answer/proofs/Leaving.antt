@@ -1,8 +1,8 @@
 -- A sum that leaves its type among rows that are put in one by one.
 use Rattle.std.proofs.Common.{◌≡◌, ℕ, ◌<◌, List, [], ◌∷◌, ◌++◌, length, take, drop, get_or, append_assoc, append-nil, ◌+◌, inl, inr, refl, sym, ◌∙◌, ap, subst}
 use Rattle.std.proofs.lemmas.List.{take-append-drop}
-use Rattle.mesa_schema.specs.declared.rows.Row.{Row}
-use Rattle.mesa_schema.specs.Columns.{Columns}
+use Rattle.mesa_model.specs.mesa_columns.declared.rows.Row.{Row}
+use Rattle.mesa_model.specs.mesa_columns.Columns.{Columns}
 use Rattle.mesa_answer.specs.Gathering.{Wanted, group_from}
 use Rattle.mesa_answer.specs.Sums.{HasGroup, SumLeaves, SumLeavesAmong}
 use Rattle.mesa_answer.proofs.Passing.{one_more_row}

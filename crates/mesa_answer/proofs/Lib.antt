@@ -1,3 +1,4 @@
+pub use Rattle.mesa_model.proofs.mesa_fold as mesa_fold
 pub mod Bounds
 pub mod ColumnsAt
 pub mod Entries

@@ -4,11 +4,11 @@ use Rattle.std.specs.Prelude.{nat_lt, slice_get}
 use Rattle.std.specs.List.{AllByRecursion}
 use Rattle.std.proofs.lemmas.Bool.{cases_lt, le-ltb, lt-ltb}
 use Rattle.std.proofs.lemmas.Option.{get_or_from_slice_get, slice_get_within}
-use Rattle.mesa_schema.specs.declared.rows.Row.{Row}
-use Rattle.mesa_schema.specs.Columns.{Columns}
-use Rattle.mesa_schema.specs.Folded.{grouped}
-use Rattle.mesa_schema.specs.Rows.{AreRowsOf, IsRowOf}
-use Rattle.mesa_schema.proofs.GroupKeys.{groups_form}
+use Rattle.mesa_model.specs.mesa_columns.declared.rows.Row.{Row}
+use Rattle.mesa_model.specs.mesa_columns.Columns.{Columns}
+use Rattle.mesa_model.specs.mesa_fold.Folded.{grouped}
+use Rattle.mesa_model.specs.mesa_columns.Rows.{AreRowsOf, IsRowOf}
+use Rattle.mesa_model.proofs.mesa_fold.GroupKeys.{groups_form}
 use Rattle.mesa_filter.specs.Query.{BuiltQuery}
 use Rattle.mesa_model.specs.declared.replies.Page.{Page}
 use Rattle.mesa_model.specs.Page.{last_key, page_from, page_of, rows_after}

@@ -9,16 +9,16 @@ use Rattle.mesa_value.specs.declared.Agg.TheVariants.{Sum, Min, Max, Replace}
 use Rattle.mesa_value.specs.Agg.{IsOrderless}
 use Rattle.mesa_key.specs.Spelling.{key_of}
 use Rattle.mesa_key.proofs.Columns.{both}
-use Rattle.mesa_schema.specs.declared.rows.Row.{Row}
-use Rattle.mesa_schema.specs.declared.columns.ValueColumn.{ValueColumn}
-use Rattle.mesa_schema.specs.Columns.{Columns, aggs_of, chosen, is_replace, kinds_of}
-use Rattle.mesa_schema.specs.Laws.{AreAllKeys}
-use Rattle.mesa_schema.specs.Rows.{AreRowsOf, IsRowOf}
-use Rattle.mesa_schema.specs.Folded.{folded, folded_at, grouped, keys_of, regrouped, rows_of}
-use Rattle.mesa_schema.proofs.FilteredFolds.{filtered_folds}
-use Rattle.mesa_schema.proofs.Folds.{folded-folded}
-use Rattle.mesa_schema.proofs.GroupedFolds.{groups_folded}
-use Rattle.mesa_schema.proofs.WholeGroups.{groups_whole}
+use Rattle.mesa_model.specs.mesa_columns.declared.rows.Row.{Row}
+use Rattle.mesa_model.specs.mesa_columns.declared.columns.ValueColumn.{ValueColumn}
+use Rattle.mesa_model.specs.mesa_columns.Columns.{Columns, aggs_of, chosen, is_replace, kinds_of}
+use Rattle.mesa_model.specs.mesa_fold.Laws.{AreAllKeys}
+use Rattle.mesa_model.specs.mesa_columns.Rows.{AreRowsOf, IsRowOf}
+use Rattle.mesa_model.specs.mesa_fold.Folded.{folded, folded_at, grouped, keys_of, regrouped, rows_of}
+use Rattle.mesa_model.proofs.mesa_fold.FilteredFolds.{filtered_folds}
+use Rattle.mesa_model.proofs.mesa_fold.Folds.{folded-folded}
+use Rattle.mesa_model.proofs.mesa_fold.GroupedFolds.{groups_folded}
+use Rattle.mesa_model.proofs.mesa_fold.WholeGroups.{groups_whole}
 use Rattle.mesa_filter.specs.declared.terms.Term.{Term}
 use Rattle.mesa_filter.specs.Asked.{lists_all_keys}
 use Rattle.mesa_filter.specs.Filter.{filtered, meets}

@@ -3,7 +3,7 @@ use Rattle.std.proofs.Common.{◌≡◌, ℕ, zero, suc, ◌+◌, ◌<◌, List,
 use Rattle.std.specs.Prelude.{filter}
 use Rattle.std.proofs.lemmas.List.{append-nil}
 use Rattle.std.proofs.lemmas.List.Elements.{filter-append}
-use Rattle.mesa_schema.specs.declared.rows.Row.{Row}
+use Rattle.mesa_model.specs.mesa_columns.declared.rows.Row.{Row}
 
 taken : (i : ℕ) (rows : List Row) (row : Row) → i < length rows → row ≡ get_or rows i row → take (suc i) rows ≡ take i rows ++ row ∷ []
 taken i [] row l e = absurd (omega arith)

@@ -4,8 +4,8 @@ use Rattle.std.specs.Prelude.{ℤ, pos, ◌⊎◌, nat_lt, option_map, slice_get
 use Rattle.std.specs.List.{cons_option}
 use Rattle.std.proofs.lemmas.Bool.{ltb-true}
 use Rattle.std.proofs.lemmas.Option.{slice_get-get_or, slice_get-map}
-use Rattle.mesa_schema.specs.declared.columns.ValueColumn.{ValueColumn}
-use Rattle.mesa_schema.specs.Columns.{chosen}
+use Rattle.mesa_model.specs.mesa_columns.declared.columns.ValueColumn.{ValueColumn}
+use Rattle.mesa_model.specs.mesa_columns.Columns.{chosen}
 use Rattle.mesa_filter.proofs.PlacesAsked.{no_slot, slot_there}
 use Rattle.mesa_filter.specs.Query.{are_places}
 use Rattle.mesa_key.proofs.Columns.{both}

@@ -2,11 +2,11 @@
 use Rattle.std.proofs.Common.{◌≡◌, ◌∙◌, ◌∷◌, ◌++◌, [], List, Some, take, ap, sym, subst, true}
 use Rattle.std.specs.Prelude.{ℤ, slice_get}
 use Rattle.mesa_value.specs.declared.Agg.{Agg}
-use Rattle.mesa_schema.specs.declared.rows.Row.{Row}
-use Rattle.mesa_schema.specs.Columns.{aggs_of, chosen}
-use Rattle.mesa_schema.specs.Folded.{AllCombine, regrouped}
-use Rattle.mesa_schema.specs.Put.{put_row}
-use Rattle.mesa_schema.specs.Rows.{AreRowsOf, IsRowOf}
+use Rattle.mesa_model.specs.mesa_columns.declared.rows.Row.{Row}
+use Rattle.mesa_model.specs.mesa_columns.Columns.{aggs_of, chosen}
+use Rattle.mesa_model.specs.mesa_fold.Folded.{AllCombine, regrouped}
+use Rattle.mesa_model.specs.mesa_fold.Put.{put_row}
+use Rattle.mesa_model.specs.mesa_columns.Rows.{AreRowsOf, IsRowOf}
 use Rattle.mesa_filter.specs.Query.{are_places}
 use Rattle.mesa_answer.specs.Answering.{KeepsSums}
 use Rattle.mesa_answer.specs.Gathering.{Wanted, first_groups}

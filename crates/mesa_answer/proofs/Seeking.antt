@@ -6,11 +6,11 @@ use Rattle.std.specs.FinMap.Entries.{by_order}
 use Rattle.std.specs.declared.cmp.Ordering.TheVariants.{Less, Equal, Greater}
 use Rattle.mesa_value.specs.declared.Agg.{Agg}
 use Rattle.mesa_key.specs.Order.{byte_cmp}
-use Rattle.mesa_schema.specs.declared.rows.Row.{Row}
+use Rattle.mesa_model.specs.mesa_columns.declared.rows.Row.{Row}
 use Rattle.mesa_batch.proofs.Place.{flipped}
-use Rattle.mesa_schema.specs.Columns.{Columns}
-use Rattle.mesa_schema.specs.Folded.{grouped, regrouped, row_combined}
-use Rattle.mesa_schema.specs.Put.{put_row}
+use Rattle.mesa_model.specs.mesa_columns.Columns.{Columns}
+use Rattle.mesa_model.specs.mesa_fold.Folded.{grouped, regrouped, row_combined}
+use Rattle.mesa_model.specs.mesa_fold.Put.{put_row}
 use Rattle.mesa_answer.specs.Gathering.{first_groups, group_from, rows_behind}
 use Rattle.mesa_answer.specs.Held.{value_at}
 use Rattle.mesa_answer.specs.Sums.{HasGroup, group_key}

@@ -8,15 +8,15 @@ use Rattle.std.proofs.lemmas.List.{append-nil, map-append}
 use Rattle.std.proofs.lemmas.List.Elements.{filter-append}
 use Rattle.mesa_value.specs.declared.Agg.{Agg}
 use Rattle.mesa_key.specs.Order.{byte_cmp}
-use Rattle.mesa_schema.specs.declared.rows.Row.{Row}
-use Rattle.mesa_schema.specs.Columns.{Columns, aggs_of, chosen}
-use Rattle.mesa_schema.specs.Folded.{AllCombine, folded, grouped, regrouped}
-use Rattle.mesa_schema.specs.Laws.{AreFull}
-use Rattle.mesa_schema.specs.Put.{put_row}
-use Rattle.mesa_schema.specs.Rows.{AreRowsOf, IsRowOf}
-use Rattle.mesa_schema.proofs.FilteredFolds.{filtered_folds}
-use Rattle.mesa_schema.proofs.Forms.{folds_full}
-use Rattle.mesa_schema.proofs.SameFolds.{puts_one}
+use Rattle.mesa_model.specs.mesa_columns.declared.rows.Row.{Row}
+use Rattle.mesa_model.specs.mesa_columns.Columns.{Columns, aggs_of, chosen}
+use Rattle.mesa_model.specs.mesa_fold.Folded.{AllCombine, folded, grouped, regrouped}
+use Rattle.mesa_model.specs.mesa_fold.Laws.{AreFull}
+use Rattle.mesa_model.specs.mesa_fold.Put.{put_row}
+use Rattle.mesa_model.specs.mesa_columns.Rows.{AreRowsOf, IsRowOf}
+use Rattle.mesa_model.proofs.mesa_fold.FilteredFolds.{filtered_folds}
+use Rattle.mesa_model.proofs.mesa_fold.Forms.{folds_full}
+use Rattle.mesa_model.proofs.mesa_fold.SameFolds.{puts_one}
 use Rattle.mesa_filter.specs.Query.{are_places}
 use Rattle.mesa_model.specs.Page.{rows_after}
 use Rattle.mesa_batch.specs.Bound.{KeepsBound}

@@ -8,7 +8,7 @@ use Rattle.std.proofs.lemmas.List.FromFn.{map-range_with_len_more}
 use Rattle.mesa_key.specs.declared.KeyType.{KeyType}
 use Rattle.mesa_key.specs.declared.KeyType.TheVariants as kind
 use Rattle.mesa_key.specs.Spelling.{columns_of}
-use Rattle.mesa_schema.specs.Columns.{chosen}
+use Rattle.mesa_model.specs.mesa_columns.Columns.{chosen}
 use Rattle.mesa_answer.specs.declared.window.Window.{Window}
 use Rattle.mesa_answer.specs.Window.{AreInts, IsWindow}
 

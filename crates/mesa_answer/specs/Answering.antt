@@ -1,10 +1,10 @@
 -- What answering a query rests on, and the form of what it gives.
 use Rattle.std.specs.Prelude.{◌≡◌, ℕ, ◌<◌, List, map, slice_get, Some}
 use Rattle.mesa_value.specs.declared.Agg.TheVariants.{Sum}
-use Rattle.mesa_schema.specs.declared.rows.Row.{Row}
-use Rattle.mesa_schema.specs.Columns.{Columns, aggs_of, chosen}
-use Rattle.mesa_schema.specs.Folded.{folded, grouped, rows_of}
-use Rattle.mesa_schema.specs.Rows.{AreRowsOf}
+use Rattle.mesa_model.specs.mesa_columns.declared.rows.Row.{Row}
+use Rattle.mesa_model.specs.mesa_columns.Columns.{Columns, aggs_of, chosen}
+use Rattle.mesa_model.specs.mesa_fold.Folded.{folded, grouped, rows_of}
+use Rattle.mesa_model.specs.mesa_columns.Rows.{AreRowsOf}
 use Rattle.mesa_batch.specs.Totals.{abs_total, sum_bound}
 use Rattle.mesa_filter.specs.Filter.{filtered}
 use Rattle.mesa_filter.specs.Query.{BuiltQuery, IsQueryOf}

@@ -1,9 +1,9 @@
 -- What a gatherer of groups holds of the rows that were put in.
 use Rattle.std.specs.Prelude.{◌≡◌, ℕ, List, IfSome, IsTrue}
 use Rattle.std.specs.Option.{option_copied}
-use Rattle.mesa_schema.specs.declared.rows.Row.{Row}
-use Rattle.mesa_schema.specs.Columns.{aggs_of, chosen, kinds_of}
-use Rattle.mesa_schema.specs.Rows.{AreRowsOf}
+use Rattle.mesa_model.specs.mesa_columns.declared.rows.Row.{Row}
+use Rattle.mesa_model.specs.mesa_columns.Columns.{aggs_of, chosen, kinds_of}
+use Rattle.mesa_model.specs.mesa_columns.Rows.{AreRowsOf}
 use Rattle.mesa_filter.specs.Query.{are_places}
 use Rattle.mesa_answer.specs.Window.{IsWindow}
 use Rattle.mesa_answer.specs.Gathering.{Wanted, first_groups}

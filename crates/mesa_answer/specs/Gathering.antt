@@ -1,9 +1,9 @@
 -- The first groups of rows.
 use Rattle.std.specs.Prelude.{◌≡◌, ℕ, ◌+◌, ◌++◌, Bool, false, true, List, [], Option, None, Some, filter, take}
-use Rattle.mesa_schema.specs.declared.rows.Row.{Row}
-use Rattle.mesa_schema.specs.Columns.{Columns, aggs_of, chosen}
-use Rattle.mesa_schema.specs.Folded.{grouped}
-use Rattle.mesa_schema.specs.Put.{put_rows}
+use Rattle.mesa_model.specs.mesa_columns.declared.rows.Row.{Row}
+use Rattle.mesa_model.specs.mesa_columns.Columns.{Columns, aggs_of, chosen}
+use Rattle.mesa_model.specs.mesa_fold.Folded.{grouped}
+use Rattle.mesa_model.specs.mesa_fold.Put.{put_rows}
 use Rattle.mesa_filter.specs.Query.{BuiltQuery}
 use Rattle.mesa_answer.specs.Held.{is_behind}
 

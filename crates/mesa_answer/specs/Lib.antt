@@ -1,5 +1,5 @@
-pub use Rattle.mesa_key.specs as mesa_key
-pub use Rattle.mesa_value.specs as mesa_value
+pub use Rattle.mesa_model.specs.mesa_columns as mesa_columns
+pub use Rattle.mesa_model.specs.mesa_fold as mesa_fold
 pub mod Answering
 pub mod Gathered
 pub mod Gathering

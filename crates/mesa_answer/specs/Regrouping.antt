@@ -3,9 +3,9 @@ use Rattle.std.specs.Prelude.{ℕ, List}
 use Rattle.std.specs.List.{concat}
 use Rattle.mesa_key.specs.declared.KeyType.{KeyType}
 use Rattle.mesa_key.specs.Spelling.{columns_of}
-use Rattle.mesa_schema.specs.declared.rows.Row.{Row}
-use Rattle.mesa_schema.specs.declared.views.View.{View}
-use Rattle.mesa_schema.specs.Columns.{Columns, chosen, kinds_of}
+use Rattle.mesa_model.specs.mesa_columns.declared.rows.Row.{Row}
+use Rattle.mesa_model.specs.mesa_columns.declared.views.View.{View}
+use Rattle.mesa_model.specs.mesa_columns.Columns.{Columns, chosen, kinds_of}
 use Rattle.mesa_schema.specs.Views.{view_key_places, view_value_places}
 
 -- Which columns of a table a view has: the types of the table's key columns, and the places of the view's key columns and value columns among the table's.

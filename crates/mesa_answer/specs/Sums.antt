@@ -2,9 +2,9 @@
 use Rattle.std.specs.Prelude.{◌≡◌, ◌⊎◌, ℕ, ℤ, List, [], ◌∷◌, ◌++◌, slice_get, Some}
 use Rattle.std.specs.List.{concat}
 use Rattle.mesa_key.specs.Spelling.{columns_of}
-use Rattle.mesa_schema.specs.declared.rows.Row.{Row}
-use Rattle.mesa_schema.specs.Columns.{Columns, aggs_of, chosen, kinds_of}
-use Rattle.mesa_schema.specs.Folded.{AllCombine}
+use Rattle.mesa_model.specs.mesa_columns.declared.rows.Row.{Row}
+use Rattle.mesa_model.specs.mesa_columns.Columns.{Columns, aggs_of, chosen, kinds_of}
+use Rattle.mesa_model.specs.mesa_fold.Folded.{AllCombine}
 use Rattle.mesa_answer.specs.Gathering.{Wanted, first_groups}
 
 -- the key of the group of rows with this key, by the key columns at these places

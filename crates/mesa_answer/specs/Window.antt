@@ -4,8 +4,8 @@ use Rattle.std.specs.List.{AllByRecursion, concat}
 use Rattle.mesa_key.specs.declared.KeyType.{KeyType}
 use Rattle.mesa_key.specs.declared.KeyType.TheVariants as kind
 use Rattle.mesa_key.specs.Spelling.{columns_of}
-use Rattle.mesa_schema.specs.declared.rows.Row.{Row}
-use Rattle.mesa_schema.specs.Columns.{chosen}
+use Rattle.mesa_model.specs.mesa_columns.declared.rows.Row.{Row}
+use Rattle.mesa_model.specs.mesa_columns.Columns.{chosen}
 use Rattle.mesa_answer.specs.declared.window.Window.{Window}
 
 -- each of these types is that of ints

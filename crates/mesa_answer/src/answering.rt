@@ -1,8 +1,8 @@
 // Answering a query.
 ghost use Rattle.std.specs.Prelude.{◌≡◌, List, [], ◌∷◌, ◌++◌, IfOk, OnOk};
-ghost use Rattle.mesa_schema.specs.declared.rows.Row.{Row as AnyRow};
-ghost use Rattle.mesa_schema.specs.Lent.{lent};
-ghost use Rattle.mesa_schema.specs.Rows.{AreRowsOf, IsRowOf};
+ghost use Rattle.mesa_model.specs.mesa_columns.declared.rows.Row.{Row as AnyRow};
+ghost use Rattle.mesa_model.specs.mesa_columns.Lent.{lent};
+ghost use Rattle.mesa_model.specs.mesa_columns.Rows.{AreRowsOf, IsRowOf};
 ghost use Rattle.mesa_filter.specs.Filter.{filtered};
 ghost use Rattle.mesa_filter.specs.Query.{IsQueryOf};
 ghost use Rattle.mesa_model.specs.Page.{page_of};

@@ -1,7 +1,7 @@
 // Grouping rows.
 ghost use Rattle.std.specs.Prelude.{◌≡◌, None, IsTrue, IfOk, false};
-ghost use Rattle.mesa_schema.specs.Rows.{AreRowsOf};
-ghost use Rattle.mesa_schema.specs.Folded.{grouped};
+ghost use Rattle.mesa_model.specs.mesa_columns.Rows.{AreRowsOf};
+ghost use Rattle.mesa_model.specs.mesa_fold.Folded.{grouped};
 ghost use Rattle.mesa_filter.specs.Query.{are_places};
 ghost use Rattle.mesa_answer.specs.Answering.{KeepsSums, grouped_columns};
 ghost use Rattle.mesa_answer.specs.Gathered.{HasPut, wanted_of};

@@ -1,12 +1,12 @@
 // The first groups of rows that are put in one by one.
 ghost use Rattle.std.specs.Prelude.{◌≡◌, ◌<◌, ◌^◌, List, [], ◌∷◌, ◌++◌, length, map, None, IsTrue, IfOk, OnOk, OnErr, IfErr, false, ◌↔◌};
 ghost use Rattle.std.specs.Option.{option_copied};
-ghost use Rattle.mesa_schema.specs.declared.columns.KeyColumn.{KeyColumn as Column};
-ghost use Rattle.mesa_schema.specs.declared.rows.Row.{Row as AnyRow};
-ghost use Rattle.mesa_schema.specs.Columns.{aggs_of, chosen};
-ghost use Rattle.mesa_schema.specs.Folded.{grouped, regrouped};
-ghost use Rattle.mesa_schema.specs.Lent.{lent};
-ghost use Rattle.mesa_schema.specs.Rows.{AreRowsOf, IsRowOf};
+ghost use Rattle.mesa_model.specs.mesa_columns.declared.columns.KeyColumn.{KeyColumn as Column};
+ghost use Rattle.mesa_model.specs.mesa_columns.declared.rows.Row.{Row as AnyRow};
+ghost use Rattle.mesa_model.specs.mesa_columns.Columns.{aggs_of, chosen};
+ghost use Rattle.mesa_model.specs.mesa_fold.Folded.{grouped, regrouped};
+ghost use Rattle.mesa_model.specs.mesa_columns.Lent.{lent};
+ghost use Rattle.mesa_model.specs.mesa_columns.Rows.{AreRowsOf, IsRowOf};
 ghost use Rattle.mesa_filter.specs.Query.{IsQueryOf, are_places};
 ghost use Rattle.mesa_model.specs.Page.{page_of};
 ghost use Rattle.mesa_answer.specs.Answering.{KeepsSums, grouped_columns};

@@ -3,8 +3,8 @@ ghost use Rattle.std.specs.Prelude.{◌≡◌, ◌+◌, [], drop, slice_get, IsT
 ghost use Rattle.std.specs.List.{concat};
 ghost use Rattle.std.specs.Option.{option_copied};
 ghost use Rattle.mesa_key.specs.Spelling.{columns_of, is_spelling};
-ghost use Rattle.mesa_schema.specs.Columns.{chosen};
-ghost use Rattle.mesa_schema.specs.Lent.{lent};
+ghost use Rattle.mesa_model.specs.mesa_columns.Columns.{chosen};
+ghost use Rattle.mesa_model.specs.mesa_columns.Lent.{lent};
 
 use mesa_key::{KeyColumns, KeyType};
 use mesa_schema::LentRow;
@@ -20,7 +20,7 @@ pub struct Hand {
 }
 
 impl Model for Hand {
-    ghost use Rattle.mesa_schema.specs.declared.rows.Row.{Row};
+    ghost use Rattle.mesa_model.specs.mesa_columns.declared.rows.Row.{Row};
 
     ghost Value = { Row };
 

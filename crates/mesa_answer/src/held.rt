@@ -1,9 +1,9 @@
 // The first groups of rows, found by a guess where they were met before.
 ghost use Rattle.std.specs.Prelude.{◌≡◌, ◌<◌, ◌≤◌, ◌^◌, ◌-◌, [], IsTrue, List, ℤ, Some, None, IfOk, IfSome, MatchOption, length, take, is_some, false, OnOk, OnErr, IfErr, slice_get};
 ghost use Rattle.std.specs.Map.{lookup};
-ghost use Rattle.mesa_schema.specs.Folded.{AllCombine, row_combined};
-ghost use Rattle.mesa_schema.specs.Laws.{AreFull};
-ghost use Rattle.mesa_schema.specs.Put.{put_row, put_rows};
+ghost use Rattle.mesa_model.specs.mesa_fold.Folded.{AllCombine, row_combined};
+ghost use Rattle.mesa_model.specs.mesa_fold.Laws.{AreFull};
+ghost use Rattle.mesa_model.specs.mesa_fold.Put.{put_row, put_rows};
 ghost use Rattle.mesa_answer.specs.Held.{ArePlaced, IsNotBehind, StandsAt, is_key, rows_in, value_at, values_in, with_values};
 
 use crate::error::GroupError;
@@ -30,7 +30,7 @@ pub(crate) struct Held {
 
 impl Model for Held {
     ghost use Rattle.std.specs.Prelude.{List};
-    ghost use Rattle.mesa_schema.specs.declared.rows.Row.{Row};
+    ghost use Rattle.mesa_model.specs.mesa_columns.declared.rows.Row.{Row};
     ghost use Rattle.mesa_answer.specs.Held.{ArePlaced, rows_in};
 
     ghost Value = { List Row };

@@ -1,11 +1,11 @@
 // Rows of a table as rows of one of its views.
 ghost use Rattle.std.specs.Prelude.{◌≡◌, ◌<◌, IsTrue, IfOk, IfSome, OnOk, length, slice_get};
 ghost use Rattle.mesa_key.specs.Spelling.{is_spelling};
-ghost use Rattle.mesa_schema.specs.declared.views.View.{View as Chosen};
+ghost use Rattle.mesa_model.specs.mesa_columns.declared.views.View.{View as Chosen};
 ghost use Rattle.mesa_schema.specs.Changes.{columns_of};
-ghost use Rattle.mesa_schema.specs.Columns.{Columns};
-ghost use Rattle.mesa_schema.specs.Lent.{lent};
-ghost use Rattle.mesa_schema.specs.Rows.{IsRowOf};
+ghost use Rattle.mesa_model.specs.mesa_columns.Columns.{Columns};
+ghost use Rattle.mesa_model.specs.mesa_columns.Lent.{lent};
+ghost use Rattle.mesa_model.specs.mesa_columns.Rows.{IsRowOf};
 ghost use Rattle.mesa_schema.specs.Views.{view_columns};
 ghost use Rattle.mesa_filter.specs.Query.{are_places};
 ghost use Rattle.mesa_answer.specs.Regrouping.{places_seen, row_under};

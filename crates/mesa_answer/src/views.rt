@@ -2,7 +2,7 @@
 ghost use Rattle.std.specs.Prelude.{◌≡◌, ◌<◌, IfOk, IfSome, length, slice_get};
 ghost use Rattle.mesa_schema.specs.Changes.{columns_of};
 ghost use Rattle.mesa_schema.specs.Recasts.{recast_columns, recast_rows as regrouped};
-ghost use Rattle.mesa_schema.specs.Rows.{AreRowsOf};
+ghost use Rattle.mesa_model.specs.mesa_columns.Rows.{AreRowsOf};
 ghost use Rattle.mesa_schema.specs.Views.{view_columns, view_rows as content_of};
 ghost use Rattle.mesa_answer.specs.Answering.{KeepsSums};
 

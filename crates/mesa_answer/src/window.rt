@@ -1,7 +1,7 @@
 // Which part of a row is put into its group, where it stands there in one piece.
 ghost use Rattle.std.specs.Prelude.{◌≡◌, ◌+◌, ◌≤◌, List, length, take, IfSome, IsTrue};
 ghost use Rattle.std.specs.List.{range_with_len};
-ghost use Rattle.mesa_schema.specs.Lent.{lent};
+ghost use Rattle.mesa_model.specs.mesa_columns.Lent.{lent};
 ghost use Rattle.mesa_answer.specs.Window.{AreInts, IsWindow, in_window};
 
 use mesa_key::KeyType;

@@ -6,7 +6,7 @@ use Rattle.std.proofs.lemmas.List.{take_more}
 use Rattle.mesa_value.specs.declared.Agg.{Agg}
 use Rattle.mesa_value.specs.declared.Agg.TheVariants.{Sum, Min, Max, Replace}
 use Rattle.mesa_value.specs.Agg.{IsNarrow, IsOf}
-use Rattle.mesa_schema.specs.Rows.{AreOf}
+use Rattle.mesa_print.specs.mesa_columns.Rows.{AreOf}
 
 module _ {X : Type 0} (P : X → Type 0) where
   pushed : (xs : List X) (x : X) → AllByRecursion P xs → P x → AllByRecursion P (xs ++ x ∷ [])

@@ -4,7 +4,7 @@ use Rattle.std.proofs.lemmas.List.{drop_all}
 use Rattle.mesa_schema.specs.mesa_value.declared.Agg.{Agg}
 use Rattle.mesa_schema.specs.mesa_value.declared.Agg.TheVariants.{Sum}
 use Rattle.mesa_schema.specs.mesa_value.Agg.{Combines, combined}
-use Rattle.mesa_schema.specs.Folded.{AllCombine, row_combined}
+use Rattle.mesa_schema.specs.mesa_fold.Folded.{AllCombine, row_combined}
 
 -- the values from a column on
 pub row_combined-next : (aggs : List Agg) (old new : List ℤ) (i : ℕ) → i < length aggs → i < length old → i < length new

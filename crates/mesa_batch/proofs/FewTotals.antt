@@ -7,9 +7,9 @@ use Rattle.std.proofs.lemmas.List.Quantifiers.{position-Some}
 use Rattle.std.proofs.lemmas.Slice.Zip.{length-zip}
 use Rattle.mesa_schema.specs.mesa_value.declared.Agg.{Agg}
 use Rattle.mesa_schema.specs.mesa_value.declared.Agg.TheVariants as agg
-use Rattle.mesa_schema.specs.Columns.{Columns, aggs_of}
-use Rattle.mesa_schema.specs.Schema.{is_schema}
-use Rattle.mesa_schema.specs.declared.columns.ValueColumn.{ValueColumn}
+use Rattle.mesa_schema.specs.mesa_columns.Columns.{Columns, aggs_of}
+use Rattle.mesa_schema.specs.mesa_columns.Schema.{is_schema}
+use Rattle.mesa_schema.specs.mesa_columns.declared.columns.ValueColumn.{ValueColumn}
 use Rattle.mesa_schema.proofs.Passing.{passed_if}
 use Rattle.mesa_batch.specs.Totals.{over_bound, sum_bound, sum_places, totals_with}
 

@@ -9,12 +9,12 @@ use Rattle.std.proofs.Math.Seq.{drop-cons}
 use Rattle.mesa_list.specs.Checks.{◌>>=◌}
 use Rattle.mesa_schema.specs.mesa_value.declared.Agg.{Agg}
 use Rattle.mesa_schema.specs.mesa_key.declared.KeyType.{KeyType}
-use Rattle.mesa_schema.specs.declared.columns.KeyColumn.{KeyColumn}
-use Rattle.mesa_schema.specs.declared.columns.ValueColumn.{ValueColumn}
+use Rattle.mesa_schema.specs.mesa_columns.declared.columns.KeyColumn.{KeyColumn}
+use Rattle.mesa_schema.specs.mesa_columns.declared.columns.ValueColumn.{ValueColumn}
 use Rattle.mesa_schema.specs.mesa_key.declared.KeyValue.{KeyValue}
 use Rattle.mesa_schema.specs.mesa_key.Spelling.{value_spelling, key_spelling}
-use Rattle.mesa_schema.specs.Numbers.{amount_of, key_value_of}
-use Rattle.mesa_schema.specs.Columns.{Columns}
+use Rattle.mesa_schema.specs.mesa_columns.Numbers.{amount_of, key_value_of}
+use Rattle.mesa_schema.specs.mesa_columns.Columns.{Columns}
 use Rattle.mesa_batch.specs.Batch.{key_from, row_of, values_from}
 use Rattle.mesa_batch.specs.Reading.{after, spelled, IsRefusal}
 use Rattle.mesa_batch.specs.declared.reading.FieldError.{FieldError}

@@ -12,10 +12,10 @@ use Rattle.std.specs.FinMap.Entries.{below_all}
 use Rattle.mesa_list.specs.Bytes.{same_bytes}
 use Rattle.mesa_schema.specs.mesa_value.declared.Agg.{Agg}
 use Rattle.mesa_schema.specs.mesa_key.Order.{byte_cmp}
-use Rattle.mesa_schema.specs.declared.rows.Row.{Row}
-use Rattle.mesa_schema.specs.Folded.{all_combined, folded, folded_at, keys_of, values_at}
-use Rattle.mesa_schema.proofs.Keys.{has, is_rising, pairs, same_rising}
-use Rattle.mesa_schema.proofs.Folds.{both_false, has-keys_of, keys, not_below, rising-keys_of, values_at_none, values_at_some}
+use Rattle.mesa_schema.specs.mesa_columns.declared.rows.Row.{Row}
+use Rattle.mesa_schema.specs.mesa_fold.Folded.{all_combined, folded, folded_at, keys_of, values_at}
+use Rattle.mesa_schema.proofs.mesa_fold.Keys.{has, is_rising, pairs, same_rising}
+use Rattle.mesa_schema.proofs.mesa_fold.Folds.{both_false, has-keys_of, keys, not_below, rising-keys_of, values_at_none, values_at_some}
 
 -- each row alone has its key, among these
 abbrev pub AreAlone : List Row → List Row → Type 0

@@ -3,13 +3,13 @@ use Rattle.std.proofs.Common.{◌≡◌, List, [], ◌∷◌, ◌++◌, sym, ◌
 use Rattle.std.specs.Prelude.{T}
 use Rattle.std.proofs.lemmas.List.{append-nil}
 use Rattle.mesa_schema.specs.mesa_value.declared.Agg.{Agg}
-use Rattle.mesa_schema.specs.declared.rows.Row.{Row}
-use Rattle.mesa_schema.specs.Folded.{folded, keys_of}
-use Rattle.mesa_schema.specs.Put.{put_row, put_rows}
+use Rattle.mesa_schema.specs.mesa_columns.declared.rows.Row.{Row}
+use Rattle.mesa_schema.specs.mesa_fold.Folded.{folded, keys_of}
+use Rattle.mesa_schema.specs.mesa_fold.Put.{put_row, put_rows}
 use Rattle.mesa_batch.specs.Put.{IsFold}
-use Rattle.mesa_schema.proofs.Keys.{is_rising}
-use Rattle.mesa_schema.proofs.Folds.{keys, folded-folded, keys-folded_at, rising-keys_of}
-use Rattle.mesa_schema.proofs.Folding.{of_rows, put_all, put_one}
+use Rattle.mesa_schema.proofs.mesa_fold.Keys.{is_rising}
+use Rattle.mesa_schema.proofs.mesa_fold.Folds.{keys, folded-folded, keys-folded_at, rising-keys_of}
+use Rattle.mesa_schema.proofs.mesa_fold.Folding.{of_rows, put_all, put_one}
 
 pub of_rows-same : (aggs : List Agg) (rows : List Row) → IsFold aggs rows → of_rows aggs rows ≡ rows
 of_rows-same aggs rows fold = ap (of_rows aggs) (sym (append-nil rows)) ∙ fold

@@ -6,15 +6,15 @@ use Rattle.std.proofs.lemmas.List.{append-nil, length-map, map-append}
 use Rattle.std.proofs.lemmas.List.Sums.{sum_by-cons}
 use Rattle.mesa_schema.specs.mesa_value.declared.Agg.{Agg}
 use Rattle.mesa_schema.specs.mesa_value.declared.Agg.TheVariants.{Sum, Min, Max, Replace}
-use Rattle.mesa_schema.specs.declared.changes.Change.{Change}
-use Rattle.mesa_schema.specs.declared.changes.Change.TheVariants.{AddKey, AddValue, DropValue}
-use Rattle.mesa_schema.specs.declared.columns.ValueColumn.{ValueColumn}
-use Rattle.mesa_schema.specs.declared.rows.Row.{Row}
-use Rattle.mesa_schema.specs.Columns.{Columns, aggs_of, place_of, value_names}
-use Rattle.mesa_schema.specs.Changes.{changed, lifted_once, without}
+use Rattle.mesa_schema.specs.mesa_columns.declared.changes.Change.{Change}
+use Rattle.mesa_schema.specs.mesa_columns.declared.changes.Change.TheVariants.{AddKey, AddValue, DropValue}
+use Rattle.mesa_schema.specs.mesa_columns.declared.columns.ValueColumn.{ValueColumn}
+use Rattle.mesa_schema.specs.mesa_columns.declared.rows.Row.{Row}
+use Rattle.mesa_schema.specs.mesa_columns.Columns.{Columns, aggs_of, place_of, value_names}
+use Rattle.mesa_schema.specs.mesa_columns.Changes.{changed, lifted_once, without}
 use Rattle.mesa_schema.specs.Lineages.{HasDefault}
-use Rattle.mesa_schema.specs.Rows.{AreRowsOf, IsRowOf}
-use Rattle.mesa_schema.proofs.Drops.{without-map, without-nil, without-suc}
+use Rattle.mesa_schema.specs.mesa_columns.Rows.{AreRowsOf, IsRowOf}
+use Rattle.mesa_schema.proofs.mesa_columns.Drops.{without-map, without-nil, without-suc}
 use Rattle.mesa_batch.specs.Totals.{AreAtMost, abs_total, abs_totals, is_sum, sum_places, sums_in, totals_after, totals_without}
 
 -- ---- sum columns by a function of their places

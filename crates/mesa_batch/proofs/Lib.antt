@@ -1,4 +1,6 @@
+pub use Rattle.mesa_schema.proofs.mesa_key as mesa_key
 pub use Rattle.mesa_list.proofs as mesa_list
+pub use Rattle.mesa_schema.proofs as mesa_schema
 pub mod FewTotals
 pub mod Fields
 pub mod Finished

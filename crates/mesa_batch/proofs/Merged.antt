@@ -10,15 +10,15 @@ use Rattle.std.specs.FinMap.Entries.{by_order, below_all}
 use Rattle.mesa_schema.specs.mesa_value.declared.Agg.{Agg}
 use Rattle.mesa_schema.specs.mesa_value.declared.Agg.TheVariants.{Sum}
 use Rattle.mesa_schema.specs.mesa_key.Order.{byte_cmp}
-use Rattle.mesa_schema.specs.declared.rows.Row.{Row}
-use Rattle.mesa_schema.specs.Folded.{folded, row_combined, rows_of}
-use Rattle.mesa_schema.specs.Laws.{AreFull}
+use Rattle.mesa_schema.specs.mesa_columns.declared.rows.Row.{Row}
+use Rattle.mesa_schema.specs.mesa_fold.Folded.{folded, row_combined, rows_of}
+use Rattle.mesa_schema.specs.mesa_fold.Laws.{AreFull}
 use Rattle.mesa_batch.specs.Totals.{abs_total}
-use Rattle.mesa_schema.specs.Put.{put_row, put_rows}
+use Rattle.mesa_schema.specs.mesa_fold.Put.{put_row, put_rows}
 use Rattle.mesa_batch.specs.Put.{AreRising, IsFold}
-use Rattle.mesa_schema.proofs.Keys.{pairs}
-use Rattle.mesa_schema.proofs.Folds.{keys, both_false}
-use Rattle.mesa_schema.proofs.Folding.{below_less, is_less, put_all}
+use Rattle.mesa_schema.proofs.mesa_fold.Keys.{pairs}
+use Rattle.mesa_schema.proofs.mesa_fold.Folds.{keys, both_false}
+use Rattle.mesa_schema.proofs.mesa_fold.Folding.{below_less, is_less, put_all}
 use Rattle.mesa_batch.proofs.Kept.{IsFold-put_row}
 use Rattle.mesa_batch.proofs.Place.{flipped, rising-at}
 use Rattle.mesa_batch.proofs.Sums.{AreFull-put_row, abs_total-next, abs_total-put_row}

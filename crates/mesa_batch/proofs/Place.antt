@@ -12,12 +12,12 @@ use Rattle.std.specs.FinMap.{slice_cmp-IsAntisymmetric, nat_cmp-IsAntisymmetric}
 use Rattle.std.specs.FinMap.Entries.{by_order, below_all}
 use Rattle.mesa_schema.specs.mesa_value.declared.Agg.{Agg}
 use Rattle.mesa_schema.specs.mesa_key.Order.{byte_cmp}
-use Rattle.mesa_schema.specs.declared.rows.Row.{Row}
-use Rattle.mesa_schema.specs.Folded.{row_combined}
-use Rattle.mesa_schema.specs.Put.{put_row}
-use Rattle.mesa_schema.proofs.Keys.{is_rising, pairs}
-use Rattle.mesa_schema.proofs.Folds.{keys, both_false}
-use Rattle.mesa_schema.proofs.Folding.{is_less}
+use Rattle.mesa_schema.specs.mesa_columns.declared.rows.Row.{Row}
+use Rattle.mesa_schema.specs.mesa_fold.Folded.{row_combined}
+use Rattle.mesa_schema.specs.mesa_fold.Put.{put_row}
+use Rattle.mesa_schema.proofs.mesa_fold.Keys.{is_rising, pairs}
+use Rattle.mesa_schema.proofs.mesa_fold.Folds.{keys, both_false}
+use Rattle.mesa_schema.proofs.mesa_fold.Folding.{is_less}
 
 pub flipped : (a b : List ℕ) (o : Ordering) → byte_cmp b a ≡ o → byte_cmp a b ≡ ordering_reverse o
 flipped a b o e = nat_list_cmp_total.antisymm a b ∙ ap ordering_reverse e

@@ -7,14 +7,14 @@ use Rattle.std.proofs.lemmas.List.{append-nil, length-map}
 use Rattle.std.proofs.lemmas.List.Sums.{sum_by-append, sum_by-cons}
 use Rattle.mesa_schema.specs.mesa_value.declared.Agg.{Agg}
 use Rattle.mesa_schema.specs.mesa_value.declared.Agg.TheVariants.{Sum, Min, Max, Replace}
-use Rattle.mesa_schema.specs.declared.columns.ValueColumn.{ValueColumn}
-use Rattle.mesa_schema.specs.declared.rows.Row.{Row}
-use Rattle.mesa_schema.specs.declared.views.ViewError.TheVariants.{NoValue}
-use Rattle.mesa_schema.specs.Columns.{Columns, aggs_of, chosen, value_names}
-use Rattle.mesa_schema.specs.Folded.{regrouped, rows_of}
-use Rattle.mesa_schema.specs.Laws.{AreFull}
-use Rattle.mesa_schema.specs.Rows.{AreRowsOf, IsRowOf}
-use Rattle.mesa_schema.proofs.Forms.{rows-full}
+use Rattle.mesa_schema.specs.mesa_columns.declared.columns.ValueColumn.{ValueColumn}
+use Rattle.mesa_schema.specs.mesa_columns.declared.rows.Row.{Row}
+use Rattle.mesa_schema.specs.mesa_columns.declared.views.ViewError.TheVariants.{NoValue}
+use Rattle.mesa_schema.specs.mesa_columns.Columns.{Columns, aggs_of, chosen, value_names}
+use Rattle.mesa_schema.specs.mesa_fold.Folded.{regrouped, rows_of}
+use Rattle.mesa_schema.specs.mesa_fold.Laws.{AreFull}
+use Rattle.mesa_schema.specs.mesa_columns.Rows.{AreRowsOf, IsRowOf}
+use Rattle.mesa_schema.proofs.mesa_fold.Forms.{rows-full}
 use Rattle.mesa_schema.specs.Recasts.{IsRecastOf, Recast, recast_columns, recast_keys, recast_rows, recast_values}
 use Rattle.mesa_schema.proofs.ChosenAgain.{both, choice_there, places_within}
 use Rattle.mesa_schema.proofs.Regrouping.{aggs_recast, rows_form}

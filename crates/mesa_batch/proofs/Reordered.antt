@@ -15,11 +15,11 @@ use Rattle.std.proofs.lemmas.Map.Keys.{sorted_head, sorted_tail}
 use Rattle.mesa_list.specs.Bytes.{same_bytes}
 use Rattle.mesa_schema.specs.mesa_value.declared.Agg.{Agg}
 use Rattle.mesa_schema.specs.mesa_key.Order.{byte_cmp}
-use Rattle.mesa_schema.specs.declared.rows.Row.{Row}
-use Rattle.mesa_schema.specs.Columns.{Columns, aggs_of}
-use Rattle.mesa_schema.specs.Folded.{folded, values_at}
-use Rattle.mesa_schema.proofs.Keys.{is_rising, pairs}
-use Rattle.mesa_schema.proofs.Folds.{is_equal, keys}
+use Rattle.mesa_schema.specs.mesa_columns.declared.rows.Row.{Row}
+use Rattle.mesa_schema.specs.mesa_columns.Columns.{Columns, aggs_of}
+use Rattle.mesa_schema.specs.mesa_fold.Folded.{folded, values_at}
+use Rattle.mesa_schema.proofs.mesa_fold.Keys.{is_rising, pairs}
+use Rattle.mesa_schema.proofs.mesa_fold.Folds.{is_equal, keys}
 use Rattle.mesa_batch.specs.Batch.{Placed, is_at, rows_for}
 use Rattle.mesa_batch.specs.Flat.{placed_cmp}
 use Rattle.mesa_batch.specs.Totals.{abs_total, abs_totals, sum_places}

@@ -15,13 +15,13 @@ use Rattle.mesa_schema.specs.mesa_key.declared.KeyType.{KeyType}
 use Rattle.mesa_schema.specs.mesa_key.declared.KeyType.TheVariants as kind
 use Rattle.mesa_schema.specs.mesa_key.declared.KeyValue.{KeyValue}
 use Rattle.mesa_schema.specs.mesa_key.Spelling.{IsKey, IsValue, is_key_text, key_of, key_spelling}
-use Rattle.mesa_schema.specs.declared.rows.Row.{Row}
-use Rattle.mesa_schema.specs.Columns.{Columns, aggs_of, kinds_of, place_of}
-use Rattle.mesa_schema.specs.Numbers.{amount_of, any_signed, is_i64, key_value_of, signed_of}
-use Rattle.mesa_schema.specs.Rows.{AreOf, AreRowsOf, IsRowOf}
-use Rattle.mesa_schema.proofs.Forms.{folded_form}
+use Rattle.mesa_schema.specs.mesa_columns.declared.rows.Row.{Row}
+use Rattle.mesa_schema.specs.mesa_columns.Columns.{Columns, aggs_of, kinds_of, place_of}
+use Rattle.mesa_schema.specs.mesa_columns.Numbers.{amount_of, any_signed, is_i64, key_value_of, signed_of}
+use Rattle.mesa_schema.specs.mesa_columns.Rows.{AreOf, AreRowsOf, IsRowOf}
+use Rattle.mesa_schema.proofs.mesa_fold.Forms.{folded_form}
 use Rattle.mesa_schema.proofs.mesa_key.Keys.{key_again}
-use Rattle.mesa_schema.proofs.NumberWords.{is_i64-fits}
+use Rattle.mesa_schema.proofs.mesa_columns.NumberWords.{is_i64-fits}
 use Rattle.mesa_batch.specs.declared.words.RowWords.{RowWords}
 use Rattle.mesa_batch.specs.declared.words.BatchError.{BatchError}
 use Rattle.mesa_batch.specs.declared.words.BatchError.TheVariants.{NoTable, BadRow}

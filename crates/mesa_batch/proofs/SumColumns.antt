@@ -4,7 +4,7 @@ use Rattle.std.proofs.lemmas.List.{get_or-map, length-map}
 use Rattle.std.proofs.Math.Seq.{drop-cons}
 use Rattle.mesa_schema.specs.mesa_value.declared.Agg.{Agg}
 use Rattle.mesa_schema.specs.mesa_value.declared.Agg.TheVariants as agg
-use Rattle.mesa_schema.specs.declared.columns.ValueColumn.{ValueColumn}
+use Rattle.mesa_schema.specs.mesa_columns.declared.columns.ValueColumn.{ValueColumn}
 use Rattle.mesa_batch.specs.Totals.{capped, is_sum, sum_places}
 
 -- the first column's place, where it is a sum, before the others'

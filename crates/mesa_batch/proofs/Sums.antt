@@ -10,11 +10,11 @@ use Rattle.mesa_schema.specs.mesa_value.declared.Agg.{Agg}
 use Rattle.mesa_schema.specs.mesa_value.declared.Agg.TheVariants.{Sum, Min, Max, Replace}
 use Rattle.mesa_schema.specs.mesa_value.Agg.{Combines}
 use Rattle.mesa_schema.specs.mesa_key.Order.{byte_cmp}
-use Rattle.mesa_schema.specs.declared.rows.Row.{Row}
-use Rattle.mesa_schema.specs.Folded.{AllCombine, row_combined}
-use Rattle.mesa_schema.specs.Laws.{AreFull}
+use Rattle.mesa_schema.specs.mesa_columns.declared.rows.Row.{Row}
+use Rattle.mesa_schema.specs.mesa_fold.Folded.{AllCombine, row_combined}
+use Rattle.mesa_schema.specs.mesa_fold.Laws.{AreFull}
 use Rattle.mesa_batch.specs.Totals.{abs_total, sum_bound}
-use Rattle.mesa_schema.specs.Put.{put_row}
+use Rattle.mesa_schema.specs.mesa_fold.Put.{put_row}
 
 sum-fits : (o n : ℤ) → nat_abs o + nat_abs n < sum_bound → Combines Sum o n
 sum-fits (pos a) (pos b) h = omega (arith, ints)

@@ -16,7 +16,7 @@ use Rattle.std.proofs.lemmas.List.FromFn.{length-range_with_len, get_or-range_wi
 use Rattle.std.proofs.lemmas.Map.Keys.{IsDistinct-IsPermutation, IsDistinct-from_sorted, sorted_from_strictly_increasing}
 use Rattle.std.proofs.Math.Seq.{take-suc}
 use Rattle.std.proofs.Math.ListN.{drop_of_length-le}
-use Rattle.mesa_schema.proofs.Folds.{is_equal}
+use Rattle.mesa_schema.proofs.mesa_fold.Folds.{is_equal}
 use Rattle.mesa_batch.proofs.NameNumbers.{position-push}
 use Rattle.std.proofs.lemmas.List.Sorted.{Contains-permutation, IsPermutation-sym, ranks_by, sorted_far}
 use Rattle.mesa_list.specs.Checks.{◌>>◌}

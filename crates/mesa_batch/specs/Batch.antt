@@ -7,9 +7,9 @@ use Rattle.mesa_schema.specs.mesa_value.declared.Agg.{Agg}
 use Rattle.mesa_schema.specs.mesa_key.declared.KeyType.{KeyType}
 use Rattle.mesa_schema.specs.mesa_key.declared.KeyValue.{KeyValue}
 use Rattle.mesa_schema.specs.mesa_key.Spelling.{key_spelling}
-use Rattle.mesa_schema.specs.declared.rows.Row.{Row}
-use Rattle.mesa_schema.specs.Columns.{Columns, kinds_of, aggs_of, place_of}
-use Rattle.mesa_schema.specs.Numbers.{amount_of, key_value_of}
+use Rattle.mesa_schema.specs.mesa_columns.declared.rows.Row.{Row}
+use Rattle.mesa_schema.specs.mesa_columns.Columns.{Columns, kinds_of, aggs_of, place_of}
+use Rattle.mesa_schema.specs.mesa_columns.Numbers.{amount_of, key_value_of}
 use Rattle.mesa_batch.specs.declared.words.RowWords.{RowWords}
 use Rattle.mesa_batch.specs.declared.words.BatchError.{BatchError}
 use Rattle.mesa_batch.specs.declared.words.BatchError.TheVariants.{NoTable, BadRow, DuplicateKey}

@@ -2,12 +2,12 @@
 use Rattle.std.specs.Prelude.{◌≡◌, ℕ, ◌+◌, ◌<◌, ◌≤◌, List, length, map, slice_get, Some}
 use Rattle.mesa_schema.specs.mesa_value.declared.Agg.{Agg}
 use Rattle.mesa_schema.specs.mesa_value.declared.Agg.TheVariants.{Sum}
-use Rattle.mesa_schema.specs.declared.rows.Row.{Row}
-use Rattle.mesa_schema.specs.Folded.{folded, rows_of}
-use Rattle.mesa_schema.specs.Columns.{Columns, aggs_of}
-use Rattle.mesa_schema.specs.Laws.{AreFull}
+use Rattle.mesa_schema.specs.mesa_columns.declared.rows.Row.{Row}
+use Rattle.mesa_schema.specs.mesa_fold.Folded.{folded, rows_of}
+use Rattle.mesa_schema.specs.mesa_columns.Columns.{Columns, aggs_of}
+use Rattle.mesa_schema.specs.mesa_fold.Laws.{AreFull}
 use Rattle.mesa_schema.specs.Recasts.{IsRecastOf, Recast, recast_columns, recast_rows}
-use Rattle.mesa_schema.specs.Rows.{AreRowsOf}
+use Rattle.mesa_schema.specs.mesa_columns.Rows.{AreRowsOf}
 use Rattle.mesa_batch.specs.Totals.{AreAtMost, abs_total, abs_totals, sum_bound, sums_in, totals_recast}
 
 -- in each sum column the absolute values of both add up to at most 2^127 - 1

@@ -4,7 +4,7 @@ use Rattle.std.specs.Ordering.{nat_cmp, ordering_then}
 use Rattle.std.specs.declared.cmp.Ordering.{Ordering}
 use Rattle.mesa_list.specs.Pieces.{Rise, last_end}
 use Rattle.mesa_schema.specs.mesa_key.Order.{byte_cmp}
-use Rattle.mesa_schema.specs.declared.rows.Row.{Row}
+use Rattle.mesa_schema.specs.mesa_columns.declared.rows.Row.{Row}
 use Rattle.mesa_batch.specs.Batch.{Placed, is_at}
 
 -- the rows of these tables' numbers, keys and values

@@ -1,6 +1,6 @@
 -- What a load sees of a catalogue.
 use Rattle.std.specs.Prelude.{ℕ, List, map}
-use Rattle.mesa_schema.specs.Columns.{Columns}
+use Rattle.mesa_schema.specs.mesa_columns.Columns.{Columns}
 use Rattle.mesa_schema.specs.Changes.{Lineage, columns_of}
 use Rattle.mesa_batch.specs.Batch.{Named}
 

@@ -2,13 +2,13 @@
 use Rattle.std.specs.Prelude.{◌≡◌, ℕ, List, [], ◌∷◌, map, Ok, Err}
 use Rattle.std.specs.Result.{MatchResult}
 use Rattle.mesa_list.specs.Checks.{◌>>◌}
-use Rattle.mesa_schema.specs.declared.changes.Change.{Change}
-use Rattle.mesa_schema.specs.declared.rows.Row.{Row}
-use Rattle.mesa_schema.specs.Columns.{Columns, aggs_of}
-use Rattle.mesa_schema.specs.Changes.{changed, lifted_once}
+use Rattle.mesa_schema.specs.mesa_columns.declared.changes.Change.{Change}
+use Rattle.mesa_schema.specs.mesa_columns.declared.rows.Row.{Row}
+use Rattle.mesa_schema.specs.mesa_columns.Columns.{Columns, aggs_of}
+use Rattle.mesa_schema.specs.mesa_columns.Changes.{changed, lifted_once}
 use Rattle.mesa_schema.specs.Lineages.{HasDefault}
-use Rattle.mesa_schema.specs.Folded.{folded}
-use Rattle.mesa_schema.specs.Rows.{AreRowsOf}
+use Rattle.mesa_schema.specs.mesa_fold.Folded.{folded}
+use Rattle.mesa_schema.specs.mesa_columns.Rows.{AreRowsOf}
 use Rattle.mesa_batch.specs.declared.words.RowWords.{RowWords}
 use Rattle.mesa_batch.specs.Totals.{AreAtMost, abs_totals, totals_after}
 use Rattle.mesa_batch.specs.Batch.{Named, Placed, batch_from, batch_of, columns_at, rows_for}

@@ -4,7 +4,7 @@ use Rattle.std.specs.Map.{lookup}
 use Rattle.std.specs.Ordering.{is_eq}
 use Rattle.std.specs.declared.alloc.Global.{Global}
 use Rattle.mesa_schema.specs.mesa_key.Order.{byte_cmp}
-use Rattle.mesa_schema.specs.Columns.{place_of}
+use Rattle.mesa_schema.specs.mesa_columns.Columns.{place_of}
 use Rattle.mesa_batch.specs.declared.glance.Glanced.{Glanced}
 use Rattle.mesa_batch.specs.Glance.{Known}
 

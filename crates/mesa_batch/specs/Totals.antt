@@ -3,10 +3,10 @@ use Rattle.std.specs.Prelude.{ℕ, ◌+◌, ◌≤◌, min, pos, nat_abs, List, 
 pub use Rattle.mesa_schema.specs.mesa_value.Agg.{is_sum, sum_bound}
 use Rattle.mesa_schema.specs.mesa_value.declared.Agg.{Agg}
 use Rattle.mesa_schema.specs.mesa_value.declared.Agg.TheVariants as agg
-use Rattle.mesa_schema.specs.declared.rows.Row.{Row}
-use Rattle.mesa_schema.specs.declared.changes.Change.{Change}
-use Rattle.mesa_schema.specs.declared.changes.Change.TheVariants.{AddKey, AddValue, DropValue}
-use Rattle.mesa_schema.specs.Columns.{Columns, aggs_of, chosen, place_of, value_names}
+use Rattle.mesa_schema.specs.mesa_columns.declared.rows.Row.{Row}
+use Rattle.mesa_schema.specs.mesa_columns.declared.changes.Change.{Change}
+use Rattle.mesa_schema.specs.mesa_columns.declared.changes.Change.TheVariants.{AddKey, AddValue, DropValue}
+use Rattle.mesa_schema.specs.mesa_columns.Columns.{Columns, aggs_of, chosen, place_of, value_names}
 use Rattle.mesa_schema.specs.Recasts.{Recast, recast_values}
 
 -- the absolute values of a column, added up

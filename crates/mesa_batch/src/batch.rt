@@ -1,6 +1,6 @@
 // The rows of a load by table and key.
 ghost use Rattle.std.specs.Prelude.{◌≡◌, ◌<◌, [], length, map, slice_get, slice_index_or, Some, IfOk};
-ghost use Rattle.mesa_schema.specs.Lent.{lent};
+ghost use Rattle.mesa_schema.specs.mesa_columns.Lent.{lent};
 ghost use Rattle.mesa_batch.specs.Flat.{rows_over};
 ghost use Rattle.mesa_batch.specs.Gathered.{columns_for, rows_at};
 ghost use Rattle.mesa_batch.specs.Shared.{shared_columns};

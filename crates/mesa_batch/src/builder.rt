@@ -1,8 +1,8 @@
 // Gathering a load's rows, one after another.
 ghost use Rattle.std.specs.Prelude.{◌≡◌, ◌≢◌, ◌<◌, ℕ, List, [], ◌∷◌, length, Ok, Err, IfOk, IfErr, IfSome, OnErr, OnOk, None};
 ghost use Rattle.mesa_schema.specs.mesa_value.declared.Agg.{Agg as Aggregation};
-ghost use Rattle.mesa_schema.specs.Columns.{Columns};
-ghost use Rattle.mesa_schema.specs.Folded.{folded};
+ghost use Rattle.mesa_schema.specs.mesa_columns.Columns.{Columns};
+ghost use Rattle.mesa_schema.specs.mesa_fold.Folded.{folded};
 ghost use Rattle.mesa_batch.specs.Batch.{rows_for};
 ghost use Rattle.mesa_batch.specs.Gathered.{IsReadBy, each_once, read_of, rows_at, with_row};
 ghost use Rattle.mesa_batch.specs.Glance.{columns_in, tables_of};

@@ -1,6 +1,6 @@
 // What a change of a schema makes of a table's totals.
 ghost use Rattle.std.specs.Prelude.{◌≡◌, ◌≤◌, IfOk, length, map};
-ghost use Rattle.mesa_schema.specs.declared.columns.ValueColumn.{ValueColumn as Column};
+ghost use Rattle.mesa_schema.specs.mesa_columns.declared.columns.ValueColumn.{ValueColumn as Column};
 ghost use Rattle.mesa_batch.specs.Totals.{totals_after, totals_without};
 
 use crate::summing::sums_among;

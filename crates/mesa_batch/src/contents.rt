@@ -1,10 +1,10 @@
 // A content and a batch, both in the order of their keys, merged into a new content.
 ghost use Rattle.std.specs.Prelude.{◌≡◌, ◌≤◌, List, [], ◌∷◌, ◌++◌, drop, length, IfOk, OnOk};
-ghost use Rattle.mesa_schema.specs.declared.rows.Row.{Row as RowOf};
-ghost use Rattle.mesa_schema.specs.Folded.{folded};
-ghost use Rattle.mesa_schema.specs.Laws.{AreFull};
+ghost use Rattle.mesa_schema.specs.mesa_columns.declared.rows.Row.{Row as RowOf};
+ghost use Rattle.mesa_schema.specs.mesa_fold.Folded.{folded};
+ghost use Rattle.mesa_schema.specs.mesa_fold.Laws.{AreFull};
 ghost use Rattle.mesa_batch.specs.Bound.{AddsAtMost, KeepsBound};
-ghost use Rattle.mesa_schema.specs.Put.{put_rows};
+ghost use Rattle.mesa_schema.specs.mesa_fold.Put.{put_rows};
 ghost use Rattle.mesa_batch.specs.Put.{AreRising, IsFold};
 
 use crate::fold::{combine_into, place_of};

@@ -1,7 +1,7 @@
 // Rows of tables, kept flat.
 ghost use Rattle.std.specs.Prelude.{◌≡◌, ◌<◌, ◌≤◌, ◌^◌, [], ◌∷◌, ◌++◌, length, take, get_or, OnErr, OnOk};
 ghost use Rattle.mesa_list.specs.Pieces.{last_end, pieces};
-ghost use Rattle.mesa_schema.specs.Lent.{lent};
+ghost use Rattle.mesa_schema.specs.mesa_columns.Lent.{lent};
 ghost use Rattle.mesa_batch.specs.Flat.{placed_at};
 
 use mesa_list::{Fields, TryCopy};

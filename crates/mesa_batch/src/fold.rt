@@ -2,11 +2,11 @@
 ghost use Rattle.std.specs.Prelude.{◌≡◌, ◌↔◌, ◌+◌, ◌<◌, ◌≤◌, List, [], ◌∷◌, length, vec_len, vec_capacity, IsTrue, OnErr, OnOk};
 ghost use Rattle.std.specs.List.Sorted.{IsBinarySearchResult, IsSearchInRange};
 ghost use Rattle.mesa_schema.specs.mesa_key.Order.{byte_cmp};
-ghost use Rattle.mesa_schema.specs.declared.rows.Row.{Row as RowOf};
-ghost use Rattle.mesa_schema.specs.Folded.{AllCombine, folded, row_combined};
-ghost use Rattle.mesa_schema.specs.Laws.{AreFull};
+ghost use Rattle.mesa_schema.specs.mesa_columns.declared.rows.Row.{Row as RowOf};
+ghost use Rattle.mesa_schema.specs.mesa_fold.Folded.{AllCombine, folded, row_combined};
+ghost use Rattle.mesa_schema.specs.mesa_fold.Laws.{AreFull};
 ghost use Rattle.mesa_batch.specs.Bound.{AddsAtMost, KeepsBound};
-ghost use Rattle.mesa_schema.specs.Put.{put_row};
+ghost use Rattle.mesa_schema.specs.mesa_fold.Put.{put_row};
 ghost use Rattle.mesa_batch.specs.Put.{IsFold};
 
 use mesa_schema::{Agg, Amount, Row, Values, combine, combines};

@@ -3,7 +3,7 @@ ghost use Rattle.std.specs.Prelude.{◌≡◌, ◌<◌, ◌≤◌, ◌^◌, ℕ,
 ghost use Rattle.std.specs.Bool.{then_some};
 ghost use Rattle.std.specs.Option.{option_or};
 ghost use Rattle.mesa_list.specs.Bytes.{same_bytes};
-ghost use Rattle.mesa_schema.specs.Columns.{place_of};
+ghost use Rattle.mesa_schema.specs.mesa_columns.Columns.{place_of};
 ghost use Rattle.mesa_batch.specs.Glance.{Known, columns_in, names_in};
 ghost use Rattle.mesa_batch.specs.Shared.{shared_columns};
 ghost use Rattle.mesa_batch.specs.Numbers.{known_of, number_at};

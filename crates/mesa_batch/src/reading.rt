@@ -1,10 +1,10 @@
 // A row's fields, read by its table's columns.
 ghost use Rattle.std.specs.Prelude.{◌≡◌, ◌≤◌, ◌^◌, ◌+◌, ℕ, List, ◌++◌, length, map, true, false, MatchOption, IfOk, IfErr, OnOk, ◌<◌};
 ghost use Rattle.mesa_schema.specs.mesa_key.Spelling.{value_spelling};
-ghost use Rattle.mesa_schema.specs.declared.columns.KeyColumn.{KeyColumn as Key};
-ghost use Rattle.mesa_schema.specs.declared.columns.ValueColumn.{ValueColumn as Value};
-ghost use Rattle.mesa_schema.specs.Lent.{lent};
-ghost use Rattle.mesa_schema.specs.Numbers.{key_value_of};
+ghost use Rattle.mesa_schema.specs.mesa_columns.declared.columns.KeyColumn.{KeyColumn as Key};
+ghost use Rattle.mesa_schema.specs.mesa_columns.declared.columns.ValueColumn.{ValueColumn as Value};
+ghost use Rattle.mesa_schema.specs.mesa_columns.Lent.{lent};
+ghost use Rattle.mesa_schema.specs.mesa_columns.Numbers.{key_value_of};
 ghost use Rattle.mesa_batch.specs.Batch.{key_from, row_of, values_from};
 ghost use Rattle.mesa_batch.specs.Reading.{IsRefusal, spelled};
 

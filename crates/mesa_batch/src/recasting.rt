@@ -1,7 +1,7 @@
 // Absolute totals of a table that is recast, and of rows that stand alone.
 ghost use Rattle.std.specs.Prelude.{◌≡◌, ◌<◌, ◌++◌, [], ◌∷◌, cond, length, map, min, slice_get, slice_index_or, take, IfOk, OnOk, Some};
-ghost use Rattle.mesa_schema.specs.declared.columns.ValueColumn.{ValueColumn as Column};
-ghost use Rattle.mesa_schema.specs.Columns.{places_in};
+ghost use Rattle.mesa_schema.specs.mesa_columns.declared.columns.ValueColumn.{ValueColumn as Column};
+ghost use Rattle.mesa_schema.specs.mesa_columns.Columns.{places_in};
 ghost use Rattle.mesa_batch.specs.Totals.{abs_total, abs_totals, capped, chosen_totals, is_sum as adds, sum_bound, sums_in, with_total};
 
 use crate::summing::sums_among;

@@ -1,7 +1,7 @@
 // Which columns are sums.
 ghost use Rattle.std.specs.Prelude.{◌≡◌, ◌<◌, ◌≤◌, count_by, length, map};
-ghost use Rattle.mesa_schema.specs.declared.columns.ValueColumn.{ValueColumn as Column};
-ghost use Rattle.mesa_schema.specs.Columns.{aggs_of};
+ghost use Rattle.mesa_schema.specs.mesa_columns.declared.columns.ValueColumn.{ValueColumn as Column};
+ghost use Rattle.mesa_schema.specs.mesa_columns.Columns.{aggs_of};
 ghost use Rattle.mesa_batch.specs.Totals.{is_sum as adds, sum_name, sum_places, sums_in};
 
 use mesa_schema::{Name, Schema, ValueColumn};

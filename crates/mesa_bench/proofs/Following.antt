@@ -18,11 +18,11 @@ use Rattle.mesa_key.specs.declared.KeyValue.{KeyValue}
 use Rattle.mesa_key.specs.declared.KeyValue.TheVariants.{Int}
 use Rattle.mesa_key.specs.Order.{byte_cmp, key_cmp}
 use Rattle.mesa_key.specs.Spelling.{IsKey, key_spelling, key_of as key_read}
-use Rattle.mesa_schema.specs.declared.rows.Row.{Row}
-use Rattle.mesa_schema.specs.declared.columns.ValueColumn.{ValueColumn}
-use Rattle.mesa_schema.specs.Columns.{Columns, kinds_of}
-use Rattle.mesa_schema.specs.Folded.{row_combined, all_combined}
-use Rattle.mesa_schema.specs.Rows.{AreOf, IsRowOf}
+use Rattle.mesa_open_files.specs.mesa_columns.declared.rows.Row.{Row}
+use Rattle.mesa_open_files.specs.mesa_columns.declared.columns.ValueColumn.{ValueColumn}
+use Rattle.mesa_open_files.specs.mesa_columns.Columns.{Columns, kinds_of}
+use Rattle.mesa_open_files.specs.mesa_fold.Folded.{row_combined, all_combined}
+use Rattle.mesa_open_files.specs.mesa_columns.Rows.{AreOf, IsRowOf}
 use Rattle.mesa_open_files.specs.mesa_block.Rows.{Rise}
 use Rattle.mesa_open_files.specs.mesa_block.Spelling.{key_of}
 use Rattle.mesa_delta.specs.Summary.{all_noted, aggregates, values_of, last_key, AllCombine}

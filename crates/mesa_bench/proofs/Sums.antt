@@ -3,9 +3,9 @@ use Rattle.std.proofs.Common.{◌≡◌, ℕ, zero, suc, ◌+◌, ◌*◌, ◌%�
 use Rattle.std.specs.Prelude.{nat_abs, slice_get, sum_by}
 use Rattle.std.proofs.lemmas.List.Sums.{sum_by-append, sum_by-cons}
 use Rattle.mesa_value.specs.declared.Agg.TheVariants.{Sum, Max}
-use Rattle.mesa_schema.specs.declared.rows.Row.{Row}
-use Rattle.mesa_schema.specs.Columns.{Columns}
-use Rattle.mesa_schema.specs.Rows.{AreRowsOf, IsRowOf}
+use Rattle.mesa_open_files.specs.mesa_columns.declared.rows.Row.{Row}
+use Rattle.mesa_open_files.specs.mesa_columns.Columns.{Columns}
+use Rattle.mesa_open_files.specs.mesa_columns.Rows.{AreRowsOf, IsRowOf}
 use Rattle.mesa_batch.specs.Totals.{abs_total, sum_bound}
 use Rattle.mesa_answer.specs.Answering.{KeepsSums}
 use Rattle.mesa_bench.specs.Made.{HasColumns, row_at}

@@ -5,8 +5,8 @@ use Rattle.mesa_key.specs.declared.KeyType.TheVariants as kind
 use Rattle.mesa_key.specs.declared.KeyValue.{KeyValue}
 use Rattle.mesa_key.specs.declared.KeyValue.TheVariants.{Int}
 use Rattle.mesa_key.specs.Spelling.{key_spelling}
-use Rattle.mesa_schema.specs.declared.rows.Row.{Row}
-use Rattle.mesa_schema.specs.Columns.{Columns, kinds_of, aggs_of}
+use Rattle.mesa_open_files.specs.mesa_columns.declared.rows.Row.{Row}
+use Rattle.mesa_open_files.specs.mesa_columns.Columns.{Columns, kinds_of, aggs_of}
 
 -- The columns are two ints, a sum and a maximum.
 pub record HasColumns (s : Columns) : Type 0 where

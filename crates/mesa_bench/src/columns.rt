@@ -1,7 +1,7 @@
 // The columns of the rows.
 ghost use Rattle.std.specs.Prelude.{◌≡◌, [], ◌∷◌, IfOk, map};
-ghost use Rattle.mesa_schema.specs.declared.columns.KeyColumn.{KeyColumn as Key};
-ghost use Rattle.mesa_schema.specs.declared.columns.ValueColumn.{ValueColumn as Value};
+ghost use Rattle.mesa_open_files.specs.mesa_columns.declared.columns.KeyColumn.{KeyColumn as Key};
+ghost use Rattle.mesa_open_files.specs.mesa_columns.declared.columns.ValueColumn.{ValueColumn as Value};
 ghost use Rattle.mesa_bench.specs.Made.{HasColumns};
 
 use crate::failure::Failure;

@@ -1,8 +1,8 @@
 // The rows.
 ghost use Rattle.std.specs.Prelude.{◌≡◌, ◌<◌, ◌≤◌, ◌^◌, ◌*◌, ℕ, List, map, IfOk};
 ghost use Rattle.mesa_key.specs.Spelling.{key_spelling};
-ghost use Rattle.mesa_schema.specs.Columns.{Columns};
-ghost use Rattle.mesa_schema.specs.Rows.{AreRowsOf, IsRowOf};
+ghost use Rattle.mesa_open_files.specs.mesa_columns.Columns.{Columns};
+ghost use Rattle.mesa_open_files.specs.mesa_columns.Rows.{AreRowsOf, IsRowOf};
 ghost use Rattle.mesa_batch.specs.Totals.{abs_total};
 ghost use Rattle.mesa_open_files.specs.mesa_block.Spelling.{key_of};
 ghost use Rattle.mesa_open_files.specs.mesa_block.Rows.{Rise};

@@ -3,13 +3,13 @@ use Rattle.std.proofs.Common.{◌≡◌, ℕ, List, Bool, true, false, Option, S
 use Rattle.std.specs.Prelude.{◌≢◌}
 use Rattle.std.specs.Option.{ok_or}
 use Rattle.mesa_list.specs.Checks.{◌>>=◌, ◌>>◌, refuse_unless, refused_as}
-use Rattle.mesa_schema.specs.declared.changes.Change.{Change}
-use Rattle.mesa_schema.specs.declared.changes.Change.TheVariants as change
-use Rattle.mesa_schema.specs.declared.changes.ChangeError.{ChangeError}
-use Rattle.mesa_schema.specs.declared.changes.ChangeError.TheVariants as error
+use Rattle.mesa_model.specs.mesa_columns.declared.changes.Change.{Change}
+use Rattle.mesa_model.specs.mesa_columns.declared.changes.Change.TheVariants as change
+use Rattle.mesa_model.specs.mesa_columns.declared.changes.ChangeError.{ChangeError}
+use Rattle.mesa_model.specs.mesa_columns.declared.changes.ChangeError.TheVariants as error
 use Rattle.mesa_schema.specs.Changes.{Lineage, change_checked, columns_of, epoch_of}
-use Rattle.mesa_schema.specs.Columns.{value_names}
-use Rattle.mesa_schema.specs.Names.{has_name}
+use Rattle.mesa_model.specs.mesa_columns.Columns.{value_names}
+use Rattle.mesa_model.specs.mesa_columns.Names.{has_name}
 use Rattle.mesa_model.specs.declared.commands.AlterWords.{AlterWords}
 use Rattle.mesa_model.specs.declared.commands.ChangeWords.{ChangeWords}
 use Rattle.mesa_model.specs.declared.commands.ChangeWords.TheVariants as words

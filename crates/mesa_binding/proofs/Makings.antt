@@ -4,11 +4,11 @@ use Rattle.std.specs.Prelude.{◌&&◌, nat_le, is_ok, IsTrue}
 use Rattle.std.specs.List.{list_all}
 use Rattle.std.proofs.lemmas.Bool.{leb-true}
 use Rattle.mesa_list.specs.Checks.{◌>>◌, refuse_if, refuse_unless, refused_as}
-use Rattle.mesa_schema.specs.Columns.{Columns, key_names, value_names}
-use Rattle.mesa_schema.specs.Names.{is_name}
-use Rattle.mesa_schema.specs.Schema.{schema_checked}
-use Rattle.mesa_schema.specs.declared.schema.SchemaError.{SchemaError}
-use Rattle.mesa_schema.specs.declared.schema.SchemaError.TheVariants as schema
+use Rattle.mesa_model.specs.mesa_columns.Columns.{Columns, key_names, value_names}
+use Rattle.mesa_model.specs.mesa_columns.Names.{is_name}
+use Rattle.mesa_model.specs.mesa_columns.Schema.{schema_checked}
+use Rattle.mesa_model.specs.mesa_columns.declared.schema.SchemaError.{SchemaError}
+use Rattle.mesa_model.specs.mesa_columns.declared.schema.SchemaError.TheVariants as schema
 use Rattle.mesa_model.specs.declared.commands.TableWords.{TableWords}
 use Rattle.mesa_model.specs.declared.replies.Refusal.{Refusal}
 use Rattle.mesa_model.specs.declared.replies.Refusal.TheVariants as no

@@ -1,8 +1,8 @@
 -- Columns that are named.
 use Rattle.std.proofs.Common.{◌≡◌, ◌∙◌, ℕ, List, Some, ap, get_or, map, sym}
 use Rattle.std.proofs.Math.ListN.{get_or-map}
-use Rattle.mesa_schema.specs.Columns.{place_of}
-use Rattle.mesa_schema.proofs.Places.{place_named}
+use Rattle.mesa_model.specs.mesa_columns.Columns.{place_of}
+use Rattle.mesa_model.proofs.mesa_columns.Places.{place_named}
 
 -- a column that is found by a word has it as its name
 pub column_named : {C : Type 0} (name_of : C → List ℕ) (columns : List C) (word : List ℕ) (place : ℕ) (column : C) → place_of word (map name_of columns) ≡ Some place → column ≡ get_or columns place column → name_of column ≡ word

@@ -3,7 +3,7 @@ use Rattle.std.proofs.Common.{◌≡◌, ℕ, List, refl, ap, sym, subst, Option
 use Rattle.std.specs.Prelude.{IsOk}
 use Rattle.mesa_list.specs.Checks.{◌>>=◌, refused_as}
 use Rattle.mesa_schema.specs.Changes.{epoch_of}
-use Rattle.mesa_schema.specs.Columns.{Columns}
+use Rattle.mesa_model.specs.mesa_columns.Columns.{Columns}
 use Rattle.mesa_filter.specs.declared.words.QueryWords.{QueryWords}
 use Rattle.mesa_filter.specs.declared.words.QueryError.{QueryError}
 use Rattle.mesa_filter.specs.Asked.{Asked, asked_of}

@@ -6,11 +6,11 @@ use Rattle.std.specs.Option.{ok_or}
 use Rattle.mesa_list.specs.Checks.{◌>>=◌, ◌>>◌, refuse_unless, refused_as}
 use Rattle.mesa_schema.specs.declared.recasts.RecastError.{RecastError}
 use Rattle.mesa_schema.specs.declared.recasts.RecastError.TheVariants as recast
-use Rattle.mesa_schema.specs.declared.views.ViewError.{ViewError}
-use Rattle.mesa_schema.specs.declared.views.ViewError.TheVariants as view
+use Rattle.mesa_model.specs.mesa_columns.declared.views.ViewError.{ViewError}
+use Rattle.mesa_model.specs.mesa_columns.declared.views.ViewError.TheVariants as view
 use Rattle.mesa_schema.specs.Changes.{Lineage, columns_of}
-use Rattle.mesa_schema.specs.Columns.{key_names, value_names}
-use Rattle.mesa_schema.specs.Names.{has_name}
+use Rattle.mesa_model.specs.mesa_columns.Columns.{key_names, value_names}
+use Rattle.mesa_model.specs.mesa_columns.Names.{has_name}
 use Rattle.mesa_schema.specs.Recasts.{Recast, choice_refusal, recast_checked}
 use Rattle.mesa_schema.specs.Views.{choice_checked}
 use Rattle.mesa_model.specs.declared.commands.RecastWords.{RecastWords}

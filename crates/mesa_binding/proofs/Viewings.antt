@@ -6,11 +6,11 @@ use Rattle.std.specs.Option.{ok_or}
 use Rattle.std.proofs.lemmas.Bool.{leb-true}
 use Rattle.std.proofs.lemmas.List.Folds.{list_all_at}
 use Rattle.mesa_list.specs.Checks.{◌>>=◌, ◌>>◌, refuse_if, refuse_unless, refused_as}
-use Rattle.mesa_schema.specs.declared.views.ViewError.{ViewError}
-use Rattle.mesa_schema.specs.declared.views.ViewError.TheVariants as view
+use Rattle.mesa_model.specs.mesa_columns.declared.views.ViewError.{ViewError}
+use Rattle.mesa_model.specs.mesa_columns.declared.views.ViewError.TheVariants as view
 use Rattle.mesa_schema.specs.Changes.{Lineage, columns_of}
-use Rattle.mesa_schema.specs.Columns.{Columns, value_names}
-use Rattle.mesa_schema.specs.Names.{has_name, is_name, repeated}
+use Rattle.mesa_model.specs.mesa_columns.Columns.{Columns, value_names}
+use Rattle.mesa_model.specs.mesa_columns.Names.{has_name, is_name, repeated}
 use Rattle.mesa_schema.specs.Views.{choice_checked, chosen_values_checked, max_views, view_checked, with_view}
 use Rattle.mesa_model.specs.declared.commands.ViewWords.{ViewWords}
 use Rattle.mesa_model.specs.declared.replies.Refusal.{Refusal}

@@ -1,11 +1,11 @@
 -- The columns that a table or a view is asked to have, and the change of a schema that is asked.
 use Rattle.std.specs.Prelude.{List, length, map, nat_le, Result, Ok}
 use Rattle.mesa_list.specs.Checks.{◌>>=◌, ◌>>◌, refuse_if, refuse_unless, refused_as}
-use Rattle.mesa_schema.specs.declared.columns.KeyColumn.{KeyColumn}
-use Rattle.mesa_schema.specs.declared.columns.ValueColumn.{ValueColumn}
-use Rattle.mesa_schema.specs.Columns.{Columns}
-use Rattle.mesa_schema.specs.Schema.{schema_checked}
-use Rattle.mesa_schema.specs.declared.changes.Change.{Change}
+use Rattle.mesa_model.specs.mesa_columns.declared.columns.KeyColumn.{KeyColumn}
+use Rattle.mesa_model.specs.mesa_columns.declared.columns.ValueColumn.{ValueColumn}
+use Rattle.mesa_model.specs.mesa_columns.Columns.{Columns}
+use Rattle.mesa_model.specs.mesa_columns.Schema.{schema_checked}
+use Rattle.mesa_model.specs.mesa_columns.declared.changes.Change.{Change}
 use Rattle.mesa_schema.specs.Changes.{Lineage, change_checked, columns_of}
 use Rattle.mesa_schema.specs.Views.{max_views, view_checked}
 use Rattle.mesa_model.specs.declared.commands.ChangeWords.{ChangeWords}

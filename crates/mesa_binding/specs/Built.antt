@@ -1,6 +1,6 @@
 -- What a query that was built of words has.
 use Rattle.std.specs.Prelude.{◌≡◌, ℕ, Ok}
-use Rattle.mesa_schema.specs.Columns.{Columns}
+use Rattle.mesa_model.specs.mesa_columns.Columns.{Columns}
 use Rattle.mesa_filter.specs.declared.words.QueryWords.{QueryWords}
 use Rattle.mesa_filter.specs.Asked.{asked_of}
 use Rattle.mesa_filter.specs.Query.{BuiltQuery, built}

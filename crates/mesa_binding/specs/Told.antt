@@ -2,14 +2,14 @@
 use Rattle.std.specs.Prelude.{◌≡◌, ℕ, List, Result, Err, ⊤}
 use Rattle.mesa_model.specs.mesa_batch.declared.words.BatchError.{BatchError}
 use Rattle.mesa_model.specs.mesa_batch.declared.words.BatchError.TheVariants as batch
-use Rattle.mesa_schema.specs.declared.changes.ChangeError.{ChangeError}
-use Rattle.mesa_schema.specs.declared.changes.ChangeError.TheVariants as change
-use Rattle.mesa_schema.specs.declared.schema.SchemaError.{SchemaError}
-use Rattle.mesa_schema.specs.declared.schema.SchemaError.TheVariants as schema
+use Rattle.mesa_model.specs.mesa_columns.declared.changes.ChangeError.{ChangeError}
+use Rattle.mesa_model.specs.mesa_columns.declared.changes.ChangeError.TheVariants as change
+use Rattle.mesa_model.specs.mesa_columns.declared.schema.SchemaError.{SchemaError}
+use Rattle.mesa_model.specs.mesa_columns.declared.schema.SchemaError.TheVariants as schema
 use Rattle.mesa_schema.specs.declared.recasts.RecastError.{RecastError}
 use Rattle.mesa_schema.specs.declared.recasts.RecastError.TheVariants as recast
-use Rattle.mesa_schema.specs.declared.views.ViewError.{ViewError}
-use Rattle.mesa_schema.specs.declared.views.ViewError.TheVariants as view
+use Rattle.mesa_model.specs.mesa_columns.declared.views.ViewError.{ViewError}
+use Rattle.mesa_model.specs.mesa_columns.declared.views.ViewError.TheVariants as view
 use Rattle.mesa_model.specs.declared.replies.Refusal.{Refusal}
 use Rattle.mesa_filter.specs.declared.words.QueryError.{QueryError}
 use Rattle.mesa_filter.specs.declared.words.QueryError.TheVariants as query

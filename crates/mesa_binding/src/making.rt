@@ -2,9 +2,9 @@
 ghost use Rattle.std.specs.Prelude.{◌≡◌, Ok, IfOk, IfErr, OnOk, map, true};
 ghost use Rattle.std.specs.List.{list_all};
 ghost use Rattle.mesa_list.specs.Checks.{refuse_unless};
-ghost use Rattle.mesa_schema.specs.declared.columns.KeyColumn.{KeyColumn as Key};
-ghost use Rattle.mesa_schema.specs.declared.columns.ValueColumn.{ValueColumn as Column};
-ghost use Rattle.mesa_schema.specs.Names.{is_name};
+ghost use Rattle.mesa_model.specs.mesa_columns.declared.columns.KeyColumn.{KeyColumn as Key};
+ghost use Rattle.mesa_model.specs.mesa_columns.declared.columns.ValueColumn.{ValueColumn as Column};
+ghost use Rattle.mesa_model.specs.mesa_columns.Names.{is_name};
 ghost use Rattle.mesa_model.specs.Refusals.{bad_schema};
 ghost use Rattle.mesa_model.specs.declared.replies.SchemaFault.TheVariants as fault;
 ghost use Rattle.mesa_model.specs.Tables.{columns_asked};

@@ -1,7 +1,7 @@
 // Names that are asked.
 ghost use Rattle.std.specs.Prelude.{◌≡◌, map, true, IfOk, IfErr, OnOk};
 ghost use Rattle.mesa_list.specs.Checks.{refuse_unless};
-ghost use Rattle.mesa_schema.specs.Names.{has_name, is_name};
+ghost use Rattle.mesa_model.specs.mesa_columns.Names.{has_name, is_name};
 ghost use Rattle.mesa_model.specs.Refusals.{bad_schema};
 ghost use Rattle.mesa_model.specs.declared.replies.SchemaFault.TheVariants as fault;
 ghost use Rattle.mesa_binding.specs.Told.{IsDue};
@@ -28,7 +28,7 @@ pub fn read_name(alloc: Global, bytes: &[u8]) -> Result<Name, Failure>
 }
 
 // The name of the column of these bytes, which are refused where no column has it.
-#[tactic(auto, using(mesa_schema::proofs::Maps::is_some_position))]
+#[tactic(auto, using(mesa_schema::proofs::mesa_columns::Maps::is_some_position))]
 pub(crate) fn column_name<C: Named>(bytes: &[u8], columns: &[C]) -> Result<Name, Failure>
     ensures read { IfOk result (λ name. name ≡ bytes.now) }
     ensures refused { IfErr result (IsDue (refuse_unless (has_name bytes.now (map C.name_of columns.now)) Refusal.NoColumn)) }

@@ -3,8 +3,8 @@ ghost use Rattle.std.specs.Prelude.{◌≡◌, ◌<◌, length, map, Ok, IfOk, I
 ghost use Rattle.std.specs.List.{list_all};
 ghost use Rattle.mesa_list.specs.Checks.{refuse_unless, refused_as};
 ghost use Rattle.mesa_schema.specs.Changes.{columns_of};
-ghost use Rattle.mesa_schema.specs.Columns.{key_names};
-ghost use Rattle.mesa_schema.specs.Names.{has_name};
+ghost use Rattle.mesa_model.specs.mesa_columns.Columns.{key_names};
+ghost use Rattle.mesa_model.specs.mesa_columns.Names.{has_name};
 ghost use Rattle.mesa_schema.specs.Views.{choice_checked, chosen_values_checked, view_checked};
 ghost use Rattle.mesa_model.specs.Refusals.{view_refusal};
 ghost use Rattle.mesa_binding.specs.Asked.{more_views_checked};

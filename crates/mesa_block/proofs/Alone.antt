@@ -7,17 +7,17 @@ use Rattle.std.proofs.lemmas.Bool.{leb-true, ltb-false}
 use Rattle.std.proofs.lemmas.List.{length-append, length-map}
 use Rattle.std.proofs.lemmas.List.Concat.{flat_map-cons}
 use Rattle.mesa_list.specs.Checks.{◌>>◌, refuse_if}
-use Rattle.mesa_schema.specs.mesa_key.declared.KeyType.{KeyType}
-use Rattle.mesa_schema.specs.mesa_key.declared.KeyType.TheVariants as kind
-use Rattle.mesa_schema.specs.mesa_key.declared.KeyValue.{KeyValue}
-use Rattle.mesa_schema.specs.mesa_key.declared.KeyValue.TheVariants as value
-use Rattle.mesa_schema.specs.mesa_key.Spelling.{IsKey, IsValue, key_of, key_spelling, value_spelling}
-use Rattle.mesa_schema.specs.declared.columns.KeyColumn.{KeyColumn}
-use Rattle.mesa_schema.specs.declared.rows.Row.{Row}
-use Rattle.mesa_schema.specs.declared.columns.ValueColumn.{ValueColumn}
-use Rattle.mesa_schema.specs.Columns.{Columns, kinds_of}
+use Rattle.mesa_columns.specs.mesa_key.declared.KeyType.{KeyType}
+use Rattle.mesa_columns.specs.mesa_key.declared.KeyType.TheVariants as kind
+use Rattle.mesa_columns.specs.mesa_key.declared.KeyValue.{KeyValue}
+use Rattle.mesa_columns.specs.mesa_key.declared.KeyValue.TheVariants as value
+use Rattle.mesa_columns.specs.mesa_key.Spelling.{IsKey, IsValue, key_of, key_spelling, value_spelling}
+use Rattle.mesa_columns.specs.declared.columns.KeyColumn.{KeyColumn}
+use Rattle.mesa_columns.specs.declared.rows.Row.{Row}
+use Rattle.mesa_columns.specs.declared.columns.ValueColumn.{ValueColumn}
+use Rattle.mesa_columns.specs.Columns.{Columns, kinds_of}
 use Rattle.mesa_block.specs.Layout.{Layout, width_of, widths_of}
-use Rattle.mesa_schema.specs.Schema.{is_schema, max_columns}
+use Rattle.mesa_columns.specs.Schema.{is_schema, max_columns}
 use Rattle.mesa_block.specs.Fill.{fit}
 use Rattle.mesa_block.specs.Rows.{IsRow}
 use Rattle.mesa_block.proofs.Cells.{sizes_none, values_most}

@@ -2,8 +2,8 @@
 use Rattle.std.proofs.Common.{ℕ, zero, suc, List, [], ◌∷◌, length, map, get_or, arith}
 use Rattle.std.specs.List.{AllByRecursion, concat}
 use Rattle.mesa_list.proofs.Whole.{IsByte, each_join, each_split}
-use Rattle.mesa_schema.specs.mesa_key.declared.KeyType.{KeyType}
-use Rattle.mesa_schema.specs.mesa_key.declared.KeyType.TheVariants as kind
+use Rattle.mesa_columns.specs.mesa_key.declared.KeyType.{KeyType}
+use Rattle.mesa_columns.specs.mesa_key.declared.KeyType.TheVariants as kind
 use Rattle.mesa_block.specs.Spelling.{column}
 use Rattle.mesa_block.specs.Reading.{key_at, sealed}
 use Rattle.mesa_block.proofs.Found.{AreRead}

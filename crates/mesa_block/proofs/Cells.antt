@@ -7,13 +7,13 @@ use Rattle.std.proofs.Math.Facts.{Fits-of_z, sfits_to_z}
 use Rattle.std.proofs.lemmas.Int.{of_z-to_z, to_z-of_z}
 use Rattle.std.proofs.lemmas.Nat.{be_bytes_8, from_be_bytes-to_be_bytes_8}
 use Rattle.mesa_list.proofs.WideBytes.{be_bytes_16, from_be_bytes-to_be_bytes_16}
-use Rattle.mesa_schema.specs.mesa_value.declared.Agg.{Agg}
-use Rattle.mesa_schema.specs.mesa_value.declared.Agg.TheVariants as agg
-use Rattle.mesa_schema.specs.mesa_value.Agg.{IsAmount, IsOf}
-use Rattle.mesa_schema.specs.mesa_key.declared.Format.{Format}
-use Rattle.mesa_schema.specs.mesa_key.declared.Format.TheVariants.{One, Two}
-use Rattle.mesa_schema.specs.declared.columns.ValueColumn.{ValueColumn}
-use Rattle.mesa_schema.specs.Rows.{AreOf}
+use Rattle.mesa_columns.specs.mesa_value.declared.Agg.{Agg}
+use Rattle.mesa_columns.specs.mesa_value.declared.Agg.TheVariants as agg
+use Rattle.mesa_columns.specs.mesa_value.Agg.{IsAmount, IsOf}
+use Rattle.mesa_columns.specs.mesa_key.declared.Format.{Format}
+use Rattle.mesa_columns.specs.mesa_key.declared.Format.TheVariants.{One, Two}
+use Rattle.mesa_columns.specs.declared.columns.ValueColumn.{ValueColumn}
+use Rattle.mesa_columns.specs.Rows.{AreOf}
 use Rattle.mesa_block.specs.declared.layout.Width.{Width}
 use Rattle.mesa_block.specs.declared.layout.Width.TheVariants.{Eight, Sixteen}
 use Rattle.mesa_block.specs.Layout.{FitCells, FitsCell, number, size_of, value, values_size, width_of, widths_in}

@@ -9,11 +9,11 @@ use Rattle.std.proofs.lemmas.Bool.{eq-eqb}
 use Rattle.std.proofs.lemmas.Grind.{common_steps}
 use Rattle.mesa_list.proofs.Whole.{both}
 use Rattle.mesa_list.specs.Checks.{◌>>=◌}
-use Rattle.mesa_schema.specs.mesa_key.declared.KeyType.{KeyType}
-use Rattle.mesa_schema.specs.mesa_key.declared.KeyType.TheVariants as kind
-use Rattle.mesa_schema.specs.mesa_key.Spelling.{is_key_text}
-use Rattle.mesa_schema.specs.mesa_key.Order.{byte_cmp}
-use Rattle.mesa_schema.specs.declared.rows.Row.{Row}
+use Rattle.mesa_columns.specs.mesa_key.declared.KeyType.{KeyType}
+use Rattle.mesa_columns.specs.mesa_key.declared.KeyType.TheVariants as kind
+use Rattle.mesa_columns.specs.mesa_key.Spelling.{is_key_text}
+use Rattle.mesa_columns.specs.mesa_key.Order.{byte_cmp}
+use Rattle.mesa_columns.specs.declared.rows.Row.{Row}
 use Rattle.mesa_block.specs.Spelling.{columns, key_of}
 use Rattle.mesa_block.specs.Rows.{Rise}
 use Rattle.mesa_block.specs.Reading.{many, column_at, columns_at, bad_column, bad_text, or_else, key_at, is_less, out_of_order}

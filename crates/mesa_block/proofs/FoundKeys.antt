@@ -4,9 +4,9 @@ use Rattle.std.specs.Prelude.{IsTrue, ◌&&◌, ◌==◌}
 use Rattle.std.specs.List.{AllByRecursion, range_with_len}
 use Rattle.std.proofs.lemmas.Bool.{eq-eqb}
 use Rattle.std.proofs.lemmas.List.{length-append, take_at, drop_at}
-use Rattle.mesa_schema.specs.mesa_key.declared.KeyType.{KeyType}
-use Rattle.mesa_schema.specs.mesa_key.declared.KeyType.TheVariants as kind
-use Rattle.mesa_schema.specs.mesa_key.Spelling.{before_zero, column_length, is_column, is_key_text, is_spelling}
+use Rattle.mesa_columns.specs.mesa_key.declared.KeyType.{KeyType}
+use Rattle.mesa_columns.specs.mesa_key.declared.KeyType.TheVariants as kind
+use Rattle.mesa_columns.specs.mesa_key.Spelling.{before_zero, column_length, is_column, is_key_text, is_spelling}
 use Rattle.mesa_block.specs.Reading.{key_at, sealed}
 use Rattle.mesa_block.proofs.Again.{front_sealed}
 use Rattle.mesa_block.proofs.Found.{AreGood, Good, is_cell}

@@ -4,8 +4,8 @@ use Rattle.std.specs.Prelude.{ℤ, flat_map, pos}
 use Rattle.std.specs.List.{AllByRecursion, concat, range_with_len}
 use Rattle.std.proofs.lemmas.List.Concat.{flat_map-cons}
 use Rattle.std.proofs.lemmas.List.Folds.{flat_map-map}
-use Rattle.mesa_schema.specs.mesa_key.declared.KeyType.{KeyType}
-use Rattle.mesa_schema.specs.declared.rows.Row.{Row}
+use Rattle.mesa_columns.specs.mesa_key.declared.KeyType.{KeyType}
+use Rattle.mesa_columns.specs.declared.rows.Row.{Row}
 use Rattle.mesa_block.specs.declared.layout.Width.{Width}
 use Rattle.mesa_block.specs.Layout.{number, value}
 use Rattle.mesa_block.specs.Spelling.{value_column, value_columns}

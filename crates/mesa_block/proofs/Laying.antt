@@ -8,9 +8,9 @@ use Rattle.std.proofs.lemmas.Grind.{flat_map-append}
 use Rattle.std.proofs.lemmas.List.FromFn.{map-range_with_len_more}
 use Rattle.std.proofs.lemmas.Bool.{eqb-true, leb-true, cases_lt}
 use Rattle.mesa_list.proofs.Whole.{both}
-use Rattle.mesa_schema.specs.mesa_key.declared.KeyType.{KeyType}
-use Rattle.mesa_schema.specs.mesa_key.declared.KeyType.TheVariants as kind
-use Rattle.mesa_schema.specs.mesa_key.Spelling.{before_zero, is_column, is_key_text, is_spelling}
+use Rattle.mesa_columns.specs.mesa_key.declared.KeyType.{KeyType}
+use Rattle.mesa_columns.specs.mesa_key.declared.KeyType.TheVariants as kind
+use Rattle.mesa_columns.specs.mesa_key.Spelling.{before_zero, is_column, is_key_text, is_spelling}
 use Rattle.mesa_block.specs.Spelling.{front, rest}
 use Rattle.mesa_block.proofs.Zeros.{before_zero-le}
 

@@ -2,9 +2,9 @@
 use Rattle.std.proofs.Common.{◌≡◌, ℕ, zero, suc, ◌+◌, ℤ, List, [], ◌∷◌, ◌++◌, length, map, take, drop, refl, sym, ◌∙◌, ap, subst, arith}
 use Rattle.std.proofs.lemmas.List.{length-take-le, map-append}
 use Rattle.std.specs.Prelude.{Some, slice_get}
-use Rattle.mesa_schema.specs.declared.rows.Row.{Row}
-use Rattle.mesa_schema.specs.declared.lifting.Lift.{Lift}
-use Rattle.mesa_schema.specs.Lifting.{lifted_with}
+use Rattle.mesa_columns.specs.declared.rows.Row.{Row}
+use Rattle.mesa_columns.specs.declared.lifting.Lift.{Lift}
+use Rattle.mesa_columns.specs.Lifting.{lifted_with}
 use Rattle.mesa_block.specs.Fill.{AreOver, rows_over}
 use Rattle.mesa_block.proofs.Held.{over_more, rows_more}
 

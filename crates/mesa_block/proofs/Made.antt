@@ -4,9 +4,9 @@ use Rattle.std.specs.Prelude.{Option, Some, None, slice_get}
 use Rattle.std.proofs.lemmas.List.{length-append, length-map, length-drop, drop-drop}
 use Rattle.mesa_list.specs.Pieces.{Rise as EndsRise, last_end, pieces}
 use Rattle.mesa_list.proofs.Pieces.{last_end_push, pieces_push, rise_push}
-use Rattle.mesa_schema.specs.mesa_key.declared.KeyType.{KeyType}
-use Rattle.mesa_schema.specs.mesa_key.Order.{byte_cmp}
-use Rattle.mesa_schema.specs.declared.rows.Row.{Row}
+use Rattle.mesa_columns.specs.mesa_key.declared.KeyType.{KeyType}
+use Rattle.mesa_columns.specs.mesa_key.Order.{byte_cmp}
+use Rattle.mesa_columns.specs.declared.rows.Row.{Row}
 use Rattle.mesa_block.specs.declared.layout.Width.{Width}
 use Rattle.mesa_block.specs.Fill.{AreOver, rows_over}
 use Rattle.mesa_block.specs.Reading.{is_less, key_at, out_of_order, rows_of, values_at}

@@ -7,9 +7,9 @@ use Rattle.std.proofs.lemmas.Grind.{common_steps}
 use Rattle.std.proofs.lemmas.List.{take-append-drop, length-take, length-map}
 use Rattle.std.proofs.Math.ListN.{get_or-map}
 use Rattle.mesa_list.proofs.Whole.{both}
-use Rattle.mesa_schema.specs.mesa_key.declared.KeyType.{KeyType}
-use Rattle.mesa_schema.specs.mesa_key.declared.KeyType.TheVariants as kind
-use Rattle.mesa_schema.specs.mesa_key.Spelling.{before_zero, is_column, is_key_text, is_spelling}
+use Rattle.mesa_columns.specs.mesa_key.declared.KeyType.{KeyType}
+use Rattle.mesa_columns.specs.mesa_key.declared.KeyType.TheVariants as kind
+use Rattle.mesa_columns.specs.mesa_key.Spelling.{before_zero, is_column, is_key_text, is_spelling}
 use Rattle.mesa_block.specs.Spelling.{front, rest}
 use Rattle.mesa_block.specs.Reading.{bad_column, bad_text, key_at, sealed}
 use Rattle.mesa_block.proofs.Laying.{at_each, each_mapped, has_front, text_column}

@@ -4,7 +4,7 @@ use Rattle.std.specs.Prelude.{pos, replicate}
 use Rattle.std.specs.List.{concat}
 use Rattle.std.proofs.lemmas.List.{drop_more, drop_all, length-map}
 use Rattle.std.proofs.lemmas.List.Concat.{flat_map-cons}
-use Rattle.mesa_schema.specs.declared.rows.Row.{Row}
+use Rattle.mesa_columns.specs.declared.rows.Row.{Row}
 use Rattle.mesa_block.specs.declared.layout.Width.{Width}
 use Rattle.mesa_block.specs.Layout.{FitCells, number, size_of, value}
 use Rattle.mesa_block.specs.Spelling.{value_column, value_columns}

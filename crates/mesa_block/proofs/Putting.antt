@@ -4,9 +4,9 @@ use Rattle.std.specs.Prelude.{IsTrue}
 use Rattle.std.specs.List.{AllByRecursion, concat}
 use Rattle.std.proofs.lemmas.List.{take_more, map-append, append-nil}
 use Rattle.std.proofs.lemmas.List.Folds.{concat-append}
-use Rattle.mesa_schema.specs.mesa_key.declared.KeyType.{KeyType}
-use Rattle.mesa_schema.specs.mesa_key.declared.KeyType.TheVariants as kind
-use Rattle.mesa_schema.specs.mesa_key.Spelling.{column_length, is_spelling}
+use Rattle.mesa_columns.specs.mesa_key.declared.KeyType.{KeyType}
+use Rattle.mesa_columns.specs.mesa_key.declared.KeyType.TheVariants as kind
+use Rattle.mesa_columns.specs.mesa_key.Spelling.{column_length, is_spelling}
 use Rattle.mesa_block.specs.Spelling.{cell, column, columns, front, lengths, rest}
 use Rattle.mesa_block.proofs.Laying.{each_mapped, has_front}
 use Rattle.mesa_block.proofs.OnlyKeys.{text_cell}

@@ -3,11 +3,11 @@ use Rattle.std.proofs.Common.{◌≡◌, ◌⊎◌, inl, inr, ℕ, ◌+◌, ◌<
 use Rattle.std.specs.Prelude.{Option, Some, None, not}
 use Rattle.std.specs.List.{AllByRecursion}
 use Rattle.std.proofs.lemmas.List.Quantifiers.{position-Some}
-use Rattle.mesa_schema.specs.mesa_key.declared.KeyType.{KeyType}
-use Rattle.mesa_schema.specs.mesa_key.declared.KeyType.TheVariants as kind
-use Rattle.mesa_schema.specs.mesa_key.Order.{byte_cmp}
-use Rattle.mesa_schema.specs.mesa_key.Spelling.{is_key_text}
-use Rattle.mesa_schema.specs.declared.rows.Row.{Row}
+use Rattle.mesa_columns.specs.mesa_key.declared.KeyType.{KeyType}
+use Rattle.mesa_columns.specs.mesa_key.declared.KeyType.TheVariants as kind
+use Rattle.mesa_columns.specs.mesa_key.Order.{byte_cmp}
+use Rattle.mesa_columns.specs.mesa_key.Spelling.{is_key_text}
+use Rattle.mesa_columns.specs.declared.rows.Row.{Row}
 use Rattle.mesa_block.specs.Reading.{bad_column, bad_text, is_less, or_else, out_of_order}
 use Rattle.mesa_block.proofs.Found.{either}
 

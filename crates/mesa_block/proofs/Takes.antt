@@ -5,8 +5,8 @@ use Rattle.std.specs.List.{concat}
 use Rattle.std.proofs.lemmas.List.{take-append-drop, length-take, length-append, take_at, drop_at, length-map, length-replicate}
 use Rattle.std.proofs.lemmas.Bool.{ltb-false, le-ltb}
 use Rattle.mesa_list.specs.Checks.{◌>>=◌}
-use Rattle.mesa_schema.specs.mesa_key.declared.KeyType.{KeyType}
-use Rattle.mesa_schema.specs.mesa_key.declared.KeyType.TheVariants as kind
+use Rattle.mesa_columns.specs.mesa_key.declared.KeyType.{KeyType}
+use Rattle.mesa_columns.specs.mesa_key.declared.KeyType.TheVariants as kind
 use Rattle.mesa_block.specs.declared.error.BlockError.{BlockError}
 use Rattle.mesa_block.specs.declared.error.BlockError.TheVariants.{Truncated}
 use Rattle.mesa_block.specs.Spelling.{column}

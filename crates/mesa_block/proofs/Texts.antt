@@ -1,7 +1,7 @@
 -- The first text that is none.
 use Rattle.std.proofs.Common.{◌≡◌, inl, inr, ℕ, ◌+◌, ◌<◌, List, [], length, get_or, eq-or-lt_of_le, refl, sym, ap, ◌∙◌, arith, Bool, true, false, cond}
 use Rattle.std.specs.Prelude.{Option, Some, None, position, not, nat_lt}
-use Rattle.mesa_schema.specs.mesa_key.Spelling.{is_key_text}
+use Rattle.mesa_columns.specs.mesa_key.Spelling.{is_key_text}
 use Rattle.std.proofs.lemmas.Bool.{lt-ltb, le-ltb}
 use Rattle.std.proofs.lemmas.List.Sums.{position_or_len_is}
 

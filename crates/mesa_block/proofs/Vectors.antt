@@ -1,12 +1,12 @@
 -- The vector of the format, computed.
 use Rattle.std.proofs.Common.{◌≡◌, ℕ, List, [], ◌∷◌, refl, length}
 use Rattle.std.specs.Prelude.{pos, negsuc, codes}
-use Rattle.mesa_schema.specs.mesa_key.declared.KeyValue.TheVariants.{Int, Text}
-use Rattle.mesa_schema.specs.mesa_key.declared.KeyType.TheVariants as kind
-use Rattle.mesa_schema.specs.mesa_value.declared.Agg.TheVariants.{Sum}
-use Rattle.mesa_schema.specs.mesa_key.Spelling.{key_spelling, before_zero}
-use Rattle.mesa_schema.specs.declared.rows.Row.{Row}
-use Rattle.mesa_schema.specs.mesa_key.declared.Format.TheVariants as format
+use Rattle.mesa_columns.specs.mesa_key.declared.KeyValue.TheVariants.{Int, Text}
+use Rattle.mesa_columns.specs.mesa_key.declared.KeyType.TheVariants as kind
+use Rattle.mesa_columns.specs.mesa_value.declared.Agg.TheVariants.{Sum}
+use Rattle.mesa_columns.specs.mesa_key.Spelling.{key_spelling, before_zero}
+use Rattle.mesa_columns.specs.declared.rows.Row.{Row}
+use Rattle.mesa_columns.specs.mesa_key.declared.Format.TheVariants as format
 use Rattle.mesa_block.specs.Layout.{Layout}
 use Rattle.mesa_block.specs.Spelling.{block}
 

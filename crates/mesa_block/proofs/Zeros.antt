@@ -2,7 +2,7 @@
 use Rattle.std.proofs.Common.{◌≡◌, ◌≢◌, ℕ, zero, suc, ◌≤◌, List, [], ◌∷◌, length, take, refl, ap, arith, inl, inr}
 use Rattle.std.proofs.lemmas.Bool.{eq-eqb}
 use Rattle.std.proofs.lemmas.Bool.Decides.{eqb_tells}
-use Rattle.mesa_schema.specs.mesa_key.Spelling.{before_zero}
+use Rattle.mesa_columns.specs.mesa_key.Spelling.{before_zero}
 
 pub before_zero-zero : (b : ℕ) (bytes : List ℕ) → b ≡ 0 → before_zero (b ∷ bytes) ≡ []
 unfolding before_zero

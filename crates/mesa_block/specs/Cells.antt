@@ -1,7 +1,7 @@
 -- The cells of a column, as they are held.
 use Rattle.std.specs.Prelude.{◌≡◌, ℕ, zero, suc, ◌*◌, List, [], ◌∷◌, length, take, drop}
-use Rattle.mesa_schema.specs.mesa_key.declared.KeyType.{KeyType}
-use Rattle.mesa_schema.specs.mesa_key.declared.KeyType.TheVariants as kind
+use Rattle.mesa_columns.specs.mesa_key.declared.KeyType.{KeyType}
+use Rattle.mesa_columns.specs.mesa_key.declared.KeyType.TheVariants as kind
 
 -- the first so many pieces, each of the same size
 abbrev pub pieces : ℕ → ℕ → List ℕ → List (List ℕ)

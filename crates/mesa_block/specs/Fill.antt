@@ -1,9 +1,9 @@
 -- A block that is filled row by row.
 use Rattle.std.specs.Prelude.{◌≡◌, ◌≤◌, ◌+◌, ℕ, ℤ, List, [], ◌∷◌, ◌++◌, length, map, take, drop, Bool, true, false, ◌&&◌, ◌||◌, nat_le, nat_lt}
 use Rattle.std.specs.List.{AllByRecursion}
-use Rattle.mesa_schema.specs.mesa_key.declared.KeyType.{KeyType}
-use Rattle.mesa_schema.specs.declared.rows.Row.{Row}
-use Rattle.mesa_schema.specs.Columns.{kinds_of}
+use Rattle.mesa_columns.specs.mesa_key.declared.KeyType.{KeyType}
+use Rattle.mesa_columns.specs.declared.rows.Row.{Row}
+use Rattle.mesa_columns.specs.Columns.{kinds_of}
 use Rattle.mesa_block.specs.declared.layout.Width.{Width}
 use Rattle.mesa_block.specs.Layout.{Layout, values_size, widths_of}
 use Rattle.mesa_block.specs.Spelling.{block, key_of}

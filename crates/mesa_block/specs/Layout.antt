@@ -1,12 +1,12 @@
 -- How the values of rows stand in a block: in which format, and by which columns.
 use Rattle.std.specs.Prelude.{ℕ, ◌+◌, ◌-◌, ℤ, List, [], ◌∷◌, map, drop, FitsSigned, ⊤}
 use Rattle.std.specs.Int.{w64, w128, to_be_bytes, from_be_bytes, cast_signed, cast_unsigned}
-use Rattle.mesa_schema.specs.mesa_value.declared.Agg.{Agg}
-use Rattle.mesa_schema.specs.mesa_value.declared.Agg.TheVariants as agg
-use Rattle.mesa_schema.specs.mesa_key.declared.Format.{Format}
-use Rattle.mesa_schema.specs.mesa_key.declared.Format.TheVariants.{One, Two}
-use Rattle.mesa_schema.specs.declared.columns.ValueColumn.{ValueColumn}
-use Rattle.mesa_schema.specs.Columns.{Columns}
+use Rattle.mesa_columns.specs.mesa_value.declared.Agg.{Agg}
+use Rattle.mesa_columns.specs.mesa_value.declared.Agg.TheVariants as agg
+use Rattle.mesa_columns.specs.mesa_key.declared.Format.{Format}
+use Rattle.mesa_columns.specs.mesa_key.declared.Format.TheVariants.{One, Two}
+use Rattle.mesa_columns.specs.declared.columns.ValueColumn.{ValueColumn}
+use Rattle.mesa_columns.specs.Columns.{Columns}
 use Rattle.mesa_block.specs.declared.layout.Width.{Width}
 use Rattle.mesa_block.specs.declared.layout.Width.TheVariants.{Eight, Sixteen}
 

@@ -1,3 +1,6 @@
+pub use Rattle.mesa_columns.specs as mesa_columns
+pub use Rattle.mesa_columns.specs.mesa_key as mesa_key
+pub use Rattle.mesa_columns.specs.mesa_value as mesa_value
 pub mod Layout
 pub mod Spelling
 pub mod Rows

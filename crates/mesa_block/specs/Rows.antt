@@ -2,9 +2,9 @@
 use Rattle.std.specs.Prelude.{◌≡◌, ◌<◌, ◌≤◌, ℕ, List, [], ◌∷◌, length, map}
 use Rattle.std.specs.List.{AllByRecursion}
 use Rattle.std.specs.declared.cmp.Ordering.TheVariants.{Less}
-use Rattle.mesa_schema.specs.mesa_key.Order.{byte_cmp}
-use Rattle.mesa_schema.specs.declared.rows.Row.{Row}
-use Rattle.mesa_schema.specs.Rows.{IsRowOf}
+use Rattle.mesa_columns.specs.mesa_key.Order.{byte_cmp}
+use Rattle.mesa_columns.specs.declared.rows.Row.{Row}
+use Rattle.mesa_columns.specs.Rows.{IsRowOf}
 use Rattle.mesa_block.specs.Layout.{FitCells, Layout, widths_of}
 use Rattle.mesa_block.specs.Spelling.{block, key_of}
 

@@ -1,6 +1,6 @@
 // A block that is filled row by row.
 ghost use Rattle.std.specs.Prelude.{◌≡◌, ℕ, ◌<◌, [], ◌∷◌, ◌++◌, IfOk, OnErr, OnOk, length, map};
-ghost use Rattle.mesa_schema.specs.Lent.{lent};
+ghost use Rattle.mesa_columns.specs.Lent.{lent};
 ghost use Rattle.mesa_block.specs.Spelling.{block, key_of};
 ghost use Rattle.mesa_block.specs.Rows.{AreRows, IsRow, Rise};
 ghost use Rattle.mesa_block.specs.Fill.{after, fit};
@@ -8,8 +8,8 @@ ghost use Rattle.mesa_block.specs.Fill.{after, fit};
 use crate::layout::{row_size, widths};
 use crate::writing::{kinds, put_head, put_keys, put_values};
 use crate::{Width, is_full};
-use mesa_list::{Fields, TryCopy};
 use mesa_columns::{Amount, Format, KeyType, LentRow, Schema, reads_back};
+use mesa_list::{Fields, TryCopy};
 use std::alloc::{AllocError, Global};
 use std::marker::Model;
 use std::mem::swap;

@@ -2,8 +2,8 @@
 
 ghost use Rattle.std.specs.Prelude.{◌≡◌, ◌==◌, ◌≤◌, ◌<◌, ℕ, [], List, length, replicate, position, not, Option, Some, None};
 ghost use Rattle.std.specs.List.{range_with_len};
-ghost use Rattle.mesa_schema.specs.mesa_key.Spelling.{is_key_text};
-ghost use Rattle.mesa_schema.specs.mesa_key.Order.{byte_cmp};
+ghost use Rattle.mesa_columns.specs.mesa_key.Spelling.{is_key_text};
+ghost use Rattle.mesa_columns.specs.mesa_key.Order.{byte_cmp};
 ghost use Rattle.mesa_block.specs.Reading.{bad_text, bad_column, is_less, out_of_order};
 
 use crate::column::Column;

@@ -1,15 +1,15 @@
 // The rows of a block, held flat.
 ghost use Rattle.std.specs.Prelude.{◌≡◌, ◌<◌, ◌≤◌, ◌+◌, ◌*◌, ◌^◌, ℕ, ◌++◌, [], List, length, map, take, drop, get_or, slice_get, Some, IfOk, OnOk};
-ghost use Rattle.mesa_schema.specs.Lent.{lent};
-ghost use Rattle.mesa_schema.specs.Lifting.{lifted_with};
+ghost use Rattle.mesa_columns.specs.Lent.{lent};
+ghost use Rattle.mesa_columns.specs.Lifting.{lifted_with};
 ghost use Rattle.mesa_block.specs.Layout.{number};
 ghost use Rattle.mesa_block.specs.Spelling.{key_of};
 ghost use Rattle.mesa_block.specs.Reading.{key_at, values_at, rows_of, sealed};
 
 use crate::Width;
 use crate::column::{Column, Numbers};
-use mesa_list::Fields;
 use mesa_columns::{Amount, KeyType, LentRow, Lift, Row};
+use mesa_list::Fields;
 use std::alloc::{AllocError, Global};
 use std::marker::Model;
 
@@ -24,7 +24,7 @@ pub struct Block {
 
 impl Model for Block {
     ghost use Rattle.std.specs.Prelude.{List};
-    ghost use Rattle.mesa_schema.specs.declared.rows.Row.{Row};
+    ghost use Rattle.mesa_columns.specs.declared.rows.Row.{Row};
     ghost use Rattle.mesa_block.specs.Fill.{AreOver, rows_over};
 
     ghost Value = { List Row };

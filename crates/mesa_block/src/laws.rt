@@ -1,9 +1,9 @@
 // What holds of every block, whichever function wrote or read it.
 ghost use Rattle.std.specs.Prelude.{◌≡◌, ◌+◌, List, [], ◌∷◌, ◌++◌, length, Ok, IsTrue, true};
 ghost use Rattle.std.specs.List.{AllByRecursion};
-ghost use Rattle.mesa_schema.specs.declared.rows.Row.{Row as AnyRow};
+ghost use Rattle.mesa_columns.specs.declared.rows.Row.{Row as AnyRow};
 ghost use Rattle.mesa_block.specs.Layout.{Layout, values_size, widths_of};
-ghost use Rattle.mesa_schema.specs.Schema.{is_schema};
+ghost use Rattle.mesa_columns.specs.Schema.{is_schema};
 ghost use Rattle.mesa_block.specs.Fill.{fit};
 ghost use Rattle.mesa_block.specs.Reading.{block_at};
 ghost use Rattle.mesa_block.specs.Rows.{AreRows, IsRow};

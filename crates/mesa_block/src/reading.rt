@@ -1,8 +1,8 @@
 // Reading a block.
 ghost use Rattle.std.specs.Prelude.{◌≡◌, ◌≢◌, ◌≤◌, ◌<◌, ℕ, List, length, map, replicate, Option, Some, None, Err, IfOk, IfErr};
 ghost use Rattle.std.specs.List.{AllByRecursion};
-ghost use Rattle.mesa_schema.specs.declared.rows.Row.{Row};
-ghost use Rattle.mesa_schema.specs.Columns.{kinds_of};
+ghost use Rattle.mesa_columns.specs.declared.rows.Row.{Row};
+ghost use Rattle.mesa_columns.specs.Columns.{kinds_of};
 ghost use Rattle.mesa_block.specs.Spelling.{block};
 ghost use Rattle.mesa_block.specs.Rows.{AreRows};
 ghost use Rattle.mesa_block.specs.Reading.{Gives, piece_at, pieces_at, column_at, columns_at, cells_at, value_columns_at, checked, rows_at, block_at};

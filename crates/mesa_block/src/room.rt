@@ -1,6 +1,6 @@
 // The room that a block has.
 ghost use Rattle.std.specs.Prelude.{◌≡◌};
-ghost use Rattle.mesa_schema.specs.Lent.{lent};
+ghost use Rattle.mesa_columns.specs.Lent.{lent};
 ghost use Rattle.mesa_block.specs.Fill.{is_full as is_full_of};
 
 use crate::{MOST_BYTES, MOST_ROWS};

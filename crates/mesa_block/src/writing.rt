@@ -2,16 +2,16 @@
 ghost use Rattle.std.specs.Prelude.{◌≡◌, IsTrue, ◌<◌, ℕ, ◌++◌, ◌^◌, [], ◌∷◌, IfOk, OnOk, List, length, map};
 ghost use Rattle.std.specs.Int.{w16, to_be_bytes};
 ghost use Rattle.std.specs.List.{AllByRecursion};
-ghost use Rattle.mesa_schema.specs.mesa_key.declared.KeyType.{KeyType as AnyType};
-ghost use Rattle.mesa_schema.specs.mesa_key.Spelling.{is_spelling};
-ghost use Rattle.mesa_schema.specs.Columns.{kinds_of};
+ghost use Rattle.mesa_columns.specs.mesa_key.declared.KeyType.{KeyType as AnyType};
+ghost use Rattle.mesa_columns.specs.mesa_key.Spelling.{is_spelling};
+ghost use Rattle.mesa_columns.specs.Columns.{kinds_of};
 ghost use Rattle.mesa_block.specs.Fill.{AreOver, rows_over};
 ghost use Rattle.mesa_block.specs.Layout.{value};
 ghost use Rattle.mesa_block.specs.Spelling.{cell, front, lengths, rest, column, columns, value_column, value_columns};
 
 use crate::Width;
-use mesa_list::Fields;
 use mesa_columns::{Amount, Column, ColumnValue, KeyColumns, KeyType, Schema};
+use mesa_list::Fields;
 use std::alloc::{AllocError, Global};
 use std::mem::swap;
 

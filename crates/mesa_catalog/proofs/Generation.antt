@@ -4,7 +4,7 @@ use Rattle.std.specs.Prelude.{Option, Some, None, sum_by}
 use Rattle.std.proofs.lemmas.Bool.Decides.{nat_tests}
 use Rattle.std.proofs.lemmas.List.{length_push}
 use Rattle.std.proofs.lemmas.List.Sums.{sum_by-cons, sum_by-set, sum_by_push}
-use Rattle.mesa_schema.specs.declared.views.View.{View}
+use Rattle.mesa_catalog_records.specs.mesa_columns.declared.views.View.{View}
 use Rattle.mesa_catalog_records.specs.mesa_record.declared.record.Record.{Record}
 use Rattle.mesa_catalog_records.specs.mesa_record.declared.record.Record.TheVariants as record_of
 use Rattle.mesa_catalog_records.specs.mesa_record.declared.record.Files.{Files}

@@ -7,8 +7,8 @@ use Rattle.std.specs.declared.sync.Arc.{Arc}
 use Rattle.std.proofs.lemmas.Bool.Decides.{nat_tests}
 use Rattle.std.proofs.lemmas.List.{length-map, map-set}
 use Rattle.std.proofs.lemmas.Option.{get_or_from_slice_get, slice_get_within}
-use Rattle.mesa_schema.specs.Columns.{Columns}
-use Rattle.mesa_schema.specs.Schema.{is_schema}
+use Rattle.mesa_table_records.specs.mesa_columns.Columns.{Columns}
+use Rattle.mesa_table_records.specs.mesa_columns.Schema.{is_schema}
 use Rattle.mesa_schema.specs.Changes.{Lineage, columns_of, with_change}
 use Rattle.mesa_schema.specs.Views.{with_view}
 use Rattle.mesa_table_records.specs.mesa_batch.Totals.{totals_after, totals_with}

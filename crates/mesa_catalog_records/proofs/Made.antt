@@ -5,11 +5,12 @@ use Rattle.std.specs.List.{range_with_len}
 use Rattle.std.proofs.lemmas.Bool.Decides.{nat_tests}
 use Rattle.std.proofs.lemmas.List.{length_push, take_all, take-append-le}
 use Rattle.std.proofs.lemmas.List.FromFn.{map-range_with_len_more}
-use Rattle.mesa_schema.specs.declared.changes.Change.{Change}
-use Rattle.mesa_schema.specs.declared.changes.Change.TheVariants.{DropValue}
-use Rattle.mesa_schema.specs.declared.views.View.{View}
-use Rattle.mesa_schema.specs.Columns.{aggs_of}
-use Rattle.mesa_schema.specs.Changes.{Lineage, columns_after, columns_at, columns_of, epoch_of, with_change}
+use Rattle.mesa_table_records.specs.mesa_columns.declared.changes.Change.{Change}
+use Rattle.mesa_table_records.specs.mesa_columns.declared.changes.Change.TheVariants.{DropValue}
+use Rattle.mesa_table_records.specs.mesa_columns.declared.views.View.{View}
+use Rattle.mesa_table_records.specs.mesa_columns.Columns.{aggs_of}
+use Rattle.mesa_table_records.specs.mesa_columns.Changes.{columns_after}
+use Rattle.mesa_schema.specs.Changes.{Lineage, columns_at, columns_of, epoch_of, with_change}
 use Rattle.mesa_schema.specs.Views.{with_view}
 use Rattle.mesa_table_records.specs.mesa_batch.Totals.{sums_in}
 use Rattle.mesa_table_records.specs.mesa_span.Ranges.{base_before, start_behind}

@@ -5,9 +5,9 @@ use Rattle.std.specs.List.{list_any}
 use Rattle.std.specs.Option.{option_or}
 use Rattle.std.proofs.lemmas.List.{at_drop_more, at_drop_all}
 use Rattle.mesa_list.specs.Bytes.{same_bytes}
-use Rattle.mesa_schema.specs.Names.{has_name}
-use Rattle.mesa_schema.specs.Columns.{place_of}
-use Rattle.mesa_schema.proofs.Maps.{is_some_position}
+use Rattle.mesa_table_records.specs.mesa_columns.Names.{has_name}
+use Rattle.mesa_table_records.specs.mesa_columns.Columns.{place_of}
+use Rattle.mesa_schema.proofs.mesa_columns.Maps.{is_some_position}
 use Rattle.mesa_table_records.specs.mesa_store_spec.Catalog.{TableMeta}
 use Rattle.mesa_table_records.specs.mesa_store_spec.Fitting.{names_in}
 use Rattle.mesa_table_records.specs.mesa_catalog_table.declared.relation.Relation.{Relation}

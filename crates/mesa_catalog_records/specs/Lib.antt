@@ -1,4 +1,5 @@
 pub use Rattle.mesa_table_records.specs.mesa_catalog_table as mesa_catalog_table
+pub use Rattle.mesa_table_records.specs.mesa_columns as mesa_columns
 pub use Rattle.mesa_table_records.specs.mesa_commit as mesa_commit
 pub use Rattle.mesa_table_records.specs.mesa_history_spec as mesa_history_spec
 pub use Rattle.mesa_table_records.specs.mesa_model as mesa_model

@@ -1,9 +1,9 @@
 -- Records in the form in which they are taken in.
 use Rattle.std.specs.Prelude.{◌≡◌, ◌<◌, List, [], ◌∷◌, map, None, IsTrue, vec_len, vec_capacity, ⊤}
 use Rattle.std.specs.List.{AllByRecursion}
-use Rattle.mesa_schema.specs.declared.changes.Change.{Change}
-use Rattle.mesa_schema.specs.declared.changes.Change.TheVariants.{DropValue}
-use Rattle.mesa_schema.specs.declared.views.View.{View}
+use Rattle.mesa_table_records.specs.mesa_columns.declared.changes.Change.{Change}
+use Rattle.mesa_table_records.specs.mesa_columns.declared.changes.Change.TheVariants.{DropValue}
+use Rattle.mesa_table_records.specs.mesa_columns.declared.views.View.{View}
 use Rattle.mesa_schema.specs.Changes.{Lineage, columns_of, with_change}
 use Rattle.mesa_schema.specs.Views.{with_view}
 use Rattle.mesa_table_records.specs.mesa_batch.Totals.{totals_after, totals_with}

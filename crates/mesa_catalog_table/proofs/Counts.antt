@@ -5,17 +5,18 @@ use Rattle.std.specs.List.{list_all, list_any, range_with_len}
 use Rattle.std.proofs.lemmas.List.FromFn.{get_or-map-range_with_len, length-map-range_with_len}
 use Rattle.std.proofs.lemmas.List.{length-map, take_all}
 use Rattle.std.proofs.lemmas.Option.{slice_get-get_or}
-use Rattle.mesa_schema.specs.declared.columns.KeyColumn.{KeyColumn}
-use Rattle.mesa_schema.specs.declared.columns.ValueColumn.{ValueColumn}
-use Rattle.mesa_schema.specs.declared.views.View.{View}
-use Rattle.mesa_schema.specs.declared.views.ViewError.TheVariants.{NoKey, NoValue}
-use Rattle.mesa_schema.specs.Names.{has_name}
-use Rattle.mesa_schema.specs.Columns.{Columns, chosen, key_names, place_of, places_in, value_names}
-use Rattle.mesa_schema.specs.Changes.{Lineage, columns_at, epoch_of, columns_after, columns_of}
+use Rattle.mesa_store_spec.specs.mesa_columns.declared.columns.KeyColumn.{KeyColumn}
+use Rattle.mesa_store_spec.specs.mesa_columns.declared.columns.ValueColumn.{ValueColumn}
+use Rattle.mesa_store_spec.specs.mesa_columns.declared.views.View.{View}
+use Rattle.mesa_store_spec.specs.mesa_columns.declared.views.ViewError.TheVariants.{NoKey, NoValue}
+use Rattle.mesa_store_spec.specs.mesa_columns.Names.{has_name}
+use Rattle.mesa_store_spec.specs.mesa_columns.Columns.{Columns, chosen, key_names, place_of, places_in, value_names}
+use Rattle.mesa_store_spec.specs.mesa_columns.Changes.{columns_after}
+use Rattle.mesa_schema.specs.Changes.{Lineage, columns_at, epoch_of, columns_of}
 use Rattle.mesa_schema.specs.Lineages.{is_view_of}
 use Rattle.mesa_schema.specs.Views.{choice_checked, view_columns}
 use Rattle.mesa_schema.proofs.Choices.{chosen-slot}
-use Rattle.mesa_schema.proofs.Maps.{is_some_position, position_map}
+use Rattle.mesa_schema.proofs.mesa_columns.Maps.{is_some_position, position_map}
 use Rattle.mesa_schema.proofs.Passing.{passed_first, passed_unless}
 use Rattle.mesa_batch.proofs.NameNumbers.{position-within}
 use Rattle.mesa_batch.specs.Totals.{over_bound, sum_bound}

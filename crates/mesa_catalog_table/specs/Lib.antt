@@ -1,11 +1,10 @@
+pub use Rattle.mesa_store_spec.specs.mesa_columns as mesa_columns
 pub use Rattle.mesa_store_spec.specs.mesa_commit as mesa_commit
 pub use Rattle.mesa_store_spec.specs.mesa_delta as mesa_delta
 pub use Rattle.mesa_store_spec.specs.mesa_history_spec as mesa_history_spec
-pub use Rattle.mesa_store_spec.specs.mesa_key as mesa_key
 pub use Rattle.mesa_store_spec.specs.mesa_model as mesa_model
 pub use Rattle.mesa_span.specs as mesa_span
 pub use Rattle.mesa_store_spec.specs as mesa_store_spec
-pub use Rattle.mesa_value.specs as mesa_value
 pub mod Meaning
 pub mod Lookups
 pub mod Room

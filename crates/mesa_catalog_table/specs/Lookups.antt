@@ -1,8 +1,8 @@
 -- What a table is asked for.
 use Rattle.std.specs.Prelude.{ℕ, List, map, if◌then◌else◌, Option, Some, None, option_map}
 use Rattle.mesa_list.specs.Bytes.{same_bytes}
-use Rattle.mesa_schema.specs.declared.views.View.{View}
-use Rattle.mesa_schema.specs.Columns.{place_of}
+use Rattle.mesa_store_spec.specs.mesa_columns.declared.views.View.{View}
+use Rattle.mesa_store_spec.specs.mesa_columns.Columns.{place_of}
 use Rattle.mesa_schema.specs.Changes.{Lineage}
 use Rattle.mesa_store_spec.specs.Catalog.{TableMeta}
 use Rattle.mesa_catalog_table.specs.declared.relation.Relation.{Relation}

@@ -1,10 +1,10 @@
 // Counts of columns: what is recorded for each column is there for each, and for no other.
 ghost use Rattle.std.specs.Prelude.{◌≡◌, ◌≤◌, ◌==◌, ◌+◌, [], ℕ, length, is_none, map, nat_le, nat_lt, replicate, zip, IfOk};
 ghost use Rattle.std.specs.List.{list_all, list_any};
-ghost use Rattle.mesa_schema.specs.declared.columns.ValueColumn.{ValueColumn as Column};
+ghost use Rattle.mesa_store_spec.specs.mesa_columns.declared.columns.ValueColumn.{ValueColumn as Column};
 ghost use Rattle.mesa_schema.specs.Changes.{columns_of, epoch_of};
 ghost use Rattle.mesa_schema.specs.Lineages.{IsLineage};
-ghost use Rattle.mesa_schema.specs.Columns.{aggs_of};
+ghost use Rattle.mesa_store_spec.specs.mesa_columns.Columns.{aggs_of};
 ghost use Rattle.mesa_batch.specs.Totals.{over_bound, sum_bound, sums_in};
 ghost use Rattle.mesa_store_spec.specs.Fitting.{files_fit, is_view_ref as fits_view};
 ghost use Rattle.mesa_catalog_table.specs.Meaning.{widths_of};

@@ -1,6 +1,6 @@
 // Looking names up. There are few views of a table, so that one look at each name is fast.
 ghost use Rattle.std.specs.Prelude.{◌≡◌, ℕ};
-ghost use Rattle.mesa_schema.specs.Columns.{place_of};
+ghost use Rattle.mesa_store_spec.specs.mesa_columns.Columns.{place_of};
 ghost use Rattle.mesa_catalog_table.specs.Lookups.{relation_in, view_names};
 ghost use Rattle.mesa_catalog_table.specs.Meaning.{meta_of};
 

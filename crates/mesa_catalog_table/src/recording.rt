@@ -2,7 +2,7 @@
 ghost use Rattle.std.specs.Prelude.{◌≡◌, ◌+◌, ◌-◌, ◌++◌, ◌≤◌, ◌^◌, ℕ, flat_map, length, map, min, option_map, slice_get, OnOk, Some};
 ghost use Rattle.mesa_store_spec.specs.Fitting.{base_deltas, columns_seen, delta_live, files_live, meta_live, view_live};
 ghost use Rattle.mesa_schema.specs.Changes.{columns_at, columns_of};
-ghost use Rattle.mesa_schema.specs.Columns.{Columns};
+ghost use Rattle.mesa_store_spec.specs.mesa_columns.Columns.{Columns};
 ghost use Rattle.mesa_catalog_table.specs.Files.{recorded_of, recorded_shared, recorded_single, recorded_view};
 ghost use Rattle.mesa_catalog_table.specs.Meaning.{ending_of, meta_of, widths_of};
 

@@ -6,14 +6,14 @@ use Rattle.std.specs.Prelude.{slice_get, Some}
 use Rattle.std.specs.List.{AllByRecursion, list_all}
 use Rattle.mesa_pick_files.specs.mesa_value.declared.Agg.{Agg}
 use Rattle.mesa_pick_files.specs.mesa_value.declared.Agg.TheVariants as agg
-use Rattle.mesa_schema.specs.declared.rows.Row.{Row}
-use Rattle.mesa_schema.specs.Columns.{Columns, aggs_of}
-use Rattle.mesa_schema.specs.declared.columns.ValueColumn.{ValueColumn}
-use Rattle.mesa_schema.specs.Folded.{folded, rows_of}
-use Rattle.mesa_schema.specs.Laws.{AreFull}
-use Rattle.mesa_schema.specs.Rows.{AreRowsOf, IsRowOf}
-use Rattle.mesa_schema.proofs.Folds.{rows_of-append}
-use Rattle.mesa_schema.proofs.Lists.{all_so}
+use Rattle.mesa_pick_files.specs.mesa_columns.declared.rows.Row.{Row}
+use Rattle.mesa_pick_files.specs.mesa_columns.Columns.{Columns, aggs_of}
+use Rattle.mesa_pick_files.specs.mesa_columns.declared.columns.ValueColumn.{ValueColumn}
+use Rattle.mesa_open_files.specs.mesa_fold.Folded.{folded, rows_of}
+use Rattle.mesa_open_files.specs.mesa_fold.Laws.{AreFull}
+use Rattle.mesa_pick_files.specs.mesa_columns.Rows.{AreRowsOf, IsRowOf}
+use Rattle.mesa_pick_files.proofs.mesa_fold.Folds.{rows_of-append}
+use Rattle.mesa_check_file.proofs.mesa_columns.Lists.{all_so}
 use Rattle.mesa_batch.proofs.Merged.{folds_totals}
 use Rattle.mesa_batch.specs.Totals.{AreAtMost, abs_total, abs_totals, sum_bound, sum_places}
 use Rattle.mesa_batch.proofs.Sums.{abs_total-next}

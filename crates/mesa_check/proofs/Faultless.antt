@@ -5,12 +5,12 @@ use Rattle.std.specs.Prelude.{◌||◌, cond, is_some, slice_get, IfSome}
 use Rattle.std.specs.List.{AllByRecursion, list_all}
 use Rattle.std.specs.Ordering.{is_eq}
 use Rattle.std.specs.Cmp.Lexicographic.{texts_ties}
-use Rattle.mesa_schema.specs.declared.views.View.{View}
-use Rattle.mesa_schema.specs.Columns.{aggs_of}
+use Rattle.mesa_pick_files.specs.mesa_columns.declared.views.View.{View}
+use Rattle.mesa_pick_files.specs.mesa_columns.Columns.{aggs_of}
 use Rattle.mesa_schema.specs.Changes.{columns_at, columns_of}
-use Rattle.mesa_schema.specs.Folded.{folded, rows_of}
+use Rattle.mesa_open_files.specs.mesa_fold.Folded.{folded, rows_of}
 use Rattle.mesa_schema.specs.Views.{view_rows}
-use Rattle.mesa_schema.proofs.Lists.{all_append, all_both, all_map, all_so}
+use Rattle.mesa_check_file.proofs.mesa_columns.Lists.{all_append, all_both, all_map, all_so}
 use Rattle.mesa_batch.specs.Totals.{abs_totals}
 use Rattle.mesa_record.specs.declared.record.Files.{Files}
 use Rattle.mesa_record.specs.declared.record.ViewRef.{ViewRef}

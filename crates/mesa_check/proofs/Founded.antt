@@ -6,7 +6,7 @@ use Rattle.std.proofs.lemmas.Bool.Decides.{nat_tests}
 use Rattle.std.proofs.lemmas.List.Sums.{sum_by-cons}
 use Rattle.mesa_disk.specs.Image.{Image}
 use Rattle.mesa_disk.specs.Story.{Story}
-use Rattle.mesa_schema.specs.declared.rows.Row.{Row}
+use Rattle.mesa_pick_files.specs.mesa_columns.declared.rows.Row.{Row}
 use Rattle.mesa_store_spec.specs.Catalog.{Catalog}
 use Rattle.mesa_store_spec.specs.Fitting.{LiveFile, live_files, live_id}
 use Rattle.mesa_store_spec.specs.Shape.{IsCatalog}

@@ -1,3 +1,5 @@
+pub use Rattle.mesa_pick_files.proofs.mesa_fold as mesa_fold
+pub use Rattle.mesa_schema.proofs as mesa_schema
 mod KeyLists
 mod Vectors
 mod Silent

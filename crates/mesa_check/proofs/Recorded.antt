@@ -3,16 +3,16 @@ use Rattle.std.proofs.Common.{◌≡◌, ℕ, zero, suc, ◌^◌, ◌<◌, List,
 use Rattle.std.specs.Prelude.{IfSome, IsTrue, is_some, slice_get, unwrap_or, Option, None, Some}
 use Rattle.std.specs.List.{AllByRecursion, list_all}
 use Rattle.mesa_disk.specs.Image.{Image}
-use Rattle.mesa_schema.specs.declared.rows.Row.{Row}
+use Rattle.mesa_pick_files.specs.mesa_columns.declared.rows.Row.{Row}
 use Rattle.mesa_schema.specs.Changes.{Lineage, columns_at, columns_of, epoch_of, lifted}
-use Rattle.mesa_schema.specs.Schema.{is_schema}
+use Rattle.mesa_pick_files.specs.mesa_columns.Schema.{is_schema}
 use Rattle.mesa_batch.specs.Totals.{abs_totals}
 use Rattle.mesa_check_file.specs.mesa_block.Layout.{Layout}
 use Rattle.mesa_delta.specs.File.{IsFile, file_bytes}
 use Rattle.mesa_delta.specs.Spread.{blocks_of}
 use Rattle.mesa_record.specs.declared.record.Files.{Files}
 use Rattle.mesa_record.specs.declared.record.ViewRef.{ViewRef}
-use Rattle.mesa_schema.specs.declared.views.View.{View}
+use Rattle.mesa_pick_files.specs.mesa_columns.declared.views.View.{View}
 use Rattle.mesa_store_spec.proofs.Contents.{present_now}
 use Rattle.mesa_pick_files.specs.Files.{own_lineage}
 use Rattle.mesa_store_spec.specs.Catalog.{Delta}

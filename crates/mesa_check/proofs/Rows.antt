@@ -5,11 +5,11 @@ use Rattle.std.specs.List.{AllByRecursion, list_all}
 use Rattle.std.proofs.lemmas.Bool.Decides.{nat_tests}
 use Rattle.mesa_pick_files.specs.mesa_value.declared.Agg.{Agg}
 use Rattle.mesa_pick_files.specs.mesa_value.declared.Agg.TheVariants as agg
-use Rattle.mesa_schema.specs.declared.rows.Row.{Row}
-use Rattle.mesa_schema.specs.declared.views.View.{View}
+use Rattle.mesa_pick_files.specs.mesa_columns.declared.rows.Row.{Row}
+use Rattle.mesa_pick_files.specs.mesa_columns.declared.views.View.{View}
 use Rattle.mesa_schema.specs.Changes.{Lineage, columns_at, columns_of, epoch_of, lifted}
-use Rattle.mesa_schema.specs.Columns.{Columns, aggs_of}
-use Rattle.mesa_schema.specs.Folded.{folded, rows_of}
+use Rattle.mesa_pick_files.specs.mesa_columns.Columns.{Columns, aggs_of}
+use Rattle.mesa_open_files.specs.mesa_fold.Folded.{folded, rows_of}
 use Rattle.mesa_schema.specs.Views.{view_rows}
 use Rattle.mesa_batch.specs.Bound.{KeepsBound}
 use Rattle.mesa_batch.specs.Totals.{abs_total, sum_bound, sum_places}
@@ -160,7 +160,7 @@ module _ (ws : List Wanted) (l : Lineage) (ds : List Delta) (are : map want_of w
 
 -- parts with the same rows have one fold
 pub same_fold : (aggs : List Agg) (xs ys : List (List Row)) → rows_of xs ≡ rows_of ys → folded aggs xs ≡ folded aggs ys
-same_fold aggs xs ys same = ap (λ (rs : List Row). map (Rattle.mesa_schema.specs.Folded.folded_at aggs rs) (Rattle.mesa_schema.specs.Folded.keys_of rs)) same
+same_fold aggs xs ys same = ap (λ (rs : List Row). map (Rattle.mesa_open_files.specs.mesa_fold.Folded.folded_at aggs rs) (Rattle.mesa_open_files.specs.mesa_fold.Folded.keys_of rs)) same
 
 -- ---- keys
 

@@ -3,18 +3,18 @@ use Rattle.std.proofs.Common.{◌≡◌, ℕ, ◌+◌, ◌-◌, List, [], ◌∷
 use Rattle.std.specs.Prelude.{filter, is_some, slice_get, unwrap_or, IfSome}
 use Rattle.std.specs.List.{AllByRecursion, list_all}
 use Rattle.std.specs.Cmp.Lexicographic.{same_text}
-use Rattle.mesa_schema.specs.declared.rows.Row.{Row}
-use Rattle.mesa_schema.specs.declared.views.View.{View}
-use Rattle.mesa_schema.specs.Columns.{Columns, aggs_of}
+use Rattle.mesa_pick_files.specs.mesa_columns.declared.rows.Row.{Row}
+use Rattle.mesa_pick_files.specs.mesa_columns.declared.views.View.{View}
+use Rattle.mesa_pick_files.specs.mesa_columns.Columns.{Columns, aggs_of}
 use Rattle.mesa_schema.specs.Changes.{Lineage, columns_at, columns_of, epoch_of, lifted}
-use Rattle.mesa_schema.specs.Folded.{folded, rows_of}
+use Rattle.mesa_open_files.specs.mesa_fold.Folded.{folded, rows_of}
 use Rattle.mesa_schema.specs.Lineages.{IsLineage}
-use Rattle.mesa_schema.specs.Rows.{AreRowsOf, IsRowOf, keys_rise}
+use Rattle.mesa_pick_files.specs.mesa_columns.Rows.{AreRowsOf, IsRowOf, keys_rise}
 use Rattle.mesa_schema.specs.Views.{view_key_places, view_rows, view_value_places}
-use Rattle.mesa_schema.proofs.GroupKeys.{groups_rise}
-use Rattle.mesa_schema.proofs.Lists.{all_append, all_both, all_map, all_so}
+use Rattle.mesa_pick_files.proofs.mesa_fold.GroupKeys.{groups_rise}
+use Rattle.mesa_check_file.proofs.mesa_columns.Lists.{all_append, all_both, all_map, all_so}
 use Rattle.mesa_schema.proofs.PresentRows.{present_rise}
-use Rattle.mesa_schema.proofs.RisingRows.{folded_rise}
+use Rattle.mesa_pick_files.proofs.mesa_fold.RisingRows.{folded_rise}
 use Rattle.mesa_batch.specs.Totals.{AreAtMost, abs_totals, sum_places}
 use Rattle.mesa_disk.specs.Image.{Image}
 use Rattle.mesa_check_file.specs.mesa_block.Rows.{IsRow}

@@ -6,18 +6,18 @@ use Rattle.std.proofs.lemmas.Bool.Decides.{nat_tests}
 use Rattle.std.proofs.lemmas.List.{length-map, map-append}
 use Rattle.std.proofs.lemmas.List.Sums.{sum_by-append}
 use Rattle.mesa_pick_files.specs.mesa_value.declared.Agg.{Agg}
-use Rattle.mesa_schema.specs.declared.columns.ValueColumn.{ValueColumn}
-use Rattle.mesa_schema.specs.declared.rows.Row.{Row}
+use Rattle.mesa_pick_files.specs.mesa_columns.declared.columns.ValueColumn.{ValueColumn}
+use Rattle.mesa_pick_files.specs.mesa_columns.declared.rows.Row.{Row}
 use Rattle.mesa_schema.specs.Changes.{Lineage, columns_at, columns_of, epoch_of, lifted}
-use Rattle.mesa_schema.specs.Columns.{Columns, aggs_of}
-use Rattle.mesa_schema.specs.Folded.{folded, rows_of}
-use Rattle.mesa_schema.specs.Laws.{AreFull}
+use Rattle.mesa_pick_files.specs.mesa_columns.Columns.{Columns, aggs_of}
+use Rattle.mesa_open_files.specs.mesa_fold.Folded.{folded, rows_of}
+use Rattle.mesa_open_files.specs.mesa_fold.Laws.{AreFull}
 use Rattle.mesa_schema.specs.Lineages.{IsLineage}
-use Rattle.mesa_schema.specs.Rows.{AreRowsOf, IsRowOf, keys_rise}
-use Rattle.mesa_schema.proofs.Folds.{folded-folded, rows_of-append}
-use Rattle.mesa_schema.proofs.Lists.{all_drop, all_so}
+use Rattle.mesa_pick_files.specs.mesa_columns.Rows.{AreRowsOf, IsRowOf, keys_rise}
+use Rattle.mesa_pick_files.proofs.mesa_fold.Folds.{folded-folded, rows_of-append}
+use Rattle.mesa_check_file.proofs.mesa_columns.Lists.{all_drop, all_so}
 use Rattle.mesa_schema.proofs.PresentRows.{present_rise}
-use Rattle.mesa_schema.proofs.RisingRows.{folded_rise}
+use Rattle.mesa_pick_files.proofs.mesa_fold.RisingRows.{folded_rise}
 use Rattle.mesa_batch.specs.Bound.{KeepsBound}
 use Rattle.mesa_batch.proofs.Merged.{folds_totals}
 use Rattle.mesa_disk.specs.Image.{Image}

@@ -6,10 +6,10 @@ use Rattle.std.proofs.lemmas.Bool.Decides.{nat_tests}
 use Rattle.std.proofs.lemmas.List.{append-nil}
 use Rattle.std.proofs.lemmas.List.Sums.{sum_by-append}
 use Rattle.mesa_disk.specs.Image.{Image}
-use Rattle.mesa_schema.specs.declared.rows.Row.{Row}
+use Rattle.mesa_pick_files.specs.mesa_columns.declared.rows.Row.{Row}
 use Rattle.mesa_schema.specs.Changes.{Lineage, columns_of}
-use Rattle.mesa_schema.specs.Columns.{Columns, aggs_of}
-use Rattle.mesa_schema.proofs.Lists.{all_so}
+use Rattle.mesa_pick_files.specs.mesa_columns.Columns.{Columns, aggs_of}
+use Rattle.mesa_check_file.proofs.mesa_columns.Lists.{all_so}
 use Rattle.mesa_batch.specs.Totals.{abs_total, sum_bound, sum_places}
 use Rattle.mesa_store_spec.specs.Contents.{present}
 use Rattle.mesa_store_spec.proofs.Lists.{both_true}

@@ -4,7 +4,7 @@ use Rattle.std.specs.Prelude.{pos, codes, ◌==◌, if◌then◌else◌, replica
 use Rattle.mesa_pick_files.specs.mesa_value.declared.Agg.TheVariants as agg
 use Rattle.mesa_key.specs.declared.Format.TheVariants as format
 use Rattle.mesa_key.specs.declared.KeyType.TheVariants as kind
-use Rattle.mesa_schema.specs.declared.rows.Row.{Row}
+use Rattle.mesa_pick_files.specs.mesa_columns.declared.rows.Row.{Row}
 use Rattle.mesa_schema.specs.Changes.{Lineage}
 use Rattle.mesa_open_files.specs.mesa_file.declared.file_ref.FileRef.{FileRef}
 use Rattle.mesa_record.specs.declared.record.ViewRef.{ViewRef}

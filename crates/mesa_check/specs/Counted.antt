@@ -1,7 +1,7 @@
 -- Which ranges tell of a table's totals, and which ranges' rows are added up.
 use Rattle.std.specs.Prelude.{List, [], Bool, true, false, if◌then◌else◌, is_some}
 use Rattle.mesa_schema.specs.Changes.{Lineage}
-use Rattle.mesa_schema.specs.declared.rows.Row.{Row}
+use Rattle.mesa_pick_files.specs.mesa_columns.declared.rows.Row.{Row}
 use Rattle.mesa_store_spec.specs.Contents.{present}
 use Rattle.mesa_check.specs.Found.{Found, rows_found}
 use Rattle.mesa_check.specs.Ranges.{Range}

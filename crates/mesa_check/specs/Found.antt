@@ -1,7 +1,7 @@
 -- The rows that the files of a store are found to have.
 use Rattle.std.specs.Prelude.{◌≡◌, ℕ, List, [], Option, Some, None, unwrap_or}
 use Rattle.std.specs.List.{AllByRecursion}
-use Rattle.mesa_schema.specs.declared.rows.Row.{Row}
+use Rattle.mesa_pick_files.specs.mesa_columns.declared.rows.Row.{Row}
 use Rattle.mesa_disk.specs.Image.{Image, file_of}
 use Rattle.mesa_delta.specs.File.{IsFile, file_bytes}
 use Rattle.mesa_delta.specs.Summary.{IsReferenceOf}

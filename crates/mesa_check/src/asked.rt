@@ -5,7 +5,7 @@ ghost use Rattle.mesa_disk.specs.Image.{Image};
 ghost use Rattle.mesa_batch.specs.Totals.{abs_totals};
 ghost use Rattle.mesa_store_spec.specs.Contents.{present as present_of};
 ghost use Rattle.mesa_schema.specs.Changes.{Lineage, columns_of};
-ghost use Rattle.mesa_schema.specs.declared.rows.Row.{Row as AnyRow};
+ghost use Rattle.mesa_pick_files.specs.mesa_columns.declared.rows.Row.{Row as AnyRow};
 ghost use Rattle.mesa_catalog_table.specs.Meaning.{meta_of};
 ghost use Rattle.mesa_check_file.specs.Sums.{counted as counted_of};
 ghost use Rattle.mesa_check.specs.Found.{Found, rows_found};

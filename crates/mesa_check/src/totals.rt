@@ -3,8 +3,8 @@ ghost use Rattle.std.specs.Prelude.{◌≡◌, ◌<◌, ◌+◌, ◌++◌, ◌==
 ghost use Rattle.std.specs.List.{AllByRecursion, list_all};
 ghost use Rattle.mesa_batch.specs.Totals.{abs_totals, sum_bound};
 ghost use Rattle.mesa_schema.specs.Changes.{Lineage, columns_of};
-ghost use Rattle.mesa_schema.specs.Columns.{Columns};
-ghost use Rattle.mesa_schema.specs.declared.rows.Row.{Row as AnyRow};
+ghost use Rattle.mesa_pick_files.specs.mesa_columns.Columns.{Columns};
+ghost use Rattle.mesa_pick_files.specs.mesa_columns.declared.rows.Row.{Row as AnyRow};
 ghost use Rattle.mesa_check_file.specs.Sums.{counted as counted_of, most};
 ghost use Rattle.mesa_check.specs.Found.{Found};
 ghost use Rattle.mesa_check.specs.Faults.{agrees_if_any, are_at_most as at_most};

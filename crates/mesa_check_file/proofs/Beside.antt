@@ -6,8 +6,8 @@ use Rattle.std.specs.Prelude.{not, cond, filter, ◌||◌}
 use Rattle.std.specs.List.{AllByRecursion}
 use Rattle.std.specs.declared.cmp.Ordering.TheVariants.{Less}
 use Rattle.mesa_key.specs.Order.{byte_cmp}
-use Rattle.mesa_schema.specs.declared.rows.Row.{Row}
-use Rattle.mesa_schema.specs.Rows.{keys_rise}
+use Rattle.mesa_open_files.specs.mesa_columns.declared.rows.Row.{Row}
+use Rattle.mesa_open_files.specs.mesa_columns.Rows.{keys_rise}
 use Rattle.mesa_check_file.specs.Difference.{has_row, rows_beside, same_row}
 use Rattle.mesa_check_file.proofs.Same.{above_behind, not_same_below, rest_above, rest_rises, same_itself}
 

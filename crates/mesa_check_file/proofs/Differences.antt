@@ -6,10 +6,10 @@ use Rattle.std.specs.declared.cmp.Ordering.{Ordering}
 use Rattle.std.specs.declared.cmp.Ordering.TheVariants.{Less, Equal, Greater}
 use Rattle.std.specs.FinMap.{slice_cmp-IsAntisymmetric, nat_cmp-IsAntisymmetric}
 use Rattle.mesa_key.specs.Order.{byte_cmp}
-use Rattle.mesa_schema.specs.declared.rows.Row.{Row}
-use Rattle.mesa_schema.specs.Folded.{keys_of}
-use Rattle.mesa_schema.specs.Rows.{keys_rise}
-use Rattle.mesa_schema.proofs.Lists.{all_append, all_so}
+use Rattle.mesa_open_files.specs.mesa_columns.declared.rows.Row.{Row}
+use Rattle.mesa_open_files.specs.mesa_fold.Folded.{keys_of}
+use Rattle.mesa_open_files.specs.mesa_columns.Rows.{keys_rise}
+use Rattle.mesa_schema.proofs.mesa_columns.Lists.{all_append, all_so}
 use Rattle.mesa_check_file.specs.Difference.{first_difference, has_row, next_of, rows_beside, same_row}
 use Rattle.mesa_check_file.proofs.Same.{AreAbove, above_more, flipped_back, not_among, rest_above, rest_rises, same_is}
 use Rattle.mesa_check_file.proofs.Least.{AreFrom, IsFrom, least}

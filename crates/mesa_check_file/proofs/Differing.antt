@@ -4,9 +4,9 @@ use Rattle.std.proofs.lemmas.Bool.{and_from, and_parts}
 use Rattle.std.specs.Ordering.{is_lt}
 use Rattle.mesa_key.specs.Order.{byte_cmp}
 use Rattle.std.specs.Prelude.{Option, Some, None, IsTrue, option_to_list}
-use Rattle.mesa_schema.specs.declared.rows.Row.{Row}
-use Rattle.mesa_schema.specs.Rows.{keys_rise}
-use Rattle.mesa_schema.specs.Folded.{folded}
+use Rattle.mesa_open_files.specs.mesa_columns.declared.rows.Row.{Row}
+use Rattle.mesa_open_files.specs.mesa_columns.Rows.{keys_rise}
+use Rattle.mesa_open_files.specs.mesa_fold.Folded.{folded}
 use Rattle.mesa_value.specs.declared.Agg.{Agg}
 use Rattle.mesa_delta.specs.Reading.{IsIndexed, index_of}
 use Rattle.mesa_delta.specs.declared.input.Input.{Input}

@@ -4,12 +4,13 @@ use Rattle.std.specs.Prelude.{Option, None, Some}
 use Rattle.std.specs.List.{AllByRecursion}
 use Rattle.sha2.specs.Sha256.{sha256}
 use Rattle.mesa_key.specs.Order.{short_key}
-use Rattle.mesa_schema.specs.declared.rows.Row.{Row}
-use Rattle.mesa_schema.specs.declared.lifting.Lift.{Lift}
+use Rattle.mesa_open_files.specs.mesa_columns.declared.rows.Row.{Row}
+use Rattle.mesa_open_files.specs.mesa_columns.declared.lifting.Lift.{Lift}
 use Rattle.mesa_schema.specs.Changes.{Lineage, columns_at, columns_of, epoch_of, lifted}
-use Rattle.mesa_schema.specs.Columns.{Columns}
-use Rattle.mesa_schema.specs.Lifting.{Lifts, lifted_with}
-use Rattle.mesa_schema.specs.Rows.{AreRowsOf}
+use Rattle.mesa_open_files.specs.mesa_columns.Columns.{Columns}
+use Rattle.mesa_open_files.specs.mesa_columns.Lifting.{lifted_with}
+use Rattle.mesa_schema.specs.Lifting.{Lifts}
+use Rattle.mesa_open_files.specs.mesa_columns.Rows.{AreRowsOf}
 use Rattle.mesa_open_files.specs.mesa_batch.Totals.{abs_totals}
 use Rattle.mesa_block.specs.Layout.{Layout}
 use Rattle.mesa_block.specs.Rows.{IsRow}

@@ -4,9 +4,9 @@ use Rattle.std.specs.List.{AllByRecursion}
 use Rattle.std.specs.declared.cmp.Ordering.TheVariants.{Less}
 use Rattle.std.specs.FinMap.Entries.{by_order}
 use Rattle.mesa_key.specs.Order.{byte_cmp}
-use Rattle.mesa_schema.specs.declared.rows.Row.{Row}
-use Rattle.mesa_schema.specs.Folded.{keys_of, with_key}
-use Rattle.mesa_schema.proofs.KeyLifts.{keys_of-all}
+use Rattle.mesa_open_files.specs.mesa_columns.declared.rows.Row.{Row}
+use Rattle.mesa_open_files.specs.mesa_fold.Folded.{keys_of, with_key}
+use Rattle.mesa_merge.proofs.mesa_fold.KeyLifts.{keys_of-all}
 use Rattle.mesa_check_file.proofs.Same.{equal_itself, flipped}
 
 -- a key is this one or above it

@@ -1,3 +1,4 @@
+pub use Rattle.mesa_schema.proofs.mesa_columns as mesa_columns
 pub mod SumColumns
 pub mod Tallying
 pub mod Streams

@@ -2,9 +2,9 @@
 use Rattle.std.proofs.Common.{◌≡◌, ℕ, List, [], ◌∷◌, map, refl, sym, ◌∙◌, ap, subst}
 use Rattle.std.specs.Prelude.{Option, Some, None}
 use Rattle.std.specs.List.{AllByRecursion}
-use Rattle.mesa_schema.specs.declared.rows.Row.{Row}
+use Rattle.mesa_open_files.specs.mesa_columns.declared.rows.Row.{Row}
 use Rattle.mesa_schema.specs.Changes.{columns_of, epoch_of, lifted}
-use Rattle.mesa_schema.specs.Columns.{Columns}
+use Rattle.mesa_open_files.specs.mesa_columns.Columns.{Columns}
 use Rattle.mesa_disk.specs.Image.{Image}
 use Rattle.mesa_open_files.specs.mesa_file.declared.damage.Damage.{Damage}
 use Rattle.mesa_delta.specs.File.{IsFile, file_bytes}

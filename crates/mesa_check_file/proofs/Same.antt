@@ -12,9 +12,9 @@ use Rattle.std.specs.Cmp.{eq_by_cmp_equiv}
 use Rattle.std.specs.Cmp.Rules.{signed_items}
 use Rattle.mesa_key.specs.Order.{byte_cmp}
 use Rattle.mesa_list.specs.Bytes.{same_bytes}
-use Rattle.mesa_schema.specs.declared.rows.Row.{Row}
-use Rattle.mesa_schema.specs.Rows.{keys_rise}
-use Rattle.mesa_schema.proofs.Folds.{is_equal}
+use Rattle.mesa_open_files.specs.mesa_columns.declared.rows.Row.{Row}
+use Rattle.mesa_open_files.specs.mesa_columns.Rows.{keys_rise}
+use Rattle.mesa_merge.proofs.mesa_fold.Folds.{is_equal}
 use Rattle.mesa_check_file.specs.Difference.{has_row, same_row}
 
 pub same_is : (a b : Row) → same_row a b ≡ true → a ≡ b

@@ -4,7 +4,7 @@ use Rattle.std.proofs.lemmas.List.{get_or-map, length-map}
 use Rattle.std.proofs.Math.Seq.{drop-cons}
 use Rattle.mesa_value.specs.declared.Agg.{Agg}
 use Rattle.mesa_value.specs.declared.Agg.TheVariants as agg
-use Rattle.mesa_schema.specs.declared.columns.ValueColumn.{ValueColumn}
+use Rattle.mesa_open_files.specs.mesa_columns.declared.columns.ValueColumn.{ValueColumn}
 use Rattle.mesa_open_files.specs.mesa_batch.Totals.{is_sum, sum_places}
 use Rattle.mesa_check_file.specs.Sums.{counted}
 

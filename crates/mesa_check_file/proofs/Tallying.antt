@@ -3,10 +3,10 @@ use Rattle.std.proofs.Common.{◌≡◌, ℕ, ◌+◌, ◌<◌, min, ℤ, pos, L
 use Rattle.std.specs.Prelude.{nat_abs, slice_index_or}
 use Rattle.std.proofs.lemmas.List.{length-append, length-map, map-append}
 use Rattle.std.proofs.lemmas.List.Sums.{sum_by-append}
-use Rattle.mesa_schema.specs.declared.rows.Row.{Row}
-use Rattle.mesa_schema.specs.declared.lifting.Lift.{Lift}
-use Rattle.mesa_schema.specs.Columns.{Columns, aggs_of}
-use Rattle.mesa_schema.specs.Lifting.{lifted_with}
+use Rattle.mesa_open_files.specs.mesa_columns.declared.rows.Row.{Row}
+use Rattle.mesa_open_files.specs.mesa_columns.declared.lifting.Lift.{Lift}
+use Rattle.mesa_open_files.specs.mesa_columns.Columns.{Columns, aggs_of}
+use Rattle.mesa_open_files.specs.mesa_columns.Lifting.{lifted_with}
 use Rattle.mesa_open_files.specs.mesa_batch.Totals.{abs_total}
 use Rattle.mesa_value.specs.declared.Agg.{Agg}
 use Rattle.mesa_delta.specs.Summary.{all_noted}

@@ -1,9 +1,9 @@
 -- What a file is found to be.
 use Rattle.std.specs.Prelude.{◌≡◌, ℕ, List, Bool, true, false, map, Option, Some, None, Result, Ok, Err}
-use Rattle.mesa_schema.specs.declared.rows.Row.{Row}
-use Rattle.mesa_schema.specs.Columns.{Columns}
-use Rattle.mesa_schema.specs.Lifting.{lifted_with}
-use Rattle.mesa_schema.specs.declared.lifting.Lift.{Lift}
+use Rattle.mesa_open_files.specs.mesa_columns.declared.rows.Row.{Row}
+use Rattle.mesa_open_files.specs.mesa_columns.Columns.{Columns}
+use Rattle.mesa_open_files.specs.mesa_columns.Lifting.{lifted_with}
+use Rattle.mesa_open_files.specs.mesa_columns.declared.lifting.Lift.{Lift}
 use Rattle.mesa_open_files.specs.mesa_batch.Totals.{abs_totals}
 use Rattle.mesa_open_files.specs.mesa_file.declared.file_ref.FileRef.{FileRef}
 use Rattle.mesa_disk.specs.Image.{Image, file_of}

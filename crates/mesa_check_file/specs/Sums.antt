@@ -1,6 +1,6 @@
 -- What the absolute values of a file's rows add up to.
 use Rattle.std.specs.Prelude.{◌≡◌, ℕ, ◌-◌, ◌<◌, ◌^◌, min, List, length, get_or, map}
-use Rattle.mesa_schema.specs.declared.rows.Row.{Row}
+use Rattle.mesa_open_files.specs.mesa_columns.declared.rows.Row.{Row}
 use Rattle.mesa_schema.specs.Changes.{Lineage, columns_at, columns_of, epoch_of, lifted}
 use Rattle.mesa_open_files.specs.mesa_batch.Totals.{abs_total, abs_totals}
 use Rattle.mesa_check_file.specs.declared.totals.Sums.{Sums}

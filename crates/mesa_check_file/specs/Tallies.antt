@@ -1,9 +1,9 @@
 -- What the rows of a file come to, tallied row by row.
 use Rattle.std.specs.Prelude.{◌≡◌, ℕ, List, length, map}
-use Rattle.mesa_schema.specs.declared.rows.Row.{Row}
-use Rattle.mesa_schema.specs.Columns.{Columns, aggs_of}
-use Rattle.mesa_schema.specs.Lifting.{lifted_with}
-use Rattle.mesa_schema.specs.declared.lifting.Lift.{Lift}
+use Rattle.mesa_open_files.specs.mesa_columns.declared.rows.Row.{Row}
+use Rattle.mesa_open_files.specs.mesa_columns.Columns.{Columns, aggs_of}
+use Rattle.mesa_open_files.specs.mesa_columns.Lifting.{lifted_with}
+use Rattle.mesa_open_files.specs.mesa_columns.declared.lifting.Lift.{Lift}
 use Rattle.mesa_open_files.specs.mesa_file.declared.file_ref.FileRef.{FileRef}
 use Rattle.mesa_delta.specs.Tail.{first_key}
 use Rattle.mesa_delta.specs.Summary.{aggregates as aggregates_of, last_key}

@@ -1,8 +1,8 @@
 // Two ordered streams of rows compared row by row.
 ghost use Rattle.std.specs.Prelude.{◌≡◌, ◌++◌, ◌∷◌, List, Some, IfSome, IfNone, IsTrue, option_map};
-ghost use Rattle.mesa_schema.specs.declared.rows.Row.{Row as AnyRow};
-ghost use Rattle.mesa_schema.specs.Lent.{lent};
-ghost use Rattle.mesa_schema.specs.Rows.{keys_rise};
+ghost use Rattle.mesa_open_files.specs.mesa_columns.declared.rows.Row.{Row as AnyRow};
+ghost use Rattle.mesa_open_files.specs.mesa_columns.Lent.{lent};
+ghost use Rattle.mesa_open_files.specs.mesa_columns.Rows.{keys_rise};
 ghost use Rattle.mesa_check_file.specs.Difference.{first_difference, next_of};
 
 use mesa_schema::LentRow;

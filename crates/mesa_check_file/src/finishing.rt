@@ -2,9 +2,9 @@
 ghost use Rattle.std.specs.Prelude.{◌≡◌, [], ◌∷◌, ◌++◌, ℕ, List, IsTrue, IfErr, OnOk, None, Some};
 ghost use Rattle.mesa_open_files.specs.mesa_io.Causes.{HasFaultCause};
 ghost use Rattle.mesa_open_files.specs.mesa_file.declared.damage.Damage.{Damage as AnyDamage};
-ghost use Rattle.mesa_schema.specs.declared.rows.Row.{Row as AnyRow};
-ghost use Rattle.mesa_schema.specs.Columns.{Columns, aggs_of};
-ghost use Rattle.mesa_schema.specs.Folded.{folded, rows_of};
+ghost use Rattle.mesa_open_files.specs.mesa_columns.declared.rows.Row.{Row as AnyRow};
+ghost use Rattle.mesa_open_files.specs.mesa_columns.Columns.{Columns, aggs_of};
+ghost use Rattle.mesa_open_files.specs.mesa_fold.Folded.{folded, rows_of};
 ghost use Rattle.mesa_open_files.specs.mesa_batch.Bound.{KeepsBound};
 ghost use Rattle.mesa_delta.specs.declared.error.FileError.TheVariants as file_error;
 ghost use Rattle.mesa_delta.specs.Reading.{IsIndexed, index_of};

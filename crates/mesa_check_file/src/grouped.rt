@@ -2,9 +2,9 @@
 ghost use Rattle.std.specs.Prelude.{◌≡◌, ◌∷◌, [], ◌<◌, ℕ, List, length, map, slice_get, IfErr, IfOk, IfSome, IsTrue, None, Some};
 ghost use Rattle.mesa_open_files.specs.mesa_io.Causes.{HasFaultCause};
 ghost use Rattle.mesa_open_files.specs.mesa_file.declared.damage.Damage.{Damage as AnyDamage};
-ghost use Rattle.mesa_schema.specs.declared.rows.Row.{Row as AnyRow};
+ghost use Rattle.mesa_open_files.specs.mesa_columns.declared.rows.Row.{Row as AnyRow};
 ghost use Rattle.mesa_schema.specs.Changes.{columns_of};
-ghost use Rattle.mesa_schema.specs.Rows.{keys_rise};
+ghost use Rattle.mesa_open_files.specs.mesa_columns.Rows.{keys_rise};
 ghost use Rattle.mesa_schema.specs.Views.{view_rows};
 ghost use Rattle.mesa_view.specs.mesa_answer.Answering.{KeepsSums};
 ghost use Rattle.mesa_delta.specs.Reading.{IsIndexed, index_of};

@@ -1,6 +1,6 @@
 // Where two streams of rows differ that were the same so far.
 ghost use Rattle.std.specs.Prelude.{◌≡◌, IfNone, IfOk, IfSome, option_map};
-ghost use Rattle.mesa_schema.specs.Lent.{lent};
+ghost use Rattle.mesa_open_files.specs.mesa_columns.Lent.{lent};
 ghost use Rattle.mesa_check_file.specs.Compared.{Shows};
 
 use crate::differing_key;

@@ -1,7 +1,7 @@
 // What a difference says of two lists of rows.
 ghost use Rattle.std.specs.Prelude.{◌≡◌, List, None, IsTrue};
-ghost use Rattle.mesa_schema.specs.declared.rows.Row.{Row as AnyRow};
-ghost use Rattle.mesa_schema.specs.Rows.{keys_rise};
+ghost use Rattle.mesa_open_files.specs.mesa_columns.declared.rows.Row.{Row as AnyRow};
+ghost use Rattle.mesa_open_files.specs.mesa_columns.Rows.{keys_rise};
 ghost use Rattle.mesa_check_file.specs.Difference.{first_difference};
 
 /// Lists whose keys rise differ nowhere exactly where they are the same.

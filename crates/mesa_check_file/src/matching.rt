@@ -1,7 +1,7 @@
 // Whether a reference tells the rows that were read.
 ghost use Rattle.std.specs.Prelude.{◌≡◌, ◌↔◌, List, IsTrue};
-ghost use Rattle.mesa_schema.specs.declared.rows.Row.{Row as AnyRow};
-ghost use Rattle.mesa_schema.specs.Columns.{Columns};
+ghost use Rattle.mesa_open_files.specs.mesa_columns.declared.rows.Row.{Row as AnyRow};
+ghost use Rattle.mesa_open_files.specs.mesa_columns.Columns.{Columns};
 ghost use Rattle.mesa_check_file.specs.Tallies.{AreEnds, IsToldOf};
 
 use crate::aggregate::Aggregate;

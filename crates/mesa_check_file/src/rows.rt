@@ -4,9 +4,9 @@ ghost use Rattle.std.specs.Bool.{then_some};
 ghost use Rattle.mesa_scan.specs.Cursors.{HasGiven, IsAllOf, IsInput, IsSameInput, low_of, reader_in};
 ghost use Rattle.mesa_open_files.specs.mesa_io.Causes.{HasFaultCause};
 ghost use Rattle.mesa_open_files.specs.mesa_file.declared.damage.Damage.{Damage as AnyDamage};
-ghost use Rattle.mesa_schema.specs.declared.rows.Row.{Row as AnyRow};
+ghost use Rattle.mesa_open_files.specs.mesa_columns.declared.rows.Row.{Row as AnyRow};
 ghost use Rattle.mesa_schema.specs.Changes.{columns_of};
-ghost use Rattle.mesa_schema.specs.Rows.{IsRowOf};
+ghost use Rattle.mesa_open_files.specs.mesa_columns.Rows.{IsRowOf};
 ghost use Rattle.mesa_delta.specs.Reading.{IsIndexed, index_of};
 ghost use Rattle.mesa_delta.specs.declared.error.FileError.TheVariants as file_error;
 

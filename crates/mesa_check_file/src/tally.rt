@@ -1,8 +1,8 @@
 // What the rows of a file come to, tallied row by row.
 ghost use Rattle.std.specs.Prelude.{◌≡◌, ◌<◌, [], ◌∷◌, ◌++◌, ℕ, List, length, map, IfOk, OnOk};
-ghost use Rattle.mesa_schema.specs.declared.rows.Row.{Row as AnyRow};
-ghost use Rattle.mesa_schema.specs.declared.lifting.Lift.{Lift as AnyLift};
-ghost use Rattle.mesa_schema.specs.Columns.{Columns};
+ghost use Rattle.mesa_open_files.specs.mesa_columns.declared.rows.Row.{Row as AnyRow};
+ghost use Rattle.mesa_open_files.specs.mesa_columns.declared.lifting.Lift.{Lift as AnyLift};
+ghost use Rattle.mesa_open_files.specs.mesa_columns.Columns.{Columns};
 ghost use Rattle.mesa_delta.specs.Summary.{all_noted};
 ghost use Rattle.mesa_delta.specs.Totals.{added};
 ghost use Rattle.mesa_check_file.specs.Tallies.{AreEnds, Tallies};

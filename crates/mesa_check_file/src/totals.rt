@@ -1,8 +1,8 @@
 // The absolute values of columns, added up row by row.
 ghost use Rattle.std.specs.Prelude.{◌≡◌, ◌^◌, ◌-◌, ◌+◌, ◌<◌, ◌++◌, [], ◌∷◌, ℕ, List, min, nat_abs, pos, cond, length, get_or, map, slice_index_or, IfOk, OnOk};
 ghost use Rattle.mesa_open_files.specs.mesa_batch.Totals.{abs_total, abs_totals, is_sum};
-ghost use Rattle.mesa_schema.specs.declared.rows.Row.{Row as AnyRow};
-ghost use Rattle.mesa_schema.specs.Columns.{Columns};
+ghost use Rattle.mesa_open_files.specs.mesa_columns.declared.rows.Row.{Row as AnyRow};
+ghost use Rattle.mesa_open_files.specs.mesa_columns.Columns.{Columns};
 ghost use Rattle.mesa_check_file.specs.Sums.{AreTotals, counted, most};
 
 use mesa_list::Items;

@@ -8,11 +8,11 @@ use Rattle.std.specs.Ordering.{is_lt}
 use Rattle.std.specs.declared.cmp.Ordering.{Ordering}
 use Rattle.std.specs.declared.cmp.Ordering.TheVariants.{Less, Equal, Greater}
 use Rattle.mesa_view.specs.mesa_key.Order.{byte_cmp}
-use Rattle.mesa_view.specs.mesa_value.declared.Agg.TheVariants.{Sum}
-use Rattle.mesa_schema.specs.declared.rows.Row.{Row}
-use Rattle.mesa_schema.specs.Columns.{Columns, aggs_of}
-use Rattle.mesa_schema.specs.Folded.{folded, rows_of}
-use Rattle.mesa_schema.specs.Rows.{AreRowsOf, keys_rise}
+use Rattle.mesa_open_files.specs.mesa_value.declared.Agg.TheVariants.{Sum}
+use Rattle.mesa_open_files.specs.mesa_columns.declared.rows.Row.{Row}
+use Rattle.mesa_open_files.specs.mesa_columns.Columns.{Columns, aggs_of}
+use Rattle.mesa_open_files.specs.mesa_fold.Folded.{folded, rows_of}
+use Rattle.mesa_open_files.specs.mesa_columns.Rows.{AreRowsOf, keys_rise}
 use Rattle.mesa_batch.specs.Totals.{abs_total, sum_bound}
 use Rattle.mesa_batch.specs.Bound.{FoldsTotals, KeepsBound}
 use Rattle.mesa_open_files.specs.mesa_block.Rows.{IsRow, Rise}

@@ -1,10 +1,10 @@
 -- Rows poured from a merge.
 use Rattle.std.proofs.Common.{◌≡◌, ℕ, List, [], ◌∷◌, ◌++◌, refl, sym, subst, get_or, true, false}
 use Rattle.std.specs.Prelude.{Bool, Ok, Option, Some, None, IfNone}
-use Rattle.mesa_schema.specs.declared.rows.Row.{Row}
-use Rattle.mesa_schema.specs.Columns.{Columns, aggs_of}
-use Rattle.mesa_schema.specs.Folded.{folded}
-use Rattle.mesa_schema.specs.Rows.{AreRowsOf, IsRowOf}
+use Rattle.mesa_open_files.specs.mesa_columns.declared.rows.Row.{Row}
+use Rattle.mesa_open_files.specs.mesa_columns.Columns.{Columns, aggs_of}
+use Rattle.mesa_open_files.specs.mesa_fold.Folded.{folded}
+use Rattle.mesa_open_files.specs.mesa_columns.Rows.{AreRowsOf, IsRowOf}
 use Rattle.mesa_merge.specs.Calls.{IsNextOf, answer_of}
 use Rattle.mesa_merge.specs.Merged.{HasMerged, last_in, row_in}
 use Rattle.mesa_merge.specs.Sums.{IsLastOf}

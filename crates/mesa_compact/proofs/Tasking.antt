@@ -14,11 +14,11 @@ use Rattle.mesa_compact.proofs.Causing.{caused_left, caused_on, caused_right}
 use Rattle.mesa_compact.proofs.Viewing.{faults_append}
 use Rattle.std.proofs.Common.{◌≡◌, ◌⊎◌, inl, inr, ℕ, zero, suc, ◌<◌, List, [], ◌∷◌, ◌++◌, refl, sym, ◌∙◌, ap, subst, length, get_or, arith}
 use Rattle.std.specs.Prelude.{Option, Some, None, map, slice_get}
-use Rattle.mesa_schema.specs.declared.rows.Row.{Row}
+use Rattle.mesa_open_files.specs.mesa_columns.declared.rows.Row.{Row}
 use Rattle.mesa_schema.specs.Changes.{Lineage, columns_of}
 use Rattle.mesa_delta.specs.declared.input.Input.{Input}
-use Rattle.mesa_schema.specs.Columns.{aggs_of}
-use Rattle.mesa_schema.specs.Folded.{folded}
+use Rattle.mesa_open_files.specs.mesa_columns.Columns.{aggs_of}
+use Rattle.mesa_open_files.specs.mesa_fold.Folded.{folded}
 use Rattle.mesa_merge.specs.Inputs.{AreTold, Known, known_of, knowns_of, lifted_in, lifted_parts}
 use Rattle.mesa_open_files.specs.Inputs.{AreInputsOf, IsMergeOf, present_parts}
 use Rattle.mesa_open_files.specs.Inputs.{AreTold as AreToldInputs}

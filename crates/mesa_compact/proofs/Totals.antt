@@ -2,9 +2,9 @@
 use Rattle.std.proofs.Common.{◌≡◌, ℕ, List, [], ◌∷◌, ◌++◌}
 use Rattle.std.specs.Prelude.{Option, Some, slice_get}
 use Rattle.mesa_file.specs.declared.damage.Damage.{Damage}
-use Rattle.mesa_schema.specs.declared.rows.Row.{Row}
-use Rattle.mesa_schema.specs.Columns.{Columns, aggs_of}
-use Rattle.mesa_schema.specs.Folded.{folded}
+use Rattle.mesa_open_files.specs.mesa_columns.declared.rows.Row.{Row}
+use Rattle.mesa_open_files.specs.mesa_columns.Columns.{Columns, aggs_of}
+use Rattle.mesa_open_files.specs.mesa_fold.Folded.{folded}
 use Rattle.mesa_answer.specs.Answering.{KeepsSums}
 use Rattle.mesa_merge.specs.Inputs.{Known, knowns_of}
 use Rattle.mesa_merge.specs.Merged.{HasMerged, inputs_of, last_in}

@@ -6,10 +6,10 @@ use Rattle.std.specs.FinMap.Entries.{by_order}
 use Rattle.std.specs.declared.cmp.Ordering.{Ordering}
 use Rattle.std.specs.declared.cmp.Ordering.TheVariants.{Less, Equal, Greater}
 use Rattle.mesa_view.specs.mesa_key.Order.{byte_cmp}
-use Rattle.mesa_view.specs.mesa_value.declared.Agg.{Agg}
-use Rattle.mesa_schema.specs.declared.rows.Row.{Row}
-use Rattle.mesa_schema.specs.Columns.{Columns, aggs_of}
-use Rattle.mesa_schema.specs.Folded.{folded, folded_at, keys_of, rows_of, with_key}
+use Rattle.mesa_open_files.specs.mesa_value.declared.Agg.{Agg}
+use Rattle.mesa_open_files.specs.mesa_columns.declared.rows.Row.{Row}
+use Rattle.mesa_open_files.specs.mesa_columns.Columns.{Columns, aggs_of}
+use Rattle.mesa_open_files.specs.mesa_fold.Folded.{folded, folded_at, keys_of, rows_of, with_key}
 use Rattle.mesa_delta.specs.declared.input.Input.{Input}
 use Rattle.mesa_merge.specs.Inputs.{AreAll, Known, known_of, knowns_of, lifted_in}
 use Rattle.mesa_merge.specs.Inputs.{lifted_parts as known_parts}
@@ -18,7 +18,7 @@ use Rattle.mesa_batch.specs.Bound.{FoldsTotals}
 use Rattle.mesa_answer.specs.Answering.{KeepsSums}
 use Rattle.mesa_compact.specs.Bounded.{AreBounded}
 use Rattle.mesa_compact.proofs.Following.{folded_bound}
-use Rattle.mesa_schema.specs.Rows.{AreRowsOf}
+use Rattle.mesa_open_files.specs.mesa_columns.Rows.{AreRowsOf}
 use Rattle.mesa_open_files.specs.Inputs.{IsMergeOf, present_parts}
 use Rattle.mesa_open_files.specs.Inputs.{AreTold as AreToldInputs}
 

@@ -1,11 +1,11 @@
 -- Inputs whose sums stay in their type.
 use Rattle.std.specs.Prelude.{◌≡◌, ℕ, List, [], Vec, slice_get, Option, Some, IfSome}
 use Rattle.std.specs.declared.alloc.Global.{Global}
-use Rattle.mesa_schema.specs.declared.rows.Row.{Row}
-use Rattle.mesa_schema.specs.declared.views.View.{View}
+use Rattle.mesa_open_files.specs.mesa_columns.declared.rows.Row.{Row}
+use Rattle.mesa_open_files.specs.mesa_columns.declared.views.View.{View}
 use Rattle.mesa_schema.specs.Changes.{Lineage, columns_of}
-use Rattle.mesa_schema.specs.Columns.{Columns, aggs_of}
-use Rattle.mesa_schema.specs.Folded.{rows_of}
+use Rattle.mesa_open_files.specs.mesa_columns.Columns.{Columns, aggs_of}
+use Rattle.mesa_open_files.specs.mesa_fold.Folded.{rows_of}
 use Rattle.mesa_schema.specs.Views.{view_columns}
 use Rattle.mesa_batch.specs.Bound.{KeepsBound}
 use Rattle.mesa_delta.specs.declared.input.Input.{Input}

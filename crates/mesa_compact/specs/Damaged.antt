@@ -1,11 +1,11 @@
 -- What damage is told of the inputs of a merge.
 use Rattle.std.specs.Prelude.{◌≡◌, ◌⊎◌, ℕ, ◌<◌, ◌-◌, List, [], ◌∷◌, ◌++◌, length, slice_get, Option, Some}
 use Rattle.mesa_file.specs.declared.damage.Damage.{Damage}
-use Rattle.mesa_schema.specs.declared.rows.Row.{Row}
-use Rattle.mesa_schema.specs.declared.views.View.{View}
+use Rattle.mesa_open_files.specs.mesa_columns.declared.rows.Row.{Row}
+use Rattle.mesa_open_files.specs.mesa_columns.declared.views.View.{View}
 use Rattle.mesa_schema.specs.Changes.{Lineage, columns_of}
-use Rattle.mesa_schema.specs.Columns.{Columns, aggs_of}
-use Rattle.mesa_schema.specs.Folded.{folded}
+use Rattle.mesa_open_files.specs.mesa_columns.Columns.{Columns, aggs_of}
+use Rattle.mesa_open_files.specs.mesa_fold.Folded.{folded}
 use Rattle.mesa_schema.specs.Views.{view_columns, view_rows}
 use Rattle.mesa_delta.specs.Summary.{AllCombine, aggregates}
 use Rattle.mesa_delta.specs.declared.input.Input.{Input}

@@ -1,8 +1,8 @@
 -- A table's rows that are grouped for its views while they are merged.
 use Rattle.std.specs.Prelude.{◌≡◌, List, Option, IfSome, option_map}
 use Rattle.std.specs.List.{AllByRecursion}
-use Rattle.mesa_schema.specs.declared.rows.Row.{Row}
-use Rattle.mesa_schema.specs.Columns.{Columns}
+use Rattle.mesa_open_files.specs.mesa_columns.declared.rows.Row.{Row}
+use Rattle.mesa_open_files.specs.mesa_columns.Columns.{Columns}
 use Rattle.mesa_answer.specs.Gathered.{HasPut, wanted_of}
 use Rattle.mesa_answer.specs.Gathering.{Wanted}
 use Rattle.mesa_answer.specs.declared.groups.Groups.{Groups}

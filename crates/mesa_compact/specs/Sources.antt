@@ -1,8 +1,8 @@
 -- What the file of a view is made of.
 use Rattle.std.specs.Prelude.{◌≡◌, ℕ, ◌<◌, List, Vec, length, slice_get, Option, Some, None, IsTrue}
 use Rattle.std.specs.declared.alloc.Global.{Global}
-use Rattle.mesa_schema.specs.declared.views.View.{View}
-use Rattle.mesa_schema.specs.Columns.{Columns}
+use Rattle.mesa_open_files.specs.mesa_columns.declared.views.View.{View}
+use Rattle.mesa_open_files.specs.mesa_columns.Columns.{Columns}
 use Rattle.mesa_open_files.specs.mesa_filter.Query.{are_places}
 use Rattle.mesa_delta.specs.declared.input.Input.{Input}
 use Rattle.mesa_answer.specs.Gathering.{Wanted}

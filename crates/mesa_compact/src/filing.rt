@@ -1,7 +1,7 @@
 // One file: begun through a new draft, finished, or given up.
 ghost use Rattle.std.specs.Prelude.{◌≡◌, ◌<◌, ◌≤◌, ℕ, List, [], length, IfOk};
 ghost use Rattle.mesa_open_files.specs.mesa_io.Causes.{Rose};
-ghost use Rattle.mesa_schema.specs.declared.rows.Row.{Row as AnyRow};
+ghost use Rattle.mesa_open_files.specs.mesa_columns.declared.rows.Row.{Row as AnyRow};
 ghost use Rattle.mesa_delta.specs.Writing.{HasTaken, columns_of, draft_of, id_of};
 ghost use Rattle.mesa_open_files.specs.Made.{IsMadeFile};
 ghost use Rattle.mesa_compact.specs.Writing.{HasCauses};

@@ -2,7 +2,7 @@
 ghost use Rattle.std.specs.Prelude.{◌≡◌, [], List, length, IfOk};
 ghost use Rattle.std.specs.Bool.{OnTrue};
 ghost use Rattle.std.specs.List.{AllByRecursion};
-ghost use Rattle.mesa_schema.specs.declared.views.View.{View as AnyView};
+ghost use Rattle.mesa_open_files.specs.mesa_columns.declared.views.View.{View as AnyView};
 ghost use Rattle.mesa_schema.specs.Changes.{columns_of};
 ghost use Rattle.mesa_answer.specs.Regrouping.{places_seen};
 ghost use Rattle.mesa_compact.specs.Grouping.{HasPutIn, HavePut, TakesRows, wanted_in};

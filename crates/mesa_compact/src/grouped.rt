@@ -1,10 +1,10 @@
 // The file of a view's groups.
 ghost use Rattle.std.specs.Prelude.{◌≡◌, ◌++◌, ◌<◌, ℕ, List, [], length, map, take, IsTrue, IfErr, IfOk, OnOk};
 ghost use Rattle.mesa_file.specs.declared.damage.Damage.{Damage as AnyDamage};
-ghost use Rattle.mesa_schema.specs.declared.rows.Row.{Row as AnyRow};
-ghost use Rattle.mesa_schema.specs.declared.views.View.{View as AnyView};
-ghost use Rattle.mesa_schema.specs.Columns.{Columns};
-ghost use Rattle.mesa_schema.specs.Rows.{AreRowsOf, keys_rise};
+ghost use Rattle.mesa_open_files.specs.mesa_columns.declared.rows.Row.{Row as AnyRow};
+ghost use Rattle.mesa_open_files.specs.mesa_columns.declared.views.View.{View as AnyView};
+ghost use Rattle.mesa_open_files.specs.mesa_columns.Columns.{Columns};
+ghost use Rattle.mesa_open_files.specs.mesa_columns.Rows.{AreRowsOf, keys_rise};
 ghost use Rattle.mesa_schema.specs.Views.{view_columns, view_rows};
 ghost use Rattle.mesa_delta.specs.Writing.{HasTaken, columns_of, draft_of, id_of};
 ghost use Rattle.mesa_answer.specs.Answering.{KeepsSums};

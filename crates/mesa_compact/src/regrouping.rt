@@ -2,10 +2,10 @@
 ghost use Rattle.std.specs.Prelude.{◌≡◌, ◌<◌, ◌⊎◌, ℕ, List, [], length, nat_le, IfErr, IfOk, OnOk, IsTrue};
 ghost use Rattle.std.specs.List.{AllByRecursion, list_any};
 ghost use Rattle.mesa_file.specs.declared.damage.Damage.{Damage as AnyDamage};
-ghost use Rattle.mesa_schema.specs.declared.rows.Row.{Row as AnyRow};
-ghost use Rattle.mesa_schema.specs.Columns.{aggs_of};
-ghost use Rattle.mesa_schema.specs.Folded.{folded, grouped};
-ghost use Rattle.mesa_schema.specs.Rows.{AreRowsOf, keys_rise};
+ghost use Rattle.mesa_open_files.specs.mesa_columns.declared.rows.Row.{Row as AnyRow};
+ghost use Rattle.mesa_open_files.specs.mesa_columns.Columns.{aggs_of};
+ghost use Rattle.mesa_open_files.specs.mesa_fold.Folded.{folded, grouped};
+ghost use Rattle.mesa_open_files.specs.mesa_columns.Rows.{AreRowsOf, keys_rise};
 ghost use Rattle.mesa_batch.specs.Totals.{abs_totals, sum_bound};
 ghost use Rattle.mesa_open_files.specs.mesa_filter.Query.{are_places};
 ghost use Rattle.mesa_answer.specs.Answering.{KeepsSums, grouped_columns};

@@ -1,10 +1,10 @@
 -- An input that is lent to be regrouped, and comes back.
 use Rattle.std.proofs.Common.{◌≡◌, ℕ, ◌<◌, List, [], ◌∷◌, ◌++◌, length, refl, sym, ◌∙◌, ap, subst, arith}
 use Rattle.std.specs.Prelude.{Option, Result}
-use Rattle.mesa_schema.specs.declared.rows.Row.{Row}
+use Rattle.mesa_compact.specs.mesa_columns.declared.rows.Row.{Row}
 use Rattle.mesa_schema.specs.Changes.{columns_of}
-use Rattle.mesa_schema.specs.Columns.{Columns}
-use Rattle.mesa_schema.specs.Folded.{grouped}
+use Rattle.mesa_compact.specs.mesa_columns.Columns.{Columns}
+use Rattle.mesa_open_files.specs.mesa_fold.Folded.{grouped}
 use Rattle.mesa_schema.specs.Recasts.{Recast}
 use Rattle.mesa_delta.specs.declared.input.Input.{Input}
 use Rattle.mesa_compact.specs.mesa_answer.Answering.{grouped_columns}

@@ -1,7 +1,7 @@
 -- Ranges that are rewritten one after the other.
 use Rattle.std.proofs.Common.{ℕ, zero, suc, ◌<◌, ◌≤◌, List, [], ◌∷◌, ◌++◌, length, take, get_or, arith}
 use Rattle.std.specs.Prelude.{Option}
-use Rattle.mesa_schema.specs.Columns.{Columns}
+use Rattle.mesa_compact.specs.mesa_columns.Columns.{Columns}
 use Rattle.mesa_schema.specs.Recasts.{Recast}
 use Rattle.mesa_open_files.specs.Recasts.{AreRewritten, IsRangeRewritten}
 use Rattle.mesa_open_files.specs.declared.recasting.RecastRange.{RecastRange}

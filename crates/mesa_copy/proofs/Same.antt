@@ -1,9 +1,9 @@
 -- What was rewritten is so of the same recast, with its readers moved on.
 use Rattle.std.proofs.Common.{◌≡◌, ℕ, zero, suc, List, [], ◌∷◌, take, refl, sym, ◌∙◌, ap, subst}
 use Rattle.std.specs.Prelude.{Option, Some, None, option_map, option_to_list}
-use Rattle.mesa_schema.specs.declared.rows.Row.{Row}
-use Rattle.mesa_schema.specs.Columns.{Columns, aggs_of}
-use Rattle.mesa_schema.specs.Folded.{folded}
+use Rattle.mesa_compact.specs.mesa_columns.declared.rows.Row.{Row}
+use Rattle.mesa_compact.specs.mesa_columns.Columns.{Columns, aggs_of}
+use Rattle.mesa_open_files.specs.mesa_fold.Folded.{folded}
 use Rattle.mesa_schema.specs.Recasts.{Recast}
 use Rattle.mesa_delta.specs.declared.input.Input.{Input}
 use Rattle.mesa_compact.specs.mesa_merge.Inputs.{AreTold, Known, known_of, knowns_of, lifted_parts}

@@ -3,7 +3,7 @@ use Rattle.std.specs.Prelude.{◌≡◌, ◌⊎◌, ℕ, List, map, slice_get, O
 use Rattle.std.specs.List.{AllByRecursion}
 use Rattle.mesa_file.specs.declared.damage.Damage.{Damage}
 use Rattle.mesa_schema.specs.Changes.{columns_of}
-use Rattle.mesa_schema.specs.Columns.{Columns}
+use Rattle.mesa_compact.specs.mesa_columns.Columns.{Columns}
 use Rattle.mesa_schema.specs.Recasts.{recast_keys, recast_values}
 use Rattle.mesa_compact.specs.mesa_merge.Inputs.{Known, known_of, knowns_of}
 use Rattle.mesa_open_files.specs.Recasts.{own, recast_in, recast_table}

@@ -1,7 +1,7 @@
 -- What a recast makes of its table's columns.
 use Rattle.std.specs.Prelude.{◌≡◌, IsTrue}
 use Rattle.mesa_schema.specs.Changes.{columns_of}
-use Rattle.mesa_schema.specs.Columns.{Columns}
+use Rattle.mesa_compact.specs.mesa_columns.Columns.{Columns}
 use Rattle.mesa_schema.specs.Recasts.{Recast, recast_columns, recast_keys, recast_values}
 use Rattle.mesa_filter.specs.Query.{are_places}
 use Rattle.mesa_copy.specs.declared.renewal.Renewal.{Renewal}

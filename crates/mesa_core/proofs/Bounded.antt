@@ -3,9 +3,9 @@ use Rattle.std.proofs.Common.{◌≡◌, ◌∙◌, ℕ, zero, suc, ◌+◌, Lis
 use Rattle.std.specs.Prelude.{Vec, option_map, slice_get}
 use Rattle.std.specs.List.{AllByRecursion}
 use Rattle.std.specs.declared.alloc.Global.{Global}
-use Rattle.mesa_recast_turns.specs.mesa_schema.declared.views.View.{View}
+use Rattle.mesa_recast_turns.specs.mesa_columns.declared.views.View.{View}
 use Rattle.mesa_recast_turns.specs.mesa_schema.Changes.{Lineage, columns_of}
-use Rattle.mesa_recast_turns.specs.mesa_schema.Columns.{Columns}
+use Rattle.mesa_recast_turns.specs.mesa_columns.Columns.{Columns}
 use Rattle.mesa_recast_turns.specs.mesa_schema.Views.{view_columns}
 use Rattle.mesa_recast_turns.specs.mesa_compact.Bounded.{AreBounded, AreOwnBounded, IsBounded}
 use Rattle.mesa_recast_turns.specs.mesa_compact.Tasks.{KnownView, known_view}

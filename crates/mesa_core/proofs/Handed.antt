@@ -18,9 +18,9 @@ use Rattle.mesa_recast_turns.specs.mesa_query.Files.{inputs_in, owns_in}
 use Rattle.mesa_recast_turns.specs.mesa_pick_files.Told.{AreOfRelation, parts_known, parts_under}
 use Rattle.mesa_recast_turns.specs.mesa_pick_files.Told.{Tells as TellsOf}
 use Rattle.mesa_recast_turns.specs.mesa_query.Relation.{page_over, parts_pinned, parts_ungrouped, rows_ungrouped}
-use Rattle.mesa_recast_turns.specs.mesa_schema.declared.rows.Row.{Row}
-use Rattle.mesa_recast_turns.specs.mesa_schema.Columns.{Columns}
-use Rattle.mesa_recast_turns.specs.mesa_schema.Folded.{rows_of}
+use Rattle.mesa_recast_turns.specs.mesa_columns.declared.rows.Row.{Row}
+use Rattle.mesa_recast_turns.specs.mesa_columns.Columns.{Columns}
+use Rattle.mesa_open_files.specs.mesa_fold.Folded.{rows_of}
 use Rattle.mesa_script.specs.Rows.{rendered}
 use Rattle.mesa_script.specs.declared.rendered.Rendered.{Rendered}
 use Rattle.mesa_core.specs.Pins.{HasAnswered, IsOpenQuery, TakesQuery, heading_in, known_pin}

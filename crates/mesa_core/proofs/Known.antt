@@ -2,10 +2,10 @@
 use Rattle.std.proofs.Common.{◌≡◌, ◌∙◌, ℕ, List, [], ◌∷◌, map, refl, sym, ap, subst, Option, None, Some}
 use Rattle.std.specs.Prelude.{Vec, option_map}
 use Rattle.std.specs.declared.alloc.Global.{Global}
-use Rattle.mesa_recast_turns.specs.mesa_schema.declared.rows.Row.{Row}
+use Rattle.mesa_recast_turns.specs.mesa_columns.declared.rows.Row.{Row}
 use Rattle.mesa_recast_turns.specs.mesa_schema.Changes.{epoch_of, lifted}
-use Rattle.mesa_recast_turns.specs.mesa_schema.Columns.{Columns, aggs_of}
-use Rattle.mesa_recast_turns.specs.mesa_schema.Folded.{folded}
+use Rattle.mesa_recast_turns.specs.mesa_columns.Columns.{Columns, aggs_of}
+use Rattle.mesa_open_files.specs.mesa_fold.Folded.{folded}
 use Rattle.mesa_delta.specs.Reading.{IsIndexed}
 use Rattle.mesa_delta.specs.declared.input.Input.{Input}
 use Rattle.mesa_recast_turns.specs.mesa_merge.Inputs.{Known, known_of, knowns_of}

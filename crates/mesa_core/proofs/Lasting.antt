@@ -2,8 +2,8 @@
 use Rattle.std.proofs.Common.{◌≡◌, ℕ, zero, suc, ◌+◌, List, [], ◌∷◌, ◌++◌, false, true, true≢false, refl, ap, ◌∙◌, arith, ok_or, nat_le, is_none, Bool}
 use Rattle.std.specs.Prelude.{Result, Ok, Err, IfOk, Option, None, Some, length, map, slice_index_or, slice_set}
 use Rattle.mesa_recast_turns.specs.mesa_list.Checks.{◌>>◌, refuse_if, refuse_unless, refused_as}
-use Rattle.mesa_recast_turns.specs.mesa_schema.Names.{is_name}
-use Rattle.mesa_recast_turns.specs.mesa_schema.Schema.{schema_checked}
+use Rattle.mesa_recast_turns.specs.mesa_columns.Names.{is_name}
+use Rattle.mesa_recast_turns.specs.mesa_columns.Schema.{schema_checked}
 use Rattle.mesa_recast_turns.specs.mesa_schema.Changes.{columns_of, change_checked}
 use Rattle.mesa_batch.specs.declared.words.RowWords.{RowWords}
 use Rattle.mesa_batch.specs.Batch.{Placed, batch_of}

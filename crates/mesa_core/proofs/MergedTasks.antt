@@ -3,10 +3,10 @@ use Rattle.std.proofs.Common.{◌≡◌, ◌∙◌, ℕ, ◌+◌, List, [], ◌�
 use Rattle.std.specs.Prelude.{Vec, option_map}
 use Rattle.std.specs.List.{AllByRecursion}
 use Rattle.std.specs.declared.alloc.Global.{Global}
-use Rattle.mesa_recast_turns.specs.mesa_schema.declared.rows.Row.{Row}
-use Rattle.mesa_recast_turns.specs.mesa_schema.declared.views.View.{View}
+use Rattle.mesa_recast_turns.specs.mesa_columns.declared.rows.Row.{Row}
+use Rattle.mesa_recast_turns.specs.mesa_columns.declared.views.View.{View}
 use Rattle.mesa_recast_turns.specs.mesa_schema.Changes.{Lineage, columns_of}
-use Rattle.mesa_recast_turns.specs.mesa_schema.Columns.{Columns}
+use Rattle.mesa_recast_turns.specs.mesa_columns.Columns.{Columns}
 use Rattle.mesa_delta.specs.declared.input.Input.{Input}
 use Rattle.mesa_recast_turns.specs.mesa_pick_files.Gathered.{unread_views}
 use Rattle.mesa_recast_turns.specs.mesa_merge.Inputs.{Known, knowns_of}

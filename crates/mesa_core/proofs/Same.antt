@@ -1,10 +1,10 @@
 -- Tasks of which the same is known.
 use Rattle.std.proofs.Common.{◌≡◌, ◌∙◌, ℕ, ◌≤◌, List, [], ◌∷◌, map, sym, ap, subst, Option}
 use Rattle.std.specs.List.{AllByRecursion}
-use Rattle.mesa_recast_turns.specs.mesa_schema.declared.rows.Row.{Row}
-use Rattle.mesa_recast_turns.specs.mesa_schema.declared.views.View.{View}
+use Rattle.mesa_recast_turns.specs.mesa_columns.declared.rows.Row.{Row}
+use Rattle.mesa_recast_turns.specs.mesa_columns.declared.views.View.{View}
 use Rattle.mesa_recast_turns.specs.mesa_schema.Changes.{Lineage, columns_of}
-use Rattle.mesa_recast_turns.specs.mesa_schema.Columns.{Columns}
+use Rattle.mesa_recast_turns.specs.mesa_columns.Columns.{Columns}
 use Rattle.mesa_recast_turns.specs.mesa_schema.Views.{view_columns, view_rows}
 use Rattle.mesa_engine.specs.mesa_span.declared.works.Work.{Work}
 use Rattle.mesa_recast_turns.specs.mesa_history_spec.Sources.{Source, Written, range_rows, sources_from}

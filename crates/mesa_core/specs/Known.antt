@@ -2,7 +2,7 @@
 use Rattle.std.specs.Prelude.{◌≡◌, ℕ, ◌+◌, List, [], ◌∷◌, Option, None}
 use Rattle.std.specs.List.{AllByRecursion}
 use Rattle.mesa_recast_turns.specs.mesa_schema.Changes.{Lineage, epoch_of}
-use Rattle.mesa_recast_turns.specs.mesa_schema.declared.views.View.{View}
+use Rattle.mesa_recast_turns.specs.mesa_columns.declared.views.View.{View}
 use Rattle.mesa_recast_turns.specs.mesa_merge.Inputs.{Known}
 use Rattle.mesa_recast_turns.specs.mesa_copy.Copying.{IsRecastBounded}
 use Rattle.mesa_core.specs.Recasts.{KnownRecast, known_recast}

@@ -1,9 +1,9 @@
 -- Queries whose files are handed out, and what they are answered with.
 use Rattle.std.specs.Prelude.{◌≡◌, ℕ, List, ◌++◌, Bool, true, Option, Some, None, Result, Ok, Err}
 use Rattle.mesa_open_files.specs.mesa_file.declared.damage.Damage.{Damage}
-use Rattle.mesa_recast_turns.specs.mesa_schema.declared.rows.Row.{Row}
-use Rattle.mesa_recast_turns.specs.mesa_schema.Columns.{Columns}
-use Rattle.mesa_recast_turns.specs.mesa_schema.Folded.{rows_of}
+use Rattle.mesa_recast_turns.specs.mesa_columns.declared.rows.Row.{Row}
+use Rattle.mesa_recast_turns.specs.mesa_columns.Columns.{Columns}
+use Rattle.mesa_open_files.specs.mesa_fold.Folded.{rows_of}
 use Rattle.mesa_filter.specs.declared.words.QueryWords.{QueryWords}
 use Rattle.mesa_filter.specs.Query.{BuiltQuery, group_kinds}
 use Rattle.mesa_model.specs.declared.commands.Script.{Script}

@@ -7,11 +7,11 @@ use Rattle.std.proofs.lemmas.List.{length-drop, take_all}
 use Rattle.sha2.specs.Sha256.{sha256}
 use Rattle.mesa_disk.specs.mesa_file.declared.damage.Damage.{Damage}
 use Rattle.mesa_disk.specs.mesa_file.declared.file_ref.FileRef.{FileRef}
-use Rattle.mesa_key.specs.Order.{byte_cmp, short_key}
-use Rattle.mesa_schema.specs.declared.rows.Row.{Row}
+use Rattle.mesa_block.specs.mesa_key.Order.{byte_cmp, short_key}
+use Rattle.mesa_block.specs.mesa_columns.declared.rows.Row.{Row}
 use Rattle.mesa_block.specs.Layout.{Layout}
-use Rattle.mesa_schema.specs.Schema.{is_schema}
-use Rattle.mesa_schema.specs.Folded.{rows_of}
+use Rattle.mesa_block.specs.mesa_columns.Schema.{is_schema}
+use Rattle.mesa_schema.specs.mesa_fold.Folded.{rows_of}
 use Rattle.mesa_block.specs.Rows.{AreRows, Rise}
 use Rattle.mesa_block.specs.Spelling.{block, key_of}
 use Rattle.mesa_delta.specs.declared.place.Entry.{Entry}

@@ -2,15 +2,15 @@
 use Rattle.std.proofs.Common.{◌≡◌, ℕ, ◌+◌, ◌<◌, ◌≤◌, min, ℤ, pos, List, [], ◌∷◌, ◌++◌, length, map, get_or, drop, take, refl, sym, ap, ◌∙◌, arith, append_assoc}
 use Rattle.std.proofs.lemmas.List.{drop_more, map-append, take_more_set, drop-set-lt, length-set, take-append-drop, length-map, length-drop, length-append}
 use Rattle.std.proofs.Math.ListN.{set}
-use Rattle.mesa_value.specs.declared.Agg.{Agg}
-use Rattle.mesa_value.specs.declared.Agg.TheVariants.{Sum, Min, Max, Replace}
-use Rattle.mesa_value.specs.Agg.{Combines, combined}
-use Rattle.mesa_schema.specs.declared.rows.Row.{Row}
-use Rattle.mesa_schema.specs.declared.columns.ValueColumn.{ValueColumn}
-use Rattle.mesa_schema.specs.declared.columns.KeyColumn.{KeyColumn}
-use Rattle.mesa_key.specs.declared.KeyType.{KeyType}
-use Rattle.mesa_schema.specs.Columns.{Columns, aggs_of}
-use Rattle.mesa_schema.specs.Folded.{all_combined, row_combined, combined_from}
+use Rattle.mesa_block.specs.mesa_value.declared.Agg.{Agg}
+use Rattle.mesa_block.specs.mesa_value.declared.Agg.TheVariants.{Sum, Min, Max, Replace}
+use Rattle.mesa_block.specs.mesa_value.Agg.{Combines, combined}
+use Rattle.mesa_block.specs.mesa_columns.declared.rows.Row.{Row}
+use Rattle.mesa_block.specs.mesa_columns.declared.columns.ValueColumn.{ValueColumn}
+use Rattle.mesa_block.specs.mesa_columns.declared.columns.KeyColumn.{KeyColumn}
+use Rattle.mesa_block.specs.mesa_key.declared.KeyType.{KeyType}
+use Rattle.mesa_block.specs.mesa_columns.Columns.{Columns, aggs_of}
+use Rattle.mesa_schema.specs.mesa_fold.Folded.{all_combined, row_combined, combined_from}
 use Rattle.mesa_delta.specs.Summary.{noted, all_noted, last_key, aggregates, values_of, AllCombine}
 use Rattle.mesa_delta.specs.Totals.{added}
 use Rattle.mesa_delta.specs.Tallies.{Tallies}

@@ -5,9 +5,9 @@ use Rattle.std.specs.Ordering.{is_le}
 use Rattle.std.proofs.lemmas.Cmp.{nat_list_cmp_total}
 use Rattle.std.proofs.lemmas.List.{length-append, length-map, map-append}
 use Rattle.std.proofs.lemmas.Grind.{flat_map-append}
-use Rattle.mesa_key.specs.Order.{byte_cmp, short_key}
-use Rattle.mesa_schema.specs.declared.rows.Row.{Row}
-use Rattle.mesa_schema.specs.Folded.{rows_of}
+use Rattle.mesa_block.specs.mesa_key.Order.{byte_cmp, short_key}
+use Rattle.mesa_block.specs.mesa_columns.declared.rows.Row.{Row}
+use Rattle.mesa_schema.specs.mesa_fold.Folded.{rows_of}
 use Rattle.mesa_block.specs.Rows.{Rise}
 use Rattle.mesa_block.specs.Spelling.{key_of}
 use Rattle.mesa_delta.specs.Beginning.{BeginsBefore, first_short}

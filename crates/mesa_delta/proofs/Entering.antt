@@ -6,7 +6,7 @@ use Rattle.std.specs.Ordering.{is_le}
 use Rattle.std.proofs.lemmas.List.{append-nil, drop-drop, take-append-drop, length-take-le, get_or-drop, length-drop, length-map, drop-take, take-take, drop_more}
 use Rattle.std.proofs.lemmas.Grind.{flat_map-append}
 use Rattle.std.proofs.lemmas.Nat.{be_bytes_4, be_bytes_8}
-use Rattle.mesa_key.specs.Order.{byte_cmp}
+use Rattle.mesa_block.specs.mesa_key.Order.{byte_cmp}
 use Rattle.mesa_delta.specs.declared.place.Entry.{Entry}
 use Rattle.mesa_delta.specs.Places.{spelled, Follow, shorts_of, short_of}
 use Rattle.mesa_delta.specs.Seeking.{NeverFall}

@@ -4,7 +4,7 @@ use Rattle.std.specs.Prelude.{IsTrue}
 use Rattle.std.proofs.lemmas.List.{length-drop, take_all}
 use Rattle.mesa_disk.specs.mesa_file.declared.file_ref.FileRef.{FileRef}
 use Rattle.mesa_block.specs.Layout.{Layout}
-use Rattle.mesa_schema.specs.Schema.{is_schema}
+use Rattle.mesa_block.specs.mesa_columns.Schema.{is_schema}
 use Rattle.mesa_delta.specs.declared.place.Entry.{Entry}
 use Rattle.mesa_delta.specs.Indexed.{Indexed, IsIndexOf, tail_length}
 use Rattle.mesa_delta.specs.Places.{IsTail, places, tail_spelled}

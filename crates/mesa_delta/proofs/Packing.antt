@@ -5,10 +5,10 @@ use Rattle.std.specs.Prelude.{IsTrue, ◌&&◌}
 use Rattle.std.proofs.lemmas.Bool.{leb-true, le-leb}
 use Rattle.std.proofs.lemmas.List.{append-nil, length-append, map-append}
 use Rattle.std.proofs.lemmas.Grind.{flat_map-append}
-use Rattle.mesa_schema.specs.declared.rows.Row.{Row}
+use Rattle.mesa_block.specs.mesa_columns.declared.rows.Row.{Row}
 use Rattle.mesa_block.specs.Layout.{Layout, values_size, widths_of}
-use Rattle.mesa_schema.specs.Schema.{is_schema}
-use Rattle.mesa_schema.specs.Folded.{rows_of}
+use Rattle.mesa_block.specs.mesa_columns.Schema.{is_schema}
+use Rattle.mesa_schema.specs.mesa_fold.Folded.{rows_of}
 use Rattle.mesa_block.specs.Fill.{fit}
 use Rattle.mesa_block.specs.Rows.{AreRows, IsRow, Rise, most_rows, most_bytes}
 use Rattle.mesa_block.specs.Spelling.{block, key_of}

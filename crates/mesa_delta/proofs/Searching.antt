@@ -4,7 +4,7 @@ use Rattle.std.specs.declared.cmp.Ordering.{Ordering}
 use Rattle.std.specs.declared.cmp.Ordering.TheVariants.{Less, Equal, Greater}
 use Rattle.std.specs.Ordering.{is_le, ordering_reverse}
 use Rattle.std.proofs.lemmas.Cmp.{nat_list_cmp_total}
-use Rattle.mesa_key.specs.Order.{byte_cmp}
+use Rattle.mesa_block.specs.mesa_key.Order.{byte_cmp}
 use Rattle.mesa_delta.specs.Seeking.{seek_in, NeverFall}
 
 chain : (a b c : List ℕ) (o p : Ordering) → byte_cmp a b ≡ o → byte_cmp b c ≡ p → is_le o ≡ true → is_le p ≡ true → is_le (byte_cmp a c) ≡ true

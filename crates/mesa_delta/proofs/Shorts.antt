@@ -5,7 +5,7 @@ use Rattle.std.specs.declared.cmp.Ordering.{Ordering}
 use Rattle.std.specs.declared.cmp.Ordering.TheVariants.{Less, Equal, Greater}
 use Rattle.std.specs.Ordering.{is_le, nat_cmp, ordering_then}
 use Rattle.std.specs.Cmp.{nat_cmp_is}
-use Rattle.mesa_key.specs.Order.{byte_cmp, short_key}
+use Rattle.mesa_block.specs.mesa_key.Order.{byte_cmp, short_key}
 
 then_both : (o q : Ordering) → is_le o ≡ true → is_le q ≡ true → is_le (ordering_then o q) ≡ true
 then_both Less q ho hq = refl

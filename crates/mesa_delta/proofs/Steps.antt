@@ -3,9 +3,9 @@ use Rattle.std.proofs.Common.{◌≡◌, ℕ, ◌+◌, ◌<◌, List, [], ◌∷
 use Rattle.std.specs.List.{AllByRecursion}
 use Rattle.std.proofs.lemmas.List.{append-nil, length-append, take_at, take_all, take_more, take-append-drop, drop_at, drop_more}
 use Rattle.std.proofs.lemmas.Grind.{flat_map-append}
-use Rattle.mesa_schema.specs.declared.rows.Row.{Row}
+use Rattle.mesa_block.specs.mesa_columns.declared.rows.Row.{Row}
 use Rattle.mesa_block.specs.Layout.{Layout}
-use Rattle.mesa_schema.specs.Folded.{rows_of}
+use Rattle.mesa_schema.specs.mesa_fold.Folded.{rows_of}
 use Rattle.mesa_block.specs.Reading.{block_at}
 use Rattle.mesa_block.specs.Rows.{AreRows, IsRow}
 use Rattle.mesa_block.specs.Spelling.{block}

@@ -6,16 +6,16 @@ use Rattle.std.specs.List.{AllByRecursion}
 use Rattle.std.proofs.lemmas.List.{length-append, length-map, take_at, drop_at, drop-drop, take-append-drop}
 use Rattle.std.proofs.lemmas.List.Concat.{flat_map-cons}
 use Rattle.std.proofs.lemmas.Nat.{from_be_bytes-to_be_bytes_4, from_be_bytes-to_be_bytes_8}
-use Rattle.mesa_schema.specs.Schema.{is_schema}
-use Rattle.mesa_key.specs.Order.{short_key}
-use Rattle.mesa_schema.specs.Columns.{kinds_of, aggs_of}
+use Rattle.mesa_block.specs.mesa_columns.Schema.{is_schema}
+use Rattle.mesa_block.specs.mesa_key.Order.{short_key}
+use Rattle.mesa_block.specs.mesa_columns.Columns.{kinds_of, aggs_of}
 use Rattle.mesa_block.specs.Layout.{Layout}
 use Rattle.mesa_delta.specs.declared.place.Entry.{Entry}
 use Rattle.mesa_disk.specs.mesa_file.declared.file_ref.FileRef.{FileRef}
 use Rattle.mesa_delta.specs.Indexed.{IsIndexOf, tail_length}
 use Rattle.mesa_delta.specs.Places.{spelled, Follow, HasWidths, shorts_of, tail_spelled}
 use Rattle.mesa_delta.specs.Seeking.{NeverFall}
-use Rattle.mesa_schema.specs.Codes.{agg_byte, kind_byte}
+use Rattle.mesa_block.specs.mesa_columns.Codes.{agg_byte, kind_byte}
 use Rattle.mesa_delta.specs.Tail.{foot, magic}
 use Rattle.mesa_delta.proofs.Adding.{agg_of, kind_of}
 use Rattle.mesa_delta.proofs.Entering.{follow_le}

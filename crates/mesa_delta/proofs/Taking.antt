@@ -3,11 +3,11 @@ use Rattle.std.proofs.Common.{◌≡◌, ℕ, ◌<◌, List, [], ◌∷◌, ◌+
 use Rattle.std.specs.Prelude.{flat_map}
 use Rattle.sha2.specs.Sha256.{sha256}
 use Rattle.std.specs.List.{AllByRecursion}
-use Rattle.mesa_value.specs.declared.Agg.{Agg}
-use Rattle.mesa_value.specs.Agg.{IsAmount}
-use Rattle.mesa_key.specs.declared.Format.TheVariants as format
-use Rattle.mesa_schema.specs.declared.rows.Row.{Row}
-use Rattle.mesa_schema.specs.Columns.{aggs_of}
+use Rattle.mesa_block.specs.mesa_value.declared.Agg.{Agg}
+use Rattle.mesa_block.specs.mesa_value.Agg.{IsAmount}
+use Rattle.mesa_block.specs.mesa_key.declared.Format.TheVariants as format
+use Rattle.mesa_block.specs.mesa_columns.declared.rows.Row.{Row}
+use Rattle.mesa_block.specs.mesa_columns.Columns.{aggs_of}
 use Rattle.mesa_block.specs.Fill.{Built}
 use Rattle.mesa_block.specs.Rows.{IsRow, Rise}
 use Rattle.mesa_block.specs.Spelling.{block, key_of}

@@ -2,10 +2,10 @@
 use Rattle.std.proofs.Common.{◌≡◌, ℕ, List, [], ◌∷◌, ◌++◌, refl, length, ◌∙◌, ap}
 use Rattle.std.specs.Prelude.{pos, codes}
 use Rattle.sha2.specs.Sha256.{sha256, first_words, schedule, rounds, compress, hash_after, digest_bytes}
-use Rattle.mesa_value.specs.declared.Agg.TheVariants.{Sum}
-use Rattle.mesa_key.specs.declared.Format.TheVariants as format
-use Rattle.mesa_key.specs.declared.KeyType.TheVariants as kind
-use Rattle.mesa_schema.specs.declared.rows.Row.{Row}
+use Rattle.mesa_block.specs.mesa_value.declared.Agg.TheVariants.{Sum}
+use Rattle.mesa_block.specs.mesa_key.declared.Format.TheVariants as format
+use Rattle.mesa_block.specs.mesa_key.declared.KeyType.TheVariants as kind
+use Rattle.mesa_block.specs.mesa_columns.declared.rows.Row.{Row}
 use Rattle.mesa_block.specs.Layout.{Layout}
 use Rattle.mesa_block.specs.Spelling.{block}
 use Rattle.mesa_delta.specs.File.{file_bytes}

@@ -2,11 +2,11 @@
 use Rattle.std.specs.Prelude.{◌≡◌, ℕ, ◌+◌, ◌<◌, ◌≤◌, List, [], ◌∷◌, ◌++◌, length, map, get_or, IsTrue, true}
 use Rattle.std.specs.List.{AllByRecursion}
 use Rattle.std.specs.Ordering.{is_le}
-use Rattle.mesa_key.specs.Order.{byte_cmp, short_key}
-use Rattle.mesa_schema.specs.declared.rows.Row.{Row}
+use Rattle.mesa_block.specs.mesa_key.Order.{byte_cmp, short_key}
+use Rattle.mesa_block.specs.mesa_columns.declared.rows.Row.{Row}
 use Rattle.mesa_block.specs.Layout.{Layout}
-use Rattle.mesa_schema.specs.Folded.{rows_of}
-use Rattle.mesa_schema.specs.Schema.{is_schema}
+use Rattle.mesa_schema.specs.mesa_fold.Folded.{rows_of}
+use Rattle.mesa_block.specs.mesa_columns.Schema.{is_schema}
 use Rattle.mesa_block.specs.Rows.{IsRow, Rise}
 use Rattle.mesa_block.specs.Spelling.{key_of}
 use Rattle.mesa_delta.specs.Seeking.{seek_in}

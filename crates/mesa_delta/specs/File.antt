@@ -1,7 +1,7 @@
 -- The bytes of a delta file: each list of rows, at least one, has one spelling.
 use Rattle.std.specs.Prelude.{◌≡◌, ℕ, ◌<◌, List, ◌++◌, length, map, flat_map}
 use Rattle.std.specs.List.{AllByRecursion}
-use Rattle.mesa_schema.specs.declared.rows.Row.{Row}
+use Rattle.mesa_block.specs.mesa_columns.declared.rows.Row.{Row}
 use Rattle.mesa_block.specs.Layout.{Layout}
 use Rattle.mesa_block.specs.Spelling.{block, key_of}
 use Rattle.mesa_block.specs.Rows.{IsRow, Rise}

@@ -1,9 +1,9 @@
 -- What is known of a file once its tail was read.
 use Rattle.std.specs.Prelude.{◌≡◌, ℕ, ◌+◌, ◌*◌, ◌^◌, ◌<◌, List, length, IsTrue}
-use Rattle.mesa_key.specs.Order.{short_key}
-use Rattle.mesa_schema.specs.Columns.{Columns}
+use Rattle.mesa_block.specs.mesa_key.Order.{short_key}
+use Rattle.mesa_block.specs.mesa_columns.Columns.{Columns}
 use Rattle.mesa_block.specs.Layout.{Layout}
-use Rattle.mesa_schema.specs.Schema.{is_schema}
+use Rattle.mesa_block.specs.mesa_columns.Schema.{is_schema}
 use Rattle.mesa_disk.specs.mesa_file.declared.file_ref.FileRef.{FileRef}
 use Rattle.mesa_delta.specs.declared.place.Entry.{Entry}
 use Rattle.mesa_delta.specs.Places.{IsTail, tail_spelled}

@@ -1,8 +1,10 @@
 pub use Rattle.mesa_block.specs as mesa_block
+pub use Rattle.mesa_block.specs.mesa_columns as mesa_columns
 pub use Rattle.mesa_disk.specs as mesa_disk
 pub use Rattle.mesa_disk.specs.mesa_file as mesa_file
-pub use Rattle.mesa_key.specs as mesa_key
-pub use Rattle.mesa_value.specs as mesa_value
+pub use Rattle.mesa_schema.specs.mesa_fold as mesa_fold
+pub use Rattle.mesa_block.specs.mesa_key as mesa_key
+pub use Rattle.mesa_block.specs.mesa_value as mesa_value
 pub mod Spread
 pub mod File
 pub mod Tail

@@ -1,7 +1,7 @@
 -- Blocks that are as full as they can be.
 use Rattle.std.specs.Prelude.{◌≡◌, List, [], ◌∷◌, ◌++◌, take, Bool, false, ◌||◌, ◌&&◌, ◌==◌}
-use Rattle.mesa_key.specs.Order.{byte_cmp}
-use Rattle.mesa_schema.specs.declared.rows.Row.{Row}
+use Rattle.mesa_block.specs.mesa_key.Order.{byte_cmp}
+use Rattle.mesa_block.specs.mesa_columns.declared.rows.Row.{Row}
 use Rattle.mesa_block.specs.Layout.{Layout, values_size, widths_of}
 use Rattle.mesa_block.specs.Fill.{fit, is_full}
 use Rattle.mesa_block.specs.Reading.{is_less}

@@ -2,10 +2,10 @@
 use Rattle.std.specs.Prelude.{◌≡◌, ◌≢◌, ◌⊎◌, ℕ, ◌-◌, ◌<◌, List, ◌∷◌, ◌++◌, length, map, take, drop, flat_map, Option, Some, Vec}
 use Rattle.std.specs.List.{AllByRecursion}
 use Rattle.std.specs.declared.alloc.Global.{Global}
-use Rattle.mesa_key.specs.Order.{short_key}
-use Rattle.mesa_schema.specs.declared.rows.Row.{Row}
+use Rattle.mesa_block.specs.mesa_key.Order.{short_key}
+use Rattle.mesa_block.specs.mesa_columns.declared.rows.Row.{Row}
 use Rattle.mesa_block.specs.Layout.{Layout}
-use Rattle.mesa_schema.specs.Folded.{rows_of}
+use Rattle.mesa_schema.specs.mesa_fold.Folded.{rows_of}
 use Rattle.mesa_block.specs.Rows.{AreRows, Rise}
 use Rattle.mesa_block.specs.Spelling.{block, key_of}
 use Rattle.mesa_disk.specs.mesa_file.declared.damage.Damage.{Damage}

@@ -1,7 +1,7 @@
 -- Where to begin to look for a key.
 use Rattle.std.specs.Prelude.{◌≡◌, ℕ, ◌+◌, List, [], ◌∷◌, true, if◌then◌else◌}
 use Rattle.std.specs.Ordering.{is_le}
-use Rattle.mesa_key.specs.Order.{byte_cmp}
+use Rattle.mesa_block.specs.mesa_key.Order.{byte_cmp}
 
 -- The block at which to begin to look for a short key, by the short keys of the blocks' first keys: the least that is the last one, or whose next has a short key at least this one.
 abbrev pub seek_in : List ℕ → List (List ℕ) → ℕ

@@ -1,14 +1,14 @@
 -- What is kept of a file, beside its bytes.
 use Rattle.std.specs.Prelude.{◌≡◌, ℕ, ℤ, pos, List, [], ◌∷◌, length, map, ⊤}
 use Rattle.sha2.specs.Sha256.{sha256}
-use Rattle.mesa_value.specs.declared.Agg.{Agg}
-use Rattle.mesa_value.specs.declared.Agg.TheVariants.{Sum, Min, Max, Replace}
-use Rattle.mesa_value.specs.Agg.{Combines}
-use Rattle.mesa_schema.specs.declared.rows.Row.{Row}
-use Rattle.mesa_key.specs.declared.Format.TheVariants as format
-use Rattle.mesa_schema.specs.Columns.{Columns, aggs_of}
+use Rattle.mesa_block.specs.mesa_value.declared.Agg.{Agg}
+use Rattle.mesa_block.specs.mesa_value.declared.Agg.TheVariants.{Sum, Min, Max, Replace}
+use Rattle.mesa_block.specs.mesa_value.Agg.{Combines}
+use Rattle.mesa_block.specs.mesa_columns.declared.rows.Row.{Row}
+use Rattle.mesa_block.specs.mesa_key.declared.Format.TheVariants as format
+use Rattle.mesa_block.specs.mesa_columns.Columns.{Columns, aggs_of}
 use Rattle.mesa_block.specs.Layout.{Layout}
-use Rattle.mesa_schema.specs.Folded.{all_combined}
+use Rattle.mesa_schema.specs.mesa_fold.Folded.{all_combined}
 use Rattle.mesa_disk.specs.mesa_file.declared.file_ref.FileRef.{FileRef}
 use Rattle.mesa_delta.specs.Spread.{blocks_of}
 use Rattle.mesa_delta.specs.Tail.{first_key}

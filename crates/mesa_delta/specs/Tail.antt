@@ -2,12 +2,12 @@
 use Rattle.std.specs.Prelude.{ℕ, ◌+◌, List, [], ◌∷◌, ◌++◌, length, map}
 use Rattle.std.specs.Int.{w32, w64, to_be_bytes}
 use Rattle.sha2.specs.Sha256.{sha256}
-use Rattle.mesa_key.specs.declared.Format.{Format}
-use Rattle.mesa_key.specs.declared.Format.TheVariants.{One, Two}
-use Rattle.mesa_key.specs.Order.{short_key}
-use Rattle.mesa_schema.specs.declared.rows.Row.{Row}
-use Rattle.mesa_schema.specs.Codes.{agg_byte, kind_byte}
-use Rattle.mesa_schema.specs.Columns.{kinds_of, aggs_of}
+use Rattle.mesa_block.specs.mesa_key.declared.Format.{Format}
+use Rattle.mesa_block.specs.mesa_key.declared.Format.TheVariants.{One, Two}
+use Rattle.mesa_block.specs.mesa_key.Order.{short_key}
+use Rattle.mesa_block.specs.mesa_columns.declared.rows.Row.{Row}
+use Rattle.mesa_block.specs.mesa_columns.Codes.{agg_byte, kind_byte}
+use Rattle.mesa_block.specs.mesa_columns.Columns.{kinds_of, aggs_of}
 use Rattle.mesa_block.specs.Layout.{Layout}
 use Rattle.mesa_block.specs.Spelling.{block}
 

@@ -1,7 +1,7 @@
 -- What is tallied of rows.
 use Rattle.std.specs.Prelude.{◌≡◌, List, length}
-use Rattle.mesa_schema.specs.declared.rows.Row.{Row}
-use Rattle.mesa_schema.specs.Columns.{Columns, aggs_of}
+use Rattle.mesa_block.specs.mesa_columns.declared.rows.Row.{Row}
+use Rattle.mesa_block.specs.mesa_columns.Columns.{Columns, aggs_of}
 use Rattle.mesa_delta.specs.declared.tally.Tally.{Tally}
 use Rattle.mesa_delta.specs.Tail.{first_key}
 use Rattle.mesa_delta.specs.Summary.{last_key, aggregates}

@@ -1,7 +1,7 @@
 -- Aggregates with one row more.
 use Rattle.std.specs.Prelude.{ℤ, List, [], ◌∷◌}
-use Rattle.mesa_value.specs.declared.Agg.{Agg}
-use Rattle.mesa_value.specs.Agg.{combined}
+use Rattle.mesa_block.specs.mesa_value.declared.Agg.{Agg}
+use Rattle.mesa_block.specs.mesa_value.Agg.{combined}
 use Rattle.mesa_delta.specs.Summary.{noted}
 
 -- each column's aggregate with the row's value; without a value it stays

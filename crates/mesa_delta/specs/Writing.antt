@@ -1,9 +1,9 @@
 -- Writing a file row by row.
 use Rattle.std.specs.Prelude.{ℕ, ◌<◌, List, [], ◌∷◌, ◌++◌, length, map, Option}
 use Rattle.std.specs.List.{AllByRecursion}
-use Rattle.mesa_schema.specs.declared.rows.Row.{Row}
-use Rattle.mesa_schema.specs.Columns.{Columns, aggs_of}
-use Rattle.mesa_schema.specs.Rows.{IsRowOf}
+use Rattle.mesa_block.specs.mesa_columns.declared.rows.Row.{Row}
+use Rattle.mesa_block.specs.mesa_columns.Columns.{Columns, aggs_of}
+use Rattle.mesa_block.specs.mesa_columns.Rows.{IsRowOf}
 use Rattle.mesa_block.specs.Layout.{Layout}
 use Rattle.mesa_block.specs.Rows.{IsRow, Rise}
 use Rattle.mesa_block.specs.Spelling.{key_of}

@@ -2,7 +2,7 @@
 ghost use Rattle.std.specs.Prelude.{◌≡◌, ◌<◌, ◌≤◌, ◌+◌, ◌↔◌, ℕ, [], ◌∷◌, ◌++◌, List, length, drop, get_or, Option, Some, OnOk, OnErr, IfOk, IfSome, IfNone, IsTrue, true, false};
 ghost use Rattle.sha2.specs.Sha256.{sha256};
 ghost use Rattle.mesa_disk.specs.mesa_io.Causes.{HasCause, HasFaultCause};
-ghost use Rattle.mesa_schema.specs.declared.rows.Row.{Row as AnyRow};
+ghost use Rattle.mesa_block.specs.mesa_columns.declared.rows.Row.{Row as AnyRow};
 ghost use Rattle.mesa_delta.specs.declared.error.FileError.TheVariants as file_error;
 ghost use Rattle.mesa_delta.specs.Ahead.{IsOfFile, Untested as AnyUntested};
 ghost use Rattle.mesa_delta.specs.Reading.{IsBlock, IsIndexed, index_of, reader_of};

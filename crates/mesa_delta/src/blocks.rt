@@ -1,7 +1,7 @@
 // Blocks that are written through a draft.
 ghost use Rattle.std.specs.Prelude.{◌≡◌, IsTrue, ◌<◌, ◌≤◌, ◌^◌, ℕ, List, [], ◌∷◌, ◌++◌, length, map, IfOk, OnOk, IfErr, None};
 ghost use Rattle.mesa_disk.specs.mesa_io.Causes.{HasFaultCause};
-ghost use Rattle.mesa_schema.specs.Lent.{lent};
+ghost use Rattle.mesa_block.specs.mesa_columns.Lent.{lent};
 ghost use Rattle.mesa_block.specs.Layout.{Layout};
 ghost use Rattle.mesa_block.specs.Fill.{after, fit};
 ghost use Rattle.mesa_block.specs.Rows.{IsRow, Rise};
@@ -16,8 +16,7 @@ use crate::pending::Pending;
 use crate::tail::put_foot;
 use mesa_block::{BlockBuilder, fits_alone};
 use mesa_disk::{Draft, Made};
-use mesa_key::{Format, short};
-use mesa_schema::{LentRow, Schema};
+use mesa_schema::{Format, LentRow, Schema, short};
 use sha2::{Digest, Sha256};
 use std::alloc::AllocError;
 use std::marker::PhantomData;

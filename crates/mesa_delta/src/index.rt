@@ -1,7 +1,7 @@
 // What a file's tail tells of its blocks.
 ghost use Rattle.std.specs.Prelude.{◌≡◌, ◌≢◌, ◌+◌, ◌^◌, ◌<◌, ◌≤◌, ℕ, List, length, take, drop, IsTrue, ◌↔◌, IfOk, IfSome, IfNone};
 ghost use Rattle.std.specs.Int.{w64, from_be_bytes};
-ghost use Rattle.mesa_key.specs.Order.{short_key};
+ghost use Rattle.mesa_block.specs.mesa_key.Order.{short_key};
 ghost use Rattle.mesa_delta.specs.declared.place.Entry.{Entry as AnyEntry};
 ghost use Rattle.mesa_delta.specs.Indexed.{IsIndex, IsIndexOf, tail_length};
 ghost use Rattle.mesa_delta.specs.Places.{IsTail, entry_of, shorts_of, tail_spelled};
@@ -13,9 +13,7 @@ use crate::seeking::seek;
 use crate::tail::put_foot;
 use byteorder::{BigEndian, ByteOrder};
 use mesa_disk::{FileId, FileRef};
-use mesa_key::{Format, short};
-use mesa_list::{Items, TryCopy};
-use mesa_schema::Schema;
+use mesa_schema::{Format, Items, Schema, TryCopy, short};
 use std::alloc::{AllocError, Global};
 use std::marker::Model;
 use std::sync::Arc;

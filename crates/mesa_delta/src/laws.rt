@@ -1,12 +1,12 @@
 // What holds of every file, whichever function wrote or read it.
 ghost use Rattle.std.specs.Prelude.{◌≡◌, ◌<◌, ◌^◌, ℕ, List, [], ◌∷◌, ◌++◌, length, map, IsTrue};
 ghost use Rattle.std.specs.declared.cmp.Ordering.TheVariants.{Less};
-ghost use Rattle.mesa_value.specs.declared.Agg.{Agg as AnyAgg};
-ghost use Rattle.mesa_key.specs.Order.{byte_cmp};
-ghost use Rattle.mesa_schema.specs.declared.rows.Row.{Row as AnyRow};
+ghost use Rattle.mesa_block.specs.mesa_value.declared.Agg.{Agg as AnyAgg};
+ghost use Rattle.mesa_block.specs.mesa_key.Order.{byte_cmp};
+ghost use Rattle.mesa_block.specs.mesa_columns.declared.rows.Row.{Row as AnyRow};
 ghost use Rattle.mesa_block.specs.Layout.{Layout};
-ghost use Rattle.mesa_schema.specs.Folded.{all_combined, row_combined};
-ghost use Rattle.mesa_schema.specs.Schema.{is_schema};
+ghost use Rattle.mesa_schema.specs.mesa_fold.Folded.{all_combined, row_combined};
+ghost use Rattle.mesa_block.specs.mesa_columns.Schema.{is_schema};
 ghost use Rattle.mesa_block.specs.Rows.{Rise};
 ghost use Rattle.mesa_block.specs.Spelling.{key_of};
 ghost use Rattle.mesa_delta.specs.Beginning.{BeginsBefore, KeysBetween};

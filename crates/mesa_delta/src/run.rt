@@ -1,13 +1,11 @@
 // Blocks that are read one after the other, from the first on.
 ghost use Rattle.std.specs.Prelude.{◌≡◌, ◌<◌, ◌+◌, [], length, IfOk};
-ghost use Rattle.mesa_schema.specs.Lent.{lent};
+ghost use Rattle.mesa_block.specs.mesa_columns.Lent.{lent};
 ghost use Rattle.mesa_delta.specs.Packing.{goes_on};
 ghost use Rattle.mesa_delta.specs.Summary.{last_key};
 
 use mesa_block::{Block, is_full, rises, row_size};
-use mesa_key::{Format, KeyBytes};
-use mesa_list::Items;
-use mesa_schema::{LentRow, Schema};
+use mesa_schema::{Format, Items, KeyBytes, LentRow, Schema};
 use std::alloc::{AllocError, Global};
 
 /// What is kept of the blocks that were read one after the other, so that the next one can be tested against them.

@@ -1,12 +1,12 @@
 // Where to begin to look for a key.
 ghost use Rattle.std.specs.Prelude.{◌≡◌, ◌<◌, ℕ, List, [], map, slice_index_or, length};
 ghost use Rattle.std.specs.Ordering.{is_le};
-ghost use Rattle.mesa_key.specs.Order.{byte_cmp, short_key};
+ghost use Rattle.mesa_block.specs.mesa_key.Order.{byte_cmp, short_key};
 ghost use Rattle.mesa_delta.specs.Places.{shorts_of};
 ghost use Rattle.mesa_delta.specs.Seeking.{seek_in, NeverFall};
 
 use crate::place::Entry;
-use mesa_key::{compare, short};
+use mesa_schema::{compare, short};
 use std::cmp::Ordering;
 
 /// Whether a short key is at most another.

@@ -1,14 +1,13 @@
 // The bytes of a file's tail.
 ghost use Rattle.std.specs.Prelude.{◌≡◌, ◌++◌, map, OnOk};
 ghost use Rattle.std.specs.Int.{w32, w64, to_be_bytes};
-ghost use Rattle.mesa_schema.specs.Codes.{agg_byte as byte_of_agg, kind_byte as byte_of_kind};
+ghost use Rattle.mesa_block.specs.mesa_columns.Codes.{agg_byte as byte_of_agg, kind_byte as byte_of_kind};
 ghost use Rattle.mesa_delta.specs.Places.{spelled};
 ghost use Rattle.mesa_delta.specs.Tail.{foot, magic as magic_of};
 
 use crate::place::{ENTRY_BYTES, Entry};
 use byteorder::{BigEndian, ByteOrder};
-use mesa_key::Format;
-use mesa_schema::{KeyColumn, Schema, ValueColumn, agg_byte, kind_byte};
+use mesa_schema::{Format, KeyColumn, Schema, ValueColumn, agg_byte, kind_byte};
 use std::alloc::AllocError;
 
 // Appends a number of eight bytes.

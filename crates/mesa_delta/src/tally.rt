@@ -1,15 +1,13 @@
 // What is known of the rows that were written, beside their bytes.
 ghost use Rattle.std.specs.Prelude.{◌≡◌, ◌<◌, ◌↔◌, List, [], ◌∷◌, ◌++◌, length, map, IsTrue, OnOk};
-ghost use Rattle.mesa_schema.specs.declared.rows.Row.{Row as AnyRow};
-ghost use Rattle.mesa_schema.specs.Columns.{aggs_of};
-ghost use Rattle.mesa_schema.specs.Lent.{lent};
+ghost use Rattle.mesa_block.specs.mesa_columns.declared.rows.Row.{Row as AnyRow};
+ghost use Rattle.mesa_block.specs.mesa_columns.Columns.{aggs_of};
+ghost use Rattle.mesa_block.specs.mesa_columns.Lent.{lent};
 ghost use Rattle.mesa_delta.specs.Summary.{AllCombine, aggregates, all_noted, noted as noted_value};
 ghost use Rattle.mesa_delta.specs.Totals.{added};
 ghost use Rattle.mesa_delta.specs.Tallies.{Tallies};
 
-use mesa_list::put_bytes;
-use mesa_schema::{LentRow, Schema, ValueColumn};
-use mesa_value::{Agg, Amount, combine, combines};
+use mesa_schema::{Agg, Amount, LentRow, Schema, ValueColumn, combine, combines, put_bytes};
 use std::alloc::{AllocError, Global};
 
 /// How many rows there are, their first and last key, and for each value column its aggregate.

@@ -10,12 +10,12 @@ use Rattle.std.proofs.lemmas.List.{get_or-map, get_or_default, length-map, same_
 use Rattle.std.proofs.lemmas.List.Sorted.{IsPermutation-cons, IsPermutation-map, IsPermutation-middle, IsPermutation-refl, IsPermutation-trans}
 use Rattle.std.proofs.lemmas.Option.{slice_get-get_or}
 use Rattle.mesa_schema.specs.mesa_list.Bytes.{same_bytes}
-use Rattle.mesa_schema.specs.Columns.{chosen, place_of, places_in}
-use Rattle.mesa_schema.specs.Names.{has_name}
+use Rattle.mesa_columns.specs.Columns.{chosen, place_of, places_in}
+use Rattle.mesa_columns.specs.Names.{has_name}
 use Rattle.mesa_schema.proofs.Apart.{Apart}
 use Rattle.mesa_schema.proofs.Choices.{chosen-slot}
-use Rattle.mesa_schema.proofs.Maps.{is_some_position}
-use Rattle.mesa_schema.proofs.Places.{place_named}
+use Rattle.mesa_columns.proofs.Maps.{is_some_position}
+use Rattle.mesa_columns.proofs.Places.{place_named}
 use Rattle.mesa_digest.proofs.Placing.{either, names_differ}
 
 -- ---- names of which none is another

@@ -15,18 +15,18 @@ use Rattle.std.proofs.lemmas.List.Sums.{sum_by-cons}
 use Rattle.std.proofs.lemmas.List.Sorted.{IsPermutation-refl}
 use Rattle.mesa_value.specs.declared.Agg.{Agg}
 use Rattle.mesa_key.specs.Order.{byte_cmp}
-use Rattle.mesa_schema.specs.declared.rows.Row.{Row}
-use Rattle.mesa_schema.specs.declared.views.View.{View}
-use Rattle.mesa_schema.specs.Columns.{Columns, aggs_of, chosen}
-use Rattle.mesa_schema.specs.Folded.{folded, regrouped, row_combined}
-use Rattle.mesa_schema.specs.Laws.{AreAllKeys}
+use Rattle.mesa_columns.specs.declared.rows.Row.{Row}
+use Rattle.mesa_columns.specs.declared.views.View.{View}
+use Rattle.mesa_columns.specs.Columns.{Columns, aggs_of, chosen}
+use Rattle.mesa_schema.specs.mesa_fold.Folded.{folded, regrouped, row_combined}
+use Rattle.mesa_schema.specs.mesa_fold.Laws.{AreAllKeys}
 use Rattle.mesa_schema.specs.Lineages.{is_view_of}
-use Rattle.mesa_schema.specs.Schema.{is_schema}
-use Rattle.mesa_schema.specs.Put.{put_row}
-use Rattle.mesa_schema.specs.Rows.{AreRowsOf, IsRowOf, keys_rise}
+use Rattle.mesa_columns.specs.Schema.{is_schema}
+use Rattle.mesa_schema.specs.mesa_fold.Put.{put_row}
+use Rattle.mesa_columns.specs.Rows.{AreRowsOf, IsRowOf, keys_rise}
 use Rattle.mesa_schema.specs.Views.{view_columns, view_key_places, view_rows, view_value_places}
-use Rattle.mesa_schema.proofs.SameFolds.{puts_one}
-use Rattle.mesa_schema.proofs.WholeGroups.{one_key}
+use Rattle.mesa_schema.proofs.mesa_fold.SameFolds.{puts_one}
+use Rattle.mesa_schema.proofs.mesa_fold.WholeGroups.{one_key}
 use Rattle.mesa_digest.specs.Digests.{cells, mark, set}
 use Rattle.mesa_digest.specs.Laws.{AreMoved, HasAllColumns}
 use Rattle.mesa_digest.proofs.Regrouped.{all_keys, moved}

@@ -14,8 +14,8 @@ use Rattle.std.proofs.lemmas.List.{length-set}
 use Rattle.std.proofs.lemmas.List.Edits.{swap_is}
 use Rattle.std.proofs.lemmas.List.Sums.{sum_by-cons}
 use Rattle.mesa_key.specs.Order.{byte_cmp}
-use Rattle.mesa_schema.specs.Columns.{Columns}
-use Rattle.mesa_schema.specs.declared.rows.Row.{Row}
+use Rattle.mesa_columns.specs.Columns.{Columns}
+use Rattle.mesa_columns.specs.declared.rows.Row.{Row}
 use Rattle.mesa_digest.specs.Digests.{Cell, Label, cell_bytes, cell_cmp, cells, in_order, label_cmp, mark, mark_of, named, put_cell, set}
 use Rattle.mesa_digest.specs.Laws.{AreMoved}
 

@@ -12,13 +12,13 @@ use Rattle.mesa_schema.specs.mesa_list.Bytes.{same_bytes}
 use Rattle.mesa_key.specs.Order.{byte_cmp}
 use Rattle.mesa_key.specs.declared.KeyType.{KeyType}
 use Rattle.mesa_key.specs.Spelling.{columns_of}
-use Rattle.mesa_schema.specs.Columns.{Columns, key_names, kinds_of, value_names}
-use Rattle.mesa_schema.specs.Names.{has_name}
-use Rattle.mesa_schema.specs.Rows.{IsRowOf}
-use Rattle.mesa_schema.specs.Schema.{is_schema}
-use Rattle.mesa_schema.specs.declared.columns.KeyColumn.{KeyColumn}
-use Rattle.mesa_schema.specs.declared.columns.ValueColumn.{ValueColumn}
-use Rattle.mesa_schema.specs.declared.rows.Row.{Row}
+use Rattle.mesa_columns.specs.Columns.{Columns, key_names, kinds_of, value_names}
+use Rattle.mesa_columns.specs.Names.{has_name}
+use Rattle.mesa_columns.specs.Rows.{IsRowOf}
+use Rattle.mesa_columns.specs.Schema.{is_schema}
+use Rattle.mesa_columns.specs.declared.columns.KeyColumn.{KeyColumn}
+use Rattle.mesa_columns.specs.declared.columns.ValueColumn.{ValueColumn}
+use Rattle.mesa_columns.specs.declared.rows.Row.{Row}
 use Rattle.mesa_schema.proofs.Apart.{Apart}
 use Rattle.mesa_schema.proofs.SchemaChanges.{schema_rules}
 use Rattle.mesa_digest.specs.Digests.{Cell, Label, cells, in_order, key_cells, key_label, label_cmp, put_cell, value_cells, value_label}

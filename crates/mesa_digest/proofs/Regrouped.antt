@@ -8,21 +8,21 @@ use Rattle.std.proofs.lemmas.List.Sorted.{IsPermutation-append}
 use Rattle.mesa_key.specs.declared.KeyType.{KeyType}
 use Rattle.mesa_key.specs.declared.KeyValue.{KeyValue}
 use Rattle.mesa_key.specs.Spelling.{columns_of, key_of, key_spelling, value_spelling}
-use Rattle.mesa_schema.specs.declared.columns.KeyColumn.{KeyColumn}
-use Rattle.mesa_schema.specs.declared.columns.ValueColumn.{ValueColumn}
-use Rattle.mesa_schema.specs.declared.rows.Row.{Row}
-use Rattle.mesa_schema.specs.declared.views.View.{View}
-use Rattle.mesa_schema.specs.declared.views.ViewError.TheVariants.{NoKey, NoValue}
-use Rattle.mesa_schema.specs.Columns.{Columns, chosen, key_names, kinds_of, value_names}
-use Rattle.mesa_schema.specs.Folded.{regrouped}
-use Rattle.mesa_schema.specs.Laws.{AreAllKeys}
+use Rattle.mesa_columns.specs.declared.columns.KeyColumn.{KeyColumn}
+use Rattle.mesa_columns.specs.declared.columns.ValueColumn.{ValueColumn}
+use Rattle.mesa_columns.specs.declared.rows.Row.{Row}
+use Rattle.mesa_columns.specs.declared.views.View.{View}
+use Rattle.mesa_columns.specs.declared.views.ViewError.TheVariants.{NoKey, NoValue}
+use Rattle.mesa_columns.specs.Columns.{Columns, chosen, key_names, kinds_of, value_names}
+use Rattle.mesa_schema.specs.mesa_fold.Folded.{regrouped}
+use Rattle.mesa_schema.specs.mesa_fold.Laws.{AreAllKeys}
 use Rattle.mesa_schema.specs.Lineages.{is_view_of}
-use Rattle.mesa_schema.specs.Rows.{IsRowOf}
-use Rattle.mesa_schema.specs.Schema.{is_schema}
+use Rattle.mesa_columns.specs.Rows.{IsRowOf}
+use Rattle.mesa_columns.specs.Schema.{is_schema}
 use Rattle.mesa_schema.specs.Views.{choice_checked, view_columns, view_key_places, view_value_places}
 use Rattle.mesa_schema.proofs.Apart.{Apart, apart}
 use Rattle.mesa_schema.proofs.ChosenAgain.{places_within}
-use Rattle.mesa_schema.proofs.GroupKeys.{chosen_key, chosen_mapped, columns_spelled, concat_spelled}
+use Rattle.mesa_schema.proofs.mesa_fold.GroupKeys.{chosen_key, chosen_mapped, columns_spelled, concat_spelled}
 use Rattle.mesa_schema.proofs.Passing.{passed_first}
 use Rattle.mesa_schema.proofs.SchemaChanges.{schema_rules}
 use Rattle.mesa_schema.proofs.ViewSchemas.{IsChoice, choice}

@@ -6,11 +6,11 @@ use Rattle.std.proofs.lemmas.List.{get_or_append_left, get_or-append_right, leng
 use Rattle.mesa_key.specs.declared.KeyType.{KeyType}
 use Rattle.mesa_key.specs.Spelling.{columns_of, is_spelling, key_of}
 use Rattle.mesa_key.proofs.Keys.{spelling_passes}
-use Rattle.mesa_schema.specs.Columns.{Columns, kinds_of}
-use Rattle.mesa_schema.specs.Rows.{IsRowOf}
-use Rattle.mesa_schema.specs.declared.columns.KeyColumn.{KeyColumn}
-use Rattle.mesa_schema.specs.declared.columns.ValueColumn.{ValueColumn}
-use Rattle.mesa_schema.specs.declared.rows.Row.{Row}
+use Rattle.mesa_columns.specs.Columns.{Columns, kinds_of}
+use Rattle.mesa_columns.specs.Rows.{IsRowOf}
+use Rattle.mesa_columns.specs.declared.columns.KeyColumn.{KeyColumn}
+use Rattle.mesa_columns.specs.declared.columns.ValueColumn.{ValueColumn}
+use Rattle.mesa_columns.specs.declared.rows.Row.{Row}
 use Rattle.mesa_digest.specs.Digests.{Cell, amount_bytes, cell_bytes, key_bytes, key_cells, value_cells}
 use Rattle.mesa_digest.specs.Places.{cell_at, count_of, label_at, no_label}
 use Rattle.mesa_digest.proofs.Placing.{cell_label, columns_count}

@@ -9,10 +9,10 @@ use Rattle.mesa_key.specs.Order.{byte_cmp}
 use Rattle.mesa_key.specs.Spelling.{columns_of}
 use Rattle.mesa_key.specs.declared.KeyType.{KeyType}
 use Rattle.mesa_key.specs.declared.KeyType.TheVariants.{Int, Text}
-use Rattle.mesa_schema.specs.Columns.{Columns, kinds_of}
-use Rattle.mesa_schema.specs.declared.columns.KeyColumn.{KeyColumn}
-use Rattle.mesa_schema.specs.declared.columns.ValueColumn.{ValueColumn}
-use Rattle.mesa_schema.specs.declared.rows.Row.{Row}
+use Rattle.mesa_columns.specs.Columns.{Columns, kinds_of}
+use Rattle.mesa_columns.specs.declared.columns.KeyColumn.{KeyColumn}
+use Rattle.mesa_columns.specs.declared.columns.ValueColumn.{ValueColumn}
+use Rattle.mesa_columns.specs.declared.rows.Row.{Row}
 use Rattle.mesa_digest.specs.declared.digesting.DigestPair.{DigestPair}
 
 -- a value is 16 bytes in two's complement, the highest first

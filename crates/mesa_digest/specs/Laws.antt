@@ -2,14 +2,14 @@
 use Rattle.std.specs.Prelude.{◌≡◌, List, [], ◌∷◌, ⊤, IsTrue}
 use Rattle.std.specs.List.{list_all}
 use Rattle.std.specs.List.Sorted.{IsPermutation}
-use Rattle.mesa_schema.specs.Columns.{Columns, key_names, value_names}
+use Rattle.mesa_columns.specs.Columns.{Columns, key_names, value_names}
 use Rattle.mesa_schema.specs.Lineages.{is_view_of}
-use Rattle.mesa_schema.specs.Names.{has_name}
-use Rattle.mesa_schema.specs.Rows.{AreRowsOf, keys_rise}
-use Rattle.mesa_schema.specs.Schema.{is_schema}
+use Rattle.mesa_columns.specs.Names.{has_name}
+use Rattle.mesa_columns.specs.Rows.{AreRowsOf, keys_rise}
+use Rattle.mesa_columns.specs.Schema.{is_schema}
 use Rattle.mesa_schema.specs.Views.{view_columns, view_rows}
-use Rattle.mesa_schema.specs.declared.rows.Row.{Row}
-use Rattle.mesa_schema.specs.declared.views.View.{View}
+use Rattle.mesa_columns.specs.declared.rows.Row.{Row}
+use Rattle.mesa_columns.specs.declared.views.View.{View}
 use Rattle.mesa_digest.specs.Digests.{cells, named, set}
 
 -- Rows of other columns have the same columns, each in another order.

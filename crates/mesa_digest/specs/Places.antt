@@ -2,9 +2,9 @@
 use Rattle.std.specs.Prelude.{◌≡◌, ℕ, suc, ◌+◌, ◌<◌, List, [], ◌∷◌, ◌++◌, map, length, slice_index_or, if◌then◌else◌}
 use Rattle.std.specs.List.{AllByRecursion}
 use Rattle.std.specs.Ordering.{is_le}
-use Rattle.mesa_schema.specs.Columns.{Columns}
-use Rattle.mesa_schema.specs.Rows.{IsRowOf}
-use Rattle.mesa_schema.specs.declared.rows.Row.{Row}
+use Rattle.mesa_columns.specs.Columns.{Columns}
+use Rattle.mesa_columns.specs.Rows.{IsRowOf}
+use Rattle.mesa_columns.specs.declared.rows.Row.{Row}
 use Rattle.mesa_digest.specs.Digests.{Cell, Label, cells, in_order, key_label, label_cmp, value_label}
 
 -- what the columns go by

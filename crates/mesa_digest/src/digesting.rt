@@ -1,6 +1,6 @@
 // The digests of a relation's rows.
 ghost use Rattle.std.specs.Prelude.{◌≡◌, IfOk};
-ghost use Rattle.mesa_schema.specs.Rows.{AreRowsOf};
+ghost use Rattle.mesa_columns.specs.Rows.{AreRowsOf};
 ghost use Rattle.mesa_digest.specs.Digests.{digests_of};
 
 use crate::hashing::{add_row, mark};

@@ -1,15 +1,15 @@
 // Rows spelled by the names of their columns.
 ghost use Rattle.std.specs.Prelude.{◌≡◌, ◌++◌, ◌<◌, ◌≤◌, length, slice_get, IsTrue, IfOk, OnOk, Some};
 ghost use Rattle.mesa_key.specs.Spelling.{columns_of, is_column, is_spelling};
-ghost use Rattle.mesa_schema.specs.Columns.{kinds_of};
-ghost use Rattle.mesa_schema.specs.Rows.{IsRowOf};
+ghost use Rattle.mesa_columns.specs.Columns.{kinds_of};
+ghost use Rattle.mesa_columns.specs.Rows.{IsRowOf};
 ghost use Rattle.mesa_digest.specs.Digests.{cell_bytes, key_bytes, named};
 ghost use Rattle.mesa_digest.specs.Places.{IsOrder, cell_at, count_of};
 
 use crate::hashing::bytes_of;
 use crate::ordering::{column_order, label};
-use mesa_key::{Column, KeyColumns, KeyType};
 use mesa_columns::{Row, Schema};
+use mesa_key::{Column, KeyColumns, KeyType};
 use std::alloc::{AllocError, Global};
 
 // How rows of a schema are spelled: the types of its key columns, and the places of its columns in the order of their names.

@@ -19,4 +19,4 @@ pub use mesa_file::{Damage, FileId, FileRef, Seen};
 pub use moving::{Adoption, adopt_all, remove_all};
 
 /// A list of bytes.
-pub type ByteList = mesa_list::Items<u8>;
+pub type ByteList = mesa_file::Items<u8>;

@@ -6,12 +6,12 @@ use Rattle.mesa_model.specs.declared.entries.Entry.{Entry}
 use Rattle.mesa_model.specs.declared.replies.Reply.{Reply}
 use Rattle.mesa_model.specs.declared.replies.Reply.TheVariants as reply
 use Rattle.mesa_model.specs.Warehouse.{Store}
-use Rattle.mesa_catalog.specs.mesa_history_spec.Counting.{one_if}
-use Rattle.mesa_catalog.specs.mesa_history_spec.Law.{Leaves, writing_as, writing_by, writing_if_told, written_in, written_through}
-use Rattle.mesa_catalog.specs.mesa_history_spec.Legal.{is_written, wrote}
-use Rattle.mesa_catalog.specs.mesa_history_spec.Replay.{told_by, go, runs}
-use Rattle.mesa_catalog.specs.mesa_history_spec.Run.{Run, Stage, Told, command_of, place_of}
-use Rattle.mesa_catalog.specs.mesa_history_spec.Sources.{Written}
+use Rattle.mesa_invariant_spec.specs.mesa_history_spec.Counting.{one_if}
+use Rattle.mesa_invariant_spec.specs.mesa_history_spec.Law.{Leaves, writing_as, writing_by, writing_if_told, written_in, written_through}
+use Rattle.mesa_invariant_spec.specs.mesa_history_spec.Legal.{is_written, wrote}
+use Rattle.mesa_invariant_spec.specs.mesa_history_spec.Replay.{told_by, go, runs}
+use Rattle.mesa_invariant_spec.specs.mesa_history_spec.Run.{Run, Stage, Told, command_of, place_of}
+use Rattle.mesa_invariant_spec.specs.mesa_history_spec.Sources.{Written}
 use Rattle.mesa_invariant_spec.proofs.mesa_history_spec.Counting.{count_more}
 use Rattle.mesa_invariant_spec.specs.Sight.{is_of_schemas, tells_of_schemas, changes_schemas, schema_changes}
 

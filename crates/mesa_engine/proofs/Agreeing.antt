@@ -8,7 +8,7 @@ use Rattle.mesa_catalog.specs.mesa_store_spec.Contents.{kept_of}
 use Rattle.mesa_catalog.specs.mesa_store_spec.Fitting.{live_files}
 use Rattle.mesa_catalog.proofs.mesa_store_spec.Agreeing.{Agrees, agree_kept}
 use Rattle.mesa_catalog.specs.mesa_store_spec.Ids.{named}
-use Rattle.mesa_catalog.specs.mesa_history_spec.Rows.{Rows}
+use Rattle.mesa_invariant_spec.specs.mesa_history_spec.Rows.{Rows}
 use Rattle.mesa_commit.specs.Holding.{Held, IsHoldOf}
 use Rattle.mesa_invariant_spec.specs.Invariant.{Outset}
 use Rattle.mesa_engine.specs.EngineState.{HeldPin, EngineState, held_with, next_id, Holder, holders, ids_held}

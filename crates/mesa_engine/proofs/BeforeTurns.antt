@@ -3,17 +3,17 @@ use Rattle.std.proofs.Common.{◌≡◌, ℕ, ◌<◌, List, [], Bool, true, fal
 use Rattle.mesa_disk.specs.declared.area.Area.{Area}
 use Rattle.mesa_disk.specs.Story.{Story, Unmoved}
 use Rattle.mesa_model.specs.declared.entries.Entry.{Entry}
-use Rattle.mesa_catalog.specs.mesa_history_spec.Claims.{HasRanges, HasClaimAt}
-use Rattle.mesa_catalog.specs.mesa_history_spec.Counting.{count_in}
-use Rattle.mesa_catalog.specs.mesa_history_spec.Law.{written_in}
-use Rattle.mesa_catalog.specs.mesa_history_spec.Run.{begins, place_of}
+use Rattle.mesa_invariant_spec.specs.mesa_history_spec.Claims.{HasRanges, HasClaimAt}
+use Rattle.mesa_invariant_spec.specs.mesa_history_spec.Counting.{count_in}
+use Rattle.mesa_invariant_spec.specs.mesa_history_spec.Law.{written_in}
+use Rattle.mesa_invariant_spec.specs.mesa_history_spec.Run.{begins, place_of}
 use Rattle.mesa_invariant_spec.proofs.mesa_history_spec.Claims.{runs_hold, begins_hold}
 use Rattle.mesa_catalog.specs.mesa_store_spec.Catalog.{Catalog}
 use Rattle.mesa_catalog.specs.mesa_store_spec.Held.{IsHeld}
 use Rattle.mesa_catalog.specs.mesa_store_spec.Shape.{IsCatalog}
 use Rattle.mesa_catalog.specs.mesa_store_spec.Sound.{HaveSoundRows}
 use Rattle.mesa_catalog.specs.mesa_store_spec.Ids.{HasOwnIds, named}
-use Rattle.mesa_catalog.specs.mesa_history_spec.Rows.{Rows, no_rows}
+use Rattle.mesa_invariant_spec.specs.mesa_history_spec.Rows.{Rows, no_rows}
 use Rattle.mesa_commit.specs.Holding.{Among}
 use Rattle.mesa_commit.proofs.Filing.{filed_first}
 use Rattle.mesa_invariant_spec.specs.Turns.{IsSeen}

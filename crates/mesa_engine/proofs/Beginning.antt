@@ -4,7 +4,7 @@ use Rattle.mesa_disk.specs.Story.{Story}
 use Rattle.mesa_disk.specs.declared.area.Area.{Area}
 use Rattle.mesa_catalog.specs.mesa_store_spec.Catalog.{Catalog}
 use Rattle.mesa_lease.specs.Book.{Book}
-use Rattle.mesa_catalog.specs.mesa_history_spec.Rows.{Rows}
+use Rattle.mesa_invariant_spec.specs.mesa_history_spec.Rows.{Rows}
 use Rattle.mesa_invariant_spec.specs.Books.{AreBooksOf}
 use Rattle.mesa_invariant_spec.proofs.Beginning.{started}
 use Rattle.mesa_engine.specs.EngineState.{books_of}

@@ -5,9 +5,9 @@ use Rattle.std.proofs.lemmas.List.{map-set}
 use Rattle.std.proofs.lemmas.Simd.{map-map}
 use Rattle.mesa_batch.specs.Batch.{Named, Placed, batch_of, rows_for}
 use Rattle.mesa_batch.specs.declared.words.RowWords.{RowWords}
-use Rattle.mesa_catalog.specs.mesa_schema.declared.changes.Change.{Change}
-use Rattle.mesa_catalog.specs.mesa_schema.declared.views.View.{View}
-use Rattle.mesa_catalog.specs.mesa_schema.Columns.{Columns}
+use Rattle.mesa_catalog.specs.mesa_columns.declared.changes.Change.{Change}
+use Rattle.mesa_catalog.specs.mesa_columns.declared.views.View.{View}
+use Rattle.mesa_catalog.specs.mesa_columns.Columns.{Columns}
 use Rattle.mesa_catalog.specs.mesa_schema.Changes.{Lineage, columns_of, epoch_of}
 use Rattle.mesa_catalog.specs.mesa_schema.Views.{with_view}
 use Rattle.mesa_commit.specs.declared.trash.Dropped.{Dropped}
@@ -23,10 +23,10 @@ use Rattle.mesa_model.specs.Relations.{table_number}
 use Rattle.mesa_model.specs.Tables.{make_table, make_view, alter_table, columns_asked, new_table, change_asked, table_changed}
 use Rattle.mesa_model.specs.Versions.{expire_all, expire_table, store_from, table_from}
 use Rattle.mesa_model.specs.Warehouse.{Table, Warehouse, table_at, with_table, no_table}
-use Rattle.mesa_catalog.specs.mesa_history_spec.Found.{Kept, kept_of as kept_by}
-use Rattle.mesa_catalog.specs.mesa_history_spec.Machine.{with_new_table}
-use Rattle.mesa_catalog.specs.mesa_history_spec.Replay.{stepped}
-use Rattle.mesa_catalog.specs.mesa_history_spec.Run.{State}
+use Rattle.mesa_invariant_spec.specs.mesa_history_spec.Found.{Kept, kept_of as kept_by}
+use Rattle.mesa_invariant_spec.specs.mesa_history_spec.Machine.{with_new_table}
+use Rattle.mesa_invariant_spec.specs.mesa_history_spec.Replay.{stepped}
+use Rattle.mesa_invariant_spec.specs.mesa_history_spec.Run.{State}
 use Rattle.mesa_record.specs.declared.record.Part.{Part}
 use Rattle.mesa_record.specs.declared.record.Record.TheVariants as record_of
 use Rattle.mesa_record.specs.mesa_record_fields.Rules.{IsTypedChange}
@@ -46,8 +46,8 @@ use Rattle.mesa_catalog.specs.mesa_store_spec.Moves.{kept_altered, kept_expired,
 use Rattle.mesa_catalog.specs.mesa_store_spec.Sourced.{tables_read}
 use Rattle.mesa_invariant_spec.proofs.mesa_history_spec.BareLists.{append_same, at_same, set_same}
 use Rattle.mesa_invariant_spec.proofs.mesa_history_spec.BareSteps.{alter-bare, expire-bare, load-bare, number_bare, table-bare, view-bare}
-use Rattle.mesa_catalog.specs.mesa_history_spec.Bare.{bare, bare_table}
-use Rattle.mesa_catalog.specs.mesa_history_spec.Rows.{Rows}
+use Rattle.mesa_invariant_spec.specs.mesa_history_spec.Bare.{bare, bare_table}
+use Rattle.mesa_invariant_spec.specs.mesa_history_spec.Rows.{Rows}
 use Rattle.mesa_invariant_spec.specs.Books.{Books, AreBooksOf}
 use Rattle.mesa_invariant_spec.specs.Changes.{IsChange}
 use Rattle.mesa_invariant_spec.specs.Invariant.{Outset}

@@ -4,9 +4,9 @@ use Rattle.std.proofs.lemmas.List.{append_cancel_left}
 use Rattle.mesa_io.specs.Causes.{last}
 use Rattle.mesa_model.specs.declared.commands.Script.{Script}
 use Rattle.mesa_model.specs.declared.entries.Entry.{Entry}
-use Rattle.mesa_catalog.specs.mesa_history_spec.Counting.{answers_bench, answers_disk, is_bench_fault}
-use Rattle.mesa_catalog.specs.mesa_history_spec.Replay.{closes}
-use Rattle.mesa_catalog.specs.mesa_history_spec.Run.{State}
+use Rattle.mesa_invariant_spec.specs.mesa_history_spec.Counting.{answers_bench, answers_disk, is_bench_fault}
+use Rattle.mesa_invariant_spec.specs.mesa_history_spec.Replay.{closes}
+use Rattle.mesa_invariant_spec.specs.mesa_history_spec.Run.{State}
 use Rattle.mesa_invariant_spec.specs.Causes.{Cause, Replies, Unread, Damaged, Unwritten, NoMemory, outcome_of}
 use Rattle.mesa_invariant_spec.specs.Turns.{AnswersDraft, Shown}
 use Rattle.mesa_invariant_spec.specs.Invariant.{run_at}

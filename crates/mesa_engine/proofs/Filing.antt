@@ -12,7 +12,7 @@ use Rattle.mesa_catalog.specs.mesa_store_spec.Fitting.{LiveFile, live_files, liv
 use Rattle.mesa_catalog.specs.mesa_store_spec.Sound.{wants}
 use Rattle.mesa_catalog.proofs.mesa_store_spec.Agreeing.{Agrees, agree_wants}
 use Rattle.mesa_catalog.specs.mesa_store_spec.Ids.{named}
-use Rattle.mesa_catalog.specs.mesa_history_spec.Rows.{Rows}
+use Rattle.mesa_invariant_spec.specs.mesa_history_spec.Rows.{Rows}
 use Rattle.mesa_commit.specs.declared.trash.Hold.{Hold}
 use Rattle.mesa_commit.specs.declared.trash.Dropped.{Dropped}
 use Rattle.mesa_commit.specs.Filed.{AreGiven, Renames, waits_after}

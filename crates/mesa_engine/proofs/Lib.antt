@@ -1,7 +1,7 @@
+pub use Rattle.mesa_binding.proofs.mesa_columns as mesa_columns
 pub use Rattle.mesa_commit.proofs as mesa_commit
 pub use Rattle.mesa_invariant_spec.proofs.mesa_history_spec as mesa_history_spec
 pub use Rattle.mesa_invariant_spec.proofs as mesa_invariant_spec
-pub use Rattle.mesa_catalog.proofs.mesa_schema as mesa_schema
 pub use Rattle.mesa_catalog.proofs.mesa_store_spec as mesa_store_spec
 pub mod Lists
 pub mod Standing

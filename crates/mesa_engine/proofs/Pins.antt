@@ -7,8 +7,8 @@ use Rattle.std.proofs.lemmas.Simd.{map-map}
 use Rattle.mesa_model.specs.Pins.{counted_at, is_pin, store_at}
 use Rattle.mesa_model.specs.Warehouse.{Pin, Store, Table}
 use Rattle.mesa_catalog.specs.mesa_store_spec.Catalog.{Catalog, TableMeta}
-use Rattle.mesa_catalog.specs.mesa_history_spec.Bare.{bare_pin, bare_store, bare_table}
-use Rattle.mesa_catalog.specs.mesa_history_spec.Rows.{Rows}
+use Rattle.mesa_invariant_spec.specs.mesa_history_spec.Bare.{bare_pin, bare_store, bare_table}
+use Rattle.mesa_invariant_spec.specs.mesa_history_spec.Rows.{Rows}
 use Rattle.mesa_commit.specs.declared.trash.Hold.{Hold}
 use Rattle.mesa_invariant_spec.specs.Books.{pinned_books, released_books}
 use Rattle.mesa_engine.specs.EngineState.{HeldPin, EngineState, projection_at, projection_of, projections, projections_at, bare_held, held_with, books_of}

@@ -4,15 +4,15 @@ use Rattle.mesa_model.specs.declared.entries.Entry.{Entry}
 use Rattle.mesa_model.specs.Query.{Heading}
 use Rattle.mesa_model.specs.declared.replies.Page.{Page}
 use Rattle.mesa_model.specs.declared.replies.Reply.TheVariants as reply
-use Rattle.mesa_catalog.specs.mesa_history_spec.Run.{Told}
-use Rattle.mesa_catalog.specs.mesa_history_spec.Output.{block}
+use Rattle.mesa_invariant_spec.specs.mesa_history_spec.Run.{Told}
+use Rattle.mesa_invariant_spec.specs.mesa_history_spec.Output.{block}
 use Rattle.mesa_print.specs.declared.printer.Printer.{Printer}
 use Rattle.mesa_print.specs.Printed.{Printed}
 use Rattle.mesa_script.specs.Replies.{head_line}
 use Rattle.mesa_script.specs.Rows.{body_of, rendered}
 use Rattle.mesa_script.specs.declared.rendered.Rendered.{Rendered}
 use Rattle.mesa_invariant_spec.specs.Printing.{IsPut}
-use Rattle.mesa_catalog.specs.mesa_history_spec.Replay.{no_rows}
+use Rattle.mesa_invariant_spec.specs.mesa_history_spec.Replay.{no_rows}
 use Rattle.mesa_invariant_spec.specs.Causes.{reply_of}
 use Rattle.mesa_engine.specs.declared.failure.Failure.{Failure}
 use Rattle.mesa_engine.specs.declared.failure.Failure.TheVariants as failure

@@ -3,15 +3,15 @@ use Rattle.std.proofs.Common.{◌≡◌, ℕ, ◌<◌, List, [], map, Bool, refl
 use Rattle.std.specs.Prelude.{option_map, slice_set, slice_index_or}
 use Rattle.std.proofs.lemmas.List.{map-set}
 use Rattle.mesa_lease.specs.Book.{ended}
-use Rattle.mesa_catalog.proofs.mesa_schema.Lists.{map_at}
+use Rattle.mesa_binding.proofs.mesa_columns.Lists.{map_at}
 use Rattle.mesa_catalog.specs.mesa_schema.Recasts.{Recast}
 use Rattle.mesa_commit.specs.declared.trash.Dropped.{Dropped}
 use Rattle.mesa_disk.specs.Story.{Story}
 use Rattle.mesa_model.specs.declared.entries.Entry.{Entry}
 use Rattle.mesa_model.specs.Tables.{table_recast}
 use Rattle.mesa_model.specs.Warehouse.{Table, table_at}
-use Rattle.mesa_catalog.specs.mesa_history_spec.Found.{Kept}
-use Rattle.mesa_catalog.specs.mesa_history_spec.Machine.{Claim, without_cumulatives}
+use Rattle.mesa_invariant_spec.specs.mesa_history_spec.Found.{Kept}
+use Rattle.mesa_invariant_spec.specs.mesa_history_spec.Machine.{Claim, without_cumulatives}
 use Rattle.mesa_record.specs.declared.recasting.Recasting.{Recasting}
 use Rattle.mesa_record.specs.declared.record.Record.TheVariants as record_of
 use Rattle.mesa_catalog.specs.mesa_store_spec.Catalog.{Catalog, Ending, TableMeta, applied, base_recast, end_in, no_meta, ranges_of, meta_at, meta_recast}
@@ -19,7 +19,7 @@ use Rattle.mesa_catalog.specs.mesa_store_spec.Contents.{kept_of}
 use Rattle.mesa_catalog.specs.mesa_store_spec.Moves.{Moves, kept_recast}
 use Rattle.mesa_catalog.specs.mesa_store_spec.Rewritten.{Rewritten, base_rewritten, recasting_of}
 use Rattle.mesa_invariant_spec.proofs.mesa_history_spec.BareLists.{set_same}
-use Rattle.mesa_catalog.specs.mesa_history_spec.Rows.{Rows}
+use Rattle.mesa_invariant_spec.specs.mesa_history_spec.Rows.{Rows}
 use Rattle.mesa_invariant_spec.specs.Books.{Books, recast_books}
 use Rattle.mesa_invariant_spec.specs.Invariant.{Outset}
 use Rattle.mesa_invariant_spec.specs.Works.{Regroups}

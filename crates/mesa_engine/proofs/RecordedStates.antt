@@ -10,14 +10,14 @@ use Rattle.mesa_commit.specs.Turn.{MovesOnly}
 use Rattle.mesa_lease.specs.Book.{Book}
 use Rattle.mesa_model.specs.declared.entries.Entry.{Entry}
 use Rattle.mesa_model.specs.declared.replies.Reply.{Reply}
-use Rattle.mesa_catalog.specs.mesa_history_spec.Counting.{one_if}
-use Rattle.mesa_catalog.specs.mesa_history_spec.Run.{begins}
+use Rattle.mesa_invariant_spec.specs.mesa_history_spec.Counting.{one_if}
+use Rattle.mesa_invariant_spec.specs.mesa_history_spec.Run.{begins}
 use Rattle.mesa_catalog.specs.mesa_store_spec.Catalog.{Catalog}
 use Rattle.mesa_catalog.specs.mesa_store_spec.Held.{IsHeld}
 use Rattle.mesa_catalog.specs.mesa_store_spec.Sound.{HaveSoundRows}
 use Rattle.mesa_catalog.proofs.mesa_store_spec.Agreeing.{agree_sound_rows}
 use Rattle.mesa_catalog.specs.mesa_store_spec.Ids.{named}
-use Rattle.mesa_catalog.specs.mesa_history_spec.Rows.{Rows}
+use Rattle.mesa_invariant_spec.specs.mesa_history_spec.Rows.{Rows}
 use Rattle.mesa_commit.specs.Filed.{AreFresh, AreMoved, PinFiles, Renames}
 use Rattle.mesa_commit.specs.declared.trash.Dropped.{Dropped}
 use Rattle.mesa_commit.specs.Holding.{Among, Held, AreFiled, IsHoldOf, ids_of, freed, kept}

@@ -11,12 +11,12 @@ use Rattle.mesa_model.specs.declared.replies.Reply.{Reply}
 use Rattle.mesa_model.specs.declared.replies.Reply.TheVariants as reply
 use Rattle.mesa_model.specs.Load.{tables_named}
 use Rattle.mesa_model.specs.Warehouse.{Store}
-use Rattle.mesa_catalog.specs.mesa_history_spec.Found.{Kept}
-use Rattle.mesa_catalog.specs.mesa_history_spec.Law.{Accepts, Leaves, Regroups, Writing, batch_or_none, recast_for, regroups, writing_as, writing_by, writing_if_told, written_in, written_through}
-use Rattle.mesa_catalog.specs.mesa_history_spec.Machine.{Claim, Errand, Recasts}
-use Rattle.mesa_catalog.specs.mesa_history_spec.Replay.{told_by}
-use Rattle.mesa_catalog.specs.mesa_history_spec.Run.{Place, Renewed, Stage, begins, command_of, place_of}
-use Rattle.mesa_catalog.specs.mesa_history_spec.Turns.{IsDue}
+use Rattle.mesa_invariant_spec.specs.mesa_history_spec.Found.{Kept}
+use Rattle.mesa_invariant_spec.specs.mesa_history_spec.Law.{Accepts, Leaves, Regroups, Writing, batch_or_none, recast_for, regroups, writing_as, writing_by, writing_if_told, written_in, written_through}
+use Rattle.mesa_invariant_spec.specs.mesa_history_spec.Machine.{Claim, Errand, Recasts}
+use Rattle.mesa_invariant_spec.specs.mesa_history_spec.Replay.{told_by}
+use Rattle.mesa_invariant_spec.specs.mesa_history_spec.Run.{Place, Renewed, Stage, begins, command_of, place_of}
+use Rattle.mesa_invariant_spec.specs.mesa_history_spec.Turns.{IsDue}
 use Rattle.mesa_record.specs.declared.record.Part.{Part}
 use Rattle.mesa_record.specs.declared.record.Record.TheVariants as record_of
 use Rattle.mesa_catalog.specs.mesa_store_spec.Catalog.{Catalog, applied}
@@ -25,7 +25,7 @@ use Rattle.mesa_catalog.proofs.mesa_store_spec.Accepted.{read_accepted}
 use Rattle.mesa_catalog.proofs.mesa_store_spec.AllSourced.{agree_sourced, publish_sourced}
 use Rattle.mesa_catalog.specs.mesa_store_spec.Brought.{BringsAll}
 use Rattle.mesa_catalog.specs.mesa_store_spec.Sourced.{HasSources, tables_read, written_behind}
-use Rattle.mesa_catalog.specs.mesa_history_spec.Rows.{Rows}
+use Rattle.mesa_invariant_spec.specs.mesa_history_spec.Rows.{Rows}
 use Rattle.mesa_invariant_spec.specs.Causes.{told_at}
 use Rattle.mesa_invariant_spec.specs.Invariant.{Outset, run_of}
 use Rattle.mesa_invariant_spec.proofs.Projections.{named_is}

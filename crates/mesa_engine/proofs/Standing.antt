@@ -9,7 +9,7 @@ use Rattle.mesa_catalog.specs.mesa_store_spec.Contents.{kept_of}
 use Rattle.mesa_catalog.specs.mesa_store_spec.Fitting.{live_files}
 use Rattle.mesa_catalog.specs.mesa_store_spec.Held.{IsHeld}
 use Rattle.mesa_catalog.specs.mesa_store_spec.Sound.{StandsFor, wants}
-use Rattle.mesa_catalog.specs.mesa_history_spec.Rows.{Rows}
+use Rattle.mesa_invariant_spec.specs.mesa_history_spec.Rows.{Rows}
 use Rattle.mesa_invariant_spec.specs.Invariant.{AllStand}
 use Rattle.mesa_engine.specs.EngineState.{EngineState}
 use Rattle.mesa_engine.specs.Vault.{IsReady, AreThere}

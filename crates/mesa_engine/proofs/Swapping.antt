@@ -4,14 +4,14 @@ use Rattle.std.specs.Prelude.{slice_set, slice_index_or, if◌then◌else◌, �
 use Rattle.std.proofs.lemmas.List.{map-set}
 use Rattle.mesa_lease.specs.Book.{Book, ended, last_of, with_last}
 use Rattle.mesa_lease.specs.declared.lease.Lease.{Lease}
-use Rattle.mesa_catalog.proofs.mesa_schema.Lists.{map_at}
+use Rattle.mesa_binding.proofs.mesa_columns.Lists.{map_at}
 use Rattle.mesa_catalog.specs.mesa_span.declared.works.Work.{Work}
 use Rattle.mesa_catalog.specs.mesa_span.declared.works.Work.TheVariants as range
 use Rattle.mesa_catalog.specs.mesa_span.Work.{swapped}
 use Rattle.mesa_commit.specs.declared.trash.Dropped.{Dropped}
 use Rattle.mesa_disk.specs.Story.{Story}
 use Rattle.mesa_model.specs.declared.entries.Entry.{Entry}
-use Rattle.mesa_catalog.specs.mesa_history_spec.Machine.{Claim, swapped_reply}
+use Rattle.mesa_invariant_spec.specs.mesa_history_spec.Machine.{Claim, swapped_reply}
 use Rattle.mesa_record.specs.declared.record.Files.{Files}
 use Rattle.mesa_record.specs.declared.record.Record.TheVariants as record_of
 use Rattle.mesa_catalog.specs.mesa_store_spec.Catalog.{Catalog, Delta, TableMeta, applied, merged_delta, no_meta, ranges_of, meta_at, meta_swapped}
@@ -20,7 +20,7 @@ use Rattle.mesa_catalog.proofs.mesa_store_spec.Kept.{IsWithin, ranges_swapped, s
 use Rattle.mesa_catalog.specs.mesa_store_spec.Brought.{Replaces, merged_of}
 use Rattle.mesa_catalog.specs.mesa_store_spec.Moves.{kept_swapped, work_of}
 use Rattle.mesa_invariant_spec.proofs.mesa_history_spec.BareLists.{set_same}
-use Rattle.mesa_catalog.specs.mesa_history_spec.Rows.{Rows}
+use Rattle.mesa_invariant_spec.specs.mesa_history_spec.Rows.{Rows}
 use Rattle.mesa_invariant_spec.specs.Books.{Books, swapped_books}
 use Rattle.mesa_invariant_spec.specs.Invariant.{Outset}
 use Rattle.mesa_invariant_spec.specs.Works.{Swaps}

@@ -12,11 +12,11 @@ use Rattle.mesa_model.specs.declared.entries.Kind.{Kind}
 use Rattle.mesa_model.specs.declared.entries.Outcome.TheVariants as outcome
 use Rattle.mesa_invariant_spec.proofs.mesa_history_spec.Finding.{all_more}
 use Rattle.mesa_invariant_spec.proofs.mesa_history_spec.Turns.{turn_goes}
-use Rattle.mesa_catalog.specs.mesa_history_spec.Run.{State, Stage, Told, begins, place_of}
-use Rattle.mesa_catalog.specs.mesa_history_spec.Turns.{IsDue, place_then}
-use Rattle.mesa_catalog.specs.mesa_history_spec.Output.{block}
+use Rattle.mesa_invariant_spec.specs.mesa_history_spec.Run.{State, Stage, Told, begins, place_of}
+use Rattle.mesa_invariant_spec.specs.mesa_history_spec.Turns.{IsDue, place_then}
+use Rattle.mesa_invariant_spec.specs.mesa_history_spec.Output.{block}
 use Rattle.mesa_print.specs.declared.printer.Printer.{Printer}
-use Rattle.mesa_catalog.specs.mesa_history_spec.Rows.{Rows, no_rows}
+use Rattle.mesa_invariant_spec.specs.mesa_history_spec.Rows.{Rows, no_rows}
 use Rattle.mesa_invariant_spec.specs.Printing.{IsPut}
 use Rattle.mesa_invariant_spec.specs.Turns.{Shown, IsSeen, Takes, entry}
 use Rattle.mesa_invariant_spec.specs.Undamaged.{NoneDamaged, is_damaged}

@@ -10,18 +10,18 @@ use Rattle.mesa_model.specs.declared.entries.Kind.{Kind}
 use Rattle.mesa_model.specs.declared.entries.Kind.TheVariants as kind
 use Rattle.mesa_model.specs.declared.entries.Outcome.TheVariants as outcome
 use Rattle.mesa_model.specs.declared.replies.Reply.{Reply}
-use Rattle.mesa_catalog.specs.mesa_history_spec.Legal.{is_answered, is_due_at}
-use Rattle.mesa_catalog.specs.mesa_history_spec.Machine.{Claim, claim_of, recast_claim_of}
-use Rattle.mesa_catalog.specs.mesa_history_spec.Replay.{closes, is_skip}
-use Rattle.mesa_catalog.specs.mesa_history_spec.Refused.{is_refusal}
-use Rattle.mesa_catalog.specs.mesa_history_spec.Run.{Stage, First, Looked, Finished}
-use Rattle.mesa_catalog.specs.mesa_history_spec.Turns.{IsDue}
+use Rattle.mesa_invariant_spec.specs.mesa_history_spec.Legal.{is_answered, is_due_at}
+use Rattle.mesa_invariant_spec.specs.mesa_history_spec.Machine.{Claim, claim_of, recast_claim_of}
+use Rattle.mesa_invariant_spec.specs.mesa_history_spec.Replay.{closes, is_skip}
+use Rattle.mesa_invariant_spec.specs.mesa_history_spec.Refused.{is_refusal}
+use Rattle.mesa_invariant_spec.specs.mesa_history_spec.Run.{Stage, First, Looked, Finished}
+use Rattle.mesa_invariant_spec.specs.mesa_history_spec.Turns.{IsDue}
 use Rattle.mesa_model.specs.Load.{load_batch}
 use Rattle.mesa_model.specs.Pins.{make_pin, release_pin}
 use Rattle.mesa_model.specs.Tables.{alter_table, make_table, make_view}
 use Rattle.mesa_model.specs.Versions.{expire_to}
-use Rattle.mesa_catalog.specs.mesa_history_spec.Output.{block}
-use Rattle.mesa_catalog.specs.mesa_history_spec.Rows.{Rows}
+use Rattle.mesa_invariant_spec.specs.mesa_history_spec.Output.{block}
+use Rattle.mesa_invariant_spec.specs.mesa_history_spec.Rows.{Rows}
 use Rattle.mesa_invariant_spec.specs.Books.{Books}
 use Rattle.mesa_invariant_spec.specs.Causes.{Cause, Replies, Unread, Damaged, Unwritten, NoMemory, outcome_of, reply_of, told_at, is_read_fault}
 use Rattle.mesa_invariant_spec.specs.Changes.{Doing, IsDecided, HasFailed, HasNoPlan, failed_books}

@@ -17,23 +17,23 @@ use Rattle.mesa_model.specs.declared.entries.Kind.TheVariants as kind
 use Rattle.mesa_model.specs.declared.entries.Outcome.{Outcome}
 use Rattle.mesa_model.specs.declared.entries.Outcome.TheVariants as outcome
 use Rattle.mesa_model.specs.declared.replies.Reply.{Reply}
-use Rattle.mesa_catalog.specs.mesa_history_spec.Counting.{one_if}
-use Rattle.mesa_catalog.specs.mesa_history_spec.Legal.{is_writing, is_written}
+use Rattle.mesa_invariant_spec.specs.mesa_history_spec.Counting.{one_if}
+use Rattle.mesa_invariant_spec.specs.mesa_history_spec.Legal.{is_writing, is_written}
 use Rattle.mesa_catalog.specs.mesa_schema.Recasts.{Recast}
 use Rattle.mesa_model.specs.Tables.{recast_reply}
 use Rattle.mesa_model.specs.Warehouse.{table_at}
-use Rattle.mesa_catalog.specs.mesa_history_spec.Machine.{Claim, Merges, Recasts, claim_checked, still_checked, swapped_reply}
-use Rattle.mesa_catalog.specs.mesa_history_spec.Refused.{is_refusal}
-use Rattle.mesa_catalog.specs.mesa_history_spec.Replay.{told_by}
-use Rattle.mesa_catalog.specs.mesa_history_spec.Run.{Renewed, Stage}
-use Rattle.mesa_catalog.specs.mesa_history_spec.Turns.{IsDue}
+use Rattle.mesa_invariant_spec.specs.mesa_history_spec.Machine.{Claim, Merges, Recasts, claim_checked, still_checked, swapped_reply}
+use Rattle.mesa_invariant_spec.specs.mesa_history_spec.Refused.{is_refusal}
+use Rattle.mesa_invariant_spec.specs.mesa_history_spec.Replay.{told_by}
+use Rattle.mesa_invariant_spec.specs.mesa_history_spec.Run.{Renewed, Stage}
+use Rattle.mesa_invariant_spec.specs.mesa_history_spec.Turns.{IsDue}
 use Rattle.mesa_catalog.specs.mesa_store_spec.Catalog.{Catalog}
 use Rattle.mesa_catalog.specs.mesa_store_spec.Contents.{kept_of}
 use Rattle.mesa_catalog.specs.mesa_store_spec.Held.{IsHeld}
 use Rattle.mesa_catalog.specs.mesa_store_spec.Sound.{HaveSoundRows, StandsFor}
 use Rattle.mesa_catalog.specs.mesa_store_spec.Sourced.{HasSources}
-use Rattle.mesa_catalog.specs.mesa_history_spec.Output.{block}
-use Rattle.mesa_catalog.specs.mesa_history_spec.Rows.{Rows}
+use Rattle.mesa_invariant_spec.specs.mesa_history_spec.Output.{block}
+use Rattle.mesa_invariant_spec.specs.mesa_history_spec.Rows.{Rows}
 use Rattle.mesa_invariant_spec.specs.Books.{recast_books, swapped_books}
 use Rattle.mesa_invariant_spec.specs.Causes.{Unwritten, reply_of, told_at}
 use Rattle.mesa_invariant_spec.specs.Changes.{Doing, IsChange, IsDecided}

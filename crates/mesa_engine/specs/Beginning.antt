@@ -2,7 +2,7 @@
 use Rattle.std.specs.Prelude.{◌≡◌, ℕ, ◌+◌, ◌<◌, ◌≤◌, List, [], Bool, Option, IsTrue}
 use Rattle.mesa_disk.specs.Story.{Story}
 use Rattle.mesa_disk.specs.declared.area.Area.{Area}
-use Rattle.mesa_catalog.specs.mesa_history_spec.Claims.{HasRanges}
+use Rattle.mesa_invariant_spec.specs.mesa_history_spec.Claims.{HasRanges}
 use Rattle.mesa_lease.specs.Book.{begun}
 use Rattle.mesa_model.specs.Warehouse.{max_tables}
 use Rattle.mesa_catalog.specs.mesa_store_spec.Catalog.{Catalog}
@@ -13,7 +13,7 @@ use Rattle.mesa_catalog.specs.mesa_store_spec.Countable.{AreCounted}
 use Rattle.mesa_catalog.specs.mesa_store_spec.Ids.{HasOwnIds, named}
 use Rattle.mesa_catalog.specs.mesa_store_spec.Recordable.{AreRecordable}
 use Rattle.mesa_catalog.specs.mesa_store_spec.Sourced.{HasSources}
-use Rattle.mesa_catalog.specs.mesa_history_spec.Rows.{Rows}
+use Rattle.mesa_invariant_spec.specs.mesa_history_spec.Rows.{Rows}
 use Rattle.mesa_commit.specs.Holding.{Among}
 use Rattle.mesa_invariant_spec.specs.Books.{AreBooksOf}
 use Rattle.mesa_invariant_spec.specs.Invariant.{AllFound}

@@ -4,8 +4,8 @@ use Rattle.mesa_disk.specs.Image.{Image}
 use Rattle.mesa_disk.specs.Story.{Story}
 use Rattle.mesa_model.specs.declared.commands.Script.{Script}
 use Rattle.mesa_model.specs.declared.entries.Entry.{Entry}
-use Rattle.mesa_catalog.specs.mesa_history_spec.Found.{kept_of}
-use Rattle.mesa_catalog.specs.mesa_history_spec.Run.{State}
+use Rattle.mesa_invariant_spec.specs.mesa_history_spec.Found.{kept_of}
+use Rattle.mesa_invariant_spec.specs.mesa_history_spec.Run.{State}
 use Rattle.mesa_catalog.specs.mesa_store_spec.Sound.{StandsFor}
 use Rattle.mesa_invariant_spec.specs.Invariant.{run_at}
 

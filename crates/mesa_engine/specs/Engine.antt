@@ -5,8 +5,8 @@ use Rattle.mesa_io.specs.Causes.{Rose}
 use Rattle.mesa_disk.specs.Image.{Image}
 use Rattle.mesa_disk.specs.Story.{Story}
 use Rattle.mesa_model.specs.declared.commands.Script.{Script}
-use Rattle.mesa_catalog.specs.mesa_history_spec.Run.{State}
-use Rattle.mesa_catalog.specs.mesa_history_spec.Rows.{Rows}
+use Rattle.mesa_invariant_spec.specs.mesa_history_spec.Run.{State}
+use Rattle.mesa_invariant_spec.specs.mesa_history_spec.Rows.{Rows}
 use Rattle.mesa_invariant_spec.specs.Turns.{Faults, Shown}
 use Rattle.mesa_invariant_spec.specs.Undamaged.{NoneDamaged}
 use Rattle.mesa_engine.specs.declared.log.Log.{Log}

@@ -9,7 +9,7 @@ use Rattle.mesa_catalog.specs.mesa_store_spec.Fitting.{live_files}
 use Rattle.mesa_catalog.specs.mesa_store_spec.Contents.{kept_of}
 use Rattle.mesa_catalog.specs.mesa_store_spec.Sound.{wants}
 use Rattle.mesa_catalog.specs.mesa_store_spec.Ids.{named}
-use Rattle.mesa_catalog.specs.mesa_history_spec.Rows.{Rows}
+use Rattle.mesa_invariant_spec.specs.mesa_history_spec.Rows.{Rows}
 use Rattle.mesa_commit.specs.declared.trash.Dropped.{Dropped}
 use Rattle.mesa_commit.specs.declared.trash.Hold.{Hold}
 use Rattle.mesa_commit.specs.Filed.{PinFiles}

@@ -9,10 +9,10 @@ use Rattle.mesa_model.specs.Load.{load_batch}
 use Rattle.mesa_model.specs.Tables.{alter_table, make_table, make_view}
 use Rattle.mesa_model.specs.Pins.{make_pin, release_pin}
 use Rattle.mesa_model.specs.Versions.{expire_to}
-use Rattle.mesa_catalog.specs.mesa_history_spec.Machine.{claim_of, recast_claim_of}
-use Rattle.mesa_catalog.specs.mesa_history_spec.Run.{Stage, First, Looked, Run}
-use Rattle.mesa_catalog.specs.mesa_history_spec.Legal.{is_due_at}
-use Rattle.mesa_catalog.specs.mesa_history_spec.Turns.{IsDue}
+use Rattle.mesa_invariant_spec.specs.mesa_history_spec.Machine.{claim_of, recast_claim_of}
+use Rattle.mesa_invariant_spec.specs.mesa_history_spec.Run.{Stage, First, Looked, Run}
+use Rattle.mesa_invariant_spec.specs.mesa_history_spec.Legal.{is_due_at}
+use Rattle.mesa_invariant_spec.specs.mesa_history_spec.Turns.{IsDue}
 use Rattle.mesa_invariant_spec.specs.Books.{Books}
 use Rattle.mesa_invariant_spec.specs.Causes.{Cause, Unread, Damaged, Unwritten}
 use Rattle.mesa_invariant_spec.specs.Changes.{HasFailed, HasNoPlan}

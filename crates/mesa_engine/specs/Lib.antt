@@ -1,7 +1,7 @@
 pub use Rattle.mesa_binding.specs as mesa_binding
 pub use Rattle.mesa_catalog.specs as mesa_catalog
 pub use Rattle.mesa_commit.specs as mesa_commit
-pub use Rattle.mesa_catalog.specs.mesa_history_spec as mesa_history_spec
+pub use Rattle.mesa_invariant_spec.specs.mesa_history_spec as mesa_history_spec
 pub use Rattle.mesa_invariant_spec.specs as mesa_invariant_spec
 pub use Rattle.mesa_record.specs as mesa_record
 pub use Rattle.mesa_record.specs.mesa_record_fields as mesa_record_fields

@@ -3,8 +3,8 @@ use Rattle.std.specs.Prelude.{◌≡◌, ℕ, List, ◌++◌, true, false, not, 
 use Rattle.mesa_io.specs.Causes.{Rose}
 use Rattle.mesa_model.specs.declared.entries.Entry.{Entry}
 use Rattle.mesa_model.specs.declared.replies.Reply.TheVariants as reply
-use Rattle.mesa_catalog.specs.mesa_history_spec.Run.{Told}
-use Rattle.mesa_catalog.specs.mesa_history_spec.Output.{block}
+use Rattle.mesa_invariant_spec.specs.mesa_history_spec.Run.{Told}
+use Rattle.mesa_invariant_spec.specs.mesa_history_spec.Output.{block}
 use Rattle.mesa_print.specs.declared.printer.Printer.{Printer}
 use Rattle.mesa_script.specs.Replies.{head_line}
 use Rattle.mesa_script.specs.declared.rendered.Rendered.{Rendered}

@@ -7,7 +7,7 @@ use Rattle.mesa_lease.specs.Book.{Book}
 use Rattle.mesa_catalog.specs.mesa_store_spec.Countable.{AreCounted}
 use Rattle.mesa_catalog.specs.mesa_store_spec.Ids.{HasOwnIds, named}
 use Rattle.mesa_catalog.specs.mesa_store_spec.Recordable.{AreRecordable}
-use Rattle.mesa_catalog.specs.mesa_history_spec.Rows.{Rows}
+use Rattle.mesa_invariant_spec.specs.mesa_history_spec.Rows.{Rows}
 use Rattle.mesa_commit.specs.declared.trash.Dropped.{Dropped}
 use Rattle.mesa_commit.specs.declared.trash.Hold.{Hold}
 use Rattle.mesa_commit.specs.Filed.{AreGiven, Renames, waits_after}

@@ -6,10 +6,10 @@ use Rattle.mesa_disk.specs.Story.{Story}
 use Rattle.mesa_commit.specs.Images.{Has}
 use Rattle.mesa_model.specs.declared.commands.Script.{Script}
 use Rattle.mesa_model.specs.declared.entries.Entry.{Entry}
-use Rattle.mesa_catalog.specs.mesa_history_spec.Claims.{HasRanges}
-use Rattle.mesa_catalog.specs.mesa_history_spec.Law.{written_in}
-use Rattle.mesa_catalog.specs.mesa_history_spec.Run.{State, begins}
-use Rattle.mesa_catalog.specs.mesa_history_spec.Sources.{Written}
+use Rattle.mesa_invariant_spec.specs.mesa_history_spec.Claims.{HasRanges}
+use Rattle.mesa_invariant_spec.specs.mesa_history_spec.Law.{written_in}
+use Rattle.mesa_invariant_spec.specs.mesa_history_spec.Run.{State, begins}
+use Rattle.mesa_invariant_spec.specs.mesa_history_spec.Sources.{Written}
 use Rattle.mesa_catalog.specs.mesa_store_spec.Catalog.{Catalog}
 use Rattle.mesa_catalog.specs.mesa_store_spec.Held.{IsHeld}
 use Rattle.mesa_catalog.specs.mesa_store_spec.Shape.{IsCatalog}
@@ -18,7 +18,7 @@ use Rattle.mesa_catalog.specs.mesa_store_spec.Countable.{AreCounted as AreColumn
 use Rattle.mesa_catalog.specs.mesa_store_spec.Ids.{HasOwnIds, named}
 use Rattle.mesa_catalog.specs.mesa_store_spec.Recordable.{AreRecordable}
 use Rattle.mesa_catalog.specs.mesa_store_spec.Sourced.{HasSources}
-use Rattle.mesa_catalog.specs.mesa_history_spec.Rows.{Rows}
+use Rattle.mesa_invariant_spec.specs.mesa_history_spec.Rows.{Rows}
 use Rattle.mesa_commit.specs.Filed.{AreFresh, AreNamedOrWait, PinFiles}
 use Rattle.mesa_commit.specs.Holding.{AreFiled, ids_of}
 use Rattle.mesa_invariant_spec.specs.Sight.{schema_changes}

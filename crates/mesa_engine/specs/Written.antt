@@ -1,8 +1,8 @@
 -- What stands written of tables in a run.
 use Rattle.std.specs.Prelude.{ℕ, List}
-use Rattle.mesa_catalog.specs.mesa_history_spec.Law.{written_in}
-use Rattle.mesa_catalog.specs.mesa_history_spec.Run.{State, begins}
-use Rattle.mesa_catalog.specs.mesa_history_spec.Sources.{Written}
+use Rattle.mesa_invariant_spec.specs.mesa_history_spec.Law.{written_in}
+use Rattle.mesa_invariant_spec.specs.mesa_history_spec.Run.{State, begins}
+use Rattle.mesa_invariant_spec.specs.mesa_history_spec.Sources.{Written}
 use Rattle.mesa_engine.specs.Vault.{Origin}
 use Rattle.mesa_model.specs.declared.commands.Script.{Script}
 use Rattle.mesa_model.specs.declared.entries.Entry.{Entry}

@@ -2,9 +2,9 @@
 ghost use Rattle.std.specs.Prelude.{◌≡◌, ◌+◌, ◌<◌, ◌^◌, IfOk};
 ghost use Rattle.mesa_batch.specs.Glance.{tables_of};
 ghost use Rattle.mesa_catalog.specs.Lookups.{sight_of};
-ghost use Rattle.mesa_catalog.specs.mesa_history_spec.Refused.{some_refused};
-ghost use Rattle.mesa_catalog.specs.mesa_history_spec.Run.{begins};
-ghost use Rattle.mesa_catalog.specs.mesa_history_spec.Rows.{Rows, no_rows};
+ghost use Rattle.mesa_invariant_spec.specs.mesa_history_spec.Refused.{some_refused};
+ghost use Rattle.mesa_invariant_spec.specs.mesa_history_spec.Run.{begins};
+ghost use Rattle.mesa_invariant_spec.specs.mesa_history_spec.Rows.{Rows, no_rows};
 ghost use Rattle.mesa_invariant_spec.specs.Sight.{schema_changes, tables_seen};
 ghost use Rattle.mesa_invariant_spec.specs.Invariant.{run_at};
 

@@ -1,10 +1,10 @@
 // Turns that do nothing for their command.
 ghost use Rattle.std.specs.Prelude.{◌≡◌, ◌<◌, true, false, length};
 ghost use Rattle.mesa_engine.specs.Failing.{Comes, Fails};
-ghost use Rattle.mesa_catalog.specs.mesa_history_spec.Run.{Finished, Stage};
+ghost use Rattle.mesa_invariant_spec.specs.mesa_history_spec.Run.{Finished, Stage};
 ghost use Rattle.mesa_engine.specs.EngineState.{books_of};
 ghost use Rattle.mesa_engine.specs.Failure.{cause_in};
-ghost use Rattle.mesa_catalog.specs.mesa_history_spec.Rows.{Rows, no_rows};
+ghost use Rattle.mesa_invariant_spec.specs.mesa_history_spec.Rows.{Rows, no_rows};
 ghost use Rattle.mesa_invariant_spec.specs.Turns.{AnswersDisk, AnswersDraft, Takes};
 ghost use Rattle.mesa_invariant_spec.specs.Invariant.{run_at};
 

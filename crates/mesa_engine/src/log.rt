@@ -1,6 +1,6 @@
 // The history of a run, and what of it is printed.
 ghost use Rattle.std.specs.Prelude.{◌≡◌, ◌<◌, ◌≤◌, ◌||◌, ◌++◌, ◌∷◌, [], not, vec_len, vec_capacity, length};
-ghost use Rattle.mesa_catalog.specs.mesa_history_spec.Refused.{is_refusal as refuses};
+ghost use Rattle.mesa_invariant_spec.specs.mesa_history_spec.Refused.{is_refusal as refuses};
 ghost use Rattle.mesa_model.specs.Entry.{IsShort};
 ghost use Rattle.mesa_model.specs.Query.{Heading};
 ghost use Rattle.mesa_engine.specs.Failure.{cause_in};

@@ -1,9 +1,9 @@
 // What names a run.
 ghost use Rattle.std.specs.Prelude.{ℕ, List, Option, None, [], ◌≡◌, refl};
-ghost use Rattle.mesa_catalog.specs.mesa_history_spec.Run.{State, nothing_there};
+ghost use Rattle.mesa_invariant_spec.specs.mesa_history_spec.Run.{State, nothing_there};
 ghost use Rattle.mesa_model.specs.declared.commands.Script.{Script as AnyScript};
-ghost use Rattle.mesa_catalog.specs.mesa_history_spec.Bare.{bare_state};
-ghost use Rattle.mesa_catalog.specs.mesa_history_spec.Rows.{Rows, no_rows};
+ghost use Rattle.mesa_invariant_spec.specs.mesa_history_spec.Bare.{bare_state};
+ghost use Rattle.mesa_invariant_spec.specs.mesa_history_spec.Rows.{Rows, no_rows};
 ghost use Rattle.mesa_engine.specs.Vault.{Origin};
 
 use std::marker::Brand;

@@ -1,7 +1,7 @@
 -- The fold law at a script whose batches lie in three epochs, with three kinds of change, an expiry and a later table; and at one whose table is recast between two changes.
 use Rattle.std.proofs.Common.{◌≡◌, ℕ, List, [], ◌∷◌, refl}
 use Rattle.std.specs.Prelude.{codes, map, length, Result, Ok, Err, Option, Some, None, slice_get}
-use Rattle.mesa_history_spec.specs.mesa_schema.declared.rows.Row.{Row}
+use Rattle.mesa_history_spec.specs.mesa_columns.declared.rows.Row.{Row}
 use Rattle.mesa_history_spec.specs.mesa_model.declared.commands.Script.{Script}
 use Rattle.mesa_history_spec.specs.mesa_model.declared.entries.Entry.{Entry}
 use Rattle.mesa_history_spec.specs.mesa_model.Warehouse.{Table, Warehouse, content_at}

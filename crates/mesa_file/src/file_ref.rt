@@ -1,6 +1,5 @@
 use crate::FileId;
-use mesa_key::{Format, KeyBytes, Values};
-use mesa_list::TryCopy;
+use mesa_key::{Format, KeyBytes, TryCopy, Values};
 use std::alloc::AllocError;
 
 /// All that is kept of a file of rows, to find it again and to tell whether it is whole.

@@ -8,3 +8,4 @@ mod file_ref;
 pub use damage::{Damage, Seen};
 pub use file_id::FileId;
 pub use file_ref::FileRef;
+pub use mesa_key::{Items, TryCopy};

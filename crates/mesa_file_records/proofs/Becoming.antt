@@ -2,12 +2,12 @@
 use Rattle.std.proofs.Common.{◌≡◌, inl, inr, length, sym, ◌∙◌, arith, true}
 use Rattle.std.specs.Prelude.{is_ok}
 use Rattle.std.proofs.lemmas.List.{take_all}
-use Rattle.mesa_schema.specs.declared.changes.Change.{Change}
-use Rattle.mesa_schema.specs.declared.views.View.{View}
-use Rattle.mesa_schema.specs.Changes.{Lineage, epoch_of, rule_checked, with_change}
-use Rattle.mesa_schema.specs.Lineages.{IsLineage}
-use Rattle.mesa_schema.specs.Recasts.{Recast, recast_lineage}
-use Rattle.mesa_schema.specs.Views.{with_view}
+use Rattle.mesa_columns.specs.declared.changes.Change.{Change}
+use Rattle.mesa_columns.specs.declared.views.View.{View}
+use Rattle.mesa_pick_files.specs.mesa_schema.Changes.{Lineage, epoch_of, rule_checked, with_change}
+use Rattle.mesa_pick_files.specs.mesa_schema.Lineages.{IsLineage}
+use Rattle.mesa_pick_files.specs.mesa_schema.Recasts.{Recast, recast_lineage}
+use Rattle.mesa_pick_files.specs.mesa_schema.Views.{with_view}
 use Rattle.mesa_file_records.specs.Grown.{HasBecome, HasGrown, HasSameColumns}
 use Rattle.mesa_file_records.proofs.Growing.{epoch_was, grown_changed, grown_not, grown_viewed}
 

@@ -3,11 +3,11 @@ use Rattle.std.proofs.Common.{◌≡◌, ℕ, zero, suc, ◌+◌, ◌-◌, List,
 use Rattle.std.specs.Prelude.{option_map}
 use Rattle.std.specs.List.{AllByRecursion}
 use Rattle.std.proofs.lemmas.List.Concat.{flat_map-append}
-use Rattle.mesa_schema.specs.Changes.{Lineage, columns_of}
-use Rattle.mesa_schema.specs.Columns.{Columns}
-use Rattle.mesa_schema.specs.Recasts.{recast_columns, recast_lineage}
-use Rattle.mesa_schema.specs.Recasts.{Recast as Asked}
-use Rattle.mesa_schema.proofs.LineageRecasts.{columns_first}
+use Rattle.mesa_pick_files.specs.mesa_schema.Changes.{Lineage, columns_of}
+use Rattle.mesa_columns.specs.Columns.{Columns}
+use Rattle.mesa_pick_files.specs.mesa_schema.Recasts.{recast_columns, recast_lineage}
+use Rattle.mesa_pick_files.specs.mesa_schema.Recasts.{Recast as Asked}
+use Rattle.mesa_pick_files.proofs.mesa_schema.LineageRecasts.{columns_first}
 use Rattle.mesa_file.specs.declared.file_ref.FileRef.{FileRef}
 use Rattle.mesa_record.specs.declared.record.Files.{Files}
 use Rattle.mesa_record.specs.declared.checkpoint.CheckpointSingle.{CheckpointSingle}

@@ -5,17 +5,18 @@ use Rattle.std.specs.List.{AllByRecursion}
 use Rattle.std.proofs.lemmas.List.{length-take, take-append-le, take_all}
 use Rattle.std.proofs.lemmas.Option.{slice_get-get_or, slice_get_within}
 use Rattle.std.proofs.lemmas.Simd.{map-map}
-use Rattle.mesa_schema.specs.declared.changes.Change.{Change}
-use Rattle.mesa_schema.specs.declared.rows.Row.{Row}
-use Rattle.mesa_schema.specs.declared.views.View.{View}
-use Rattle.mesa_schema.specs.Changes.{Lineage, columns_after, columns_at, columns_of, epoch_of, lifted, lifted_once, rule_checked, with_change}
-use Rattle.mesa_schema.specs.Laws.{Outlives}
-use Rattle.mesa_schema.specs.Lineages.{IsLineage}
-use Rattle.mesa_schema.specs.Rows.{AreRowsOf, IsRowOf}
-use Rattle.mesa_schema.specs.Views.{view_columns, view_rows, with_view}
-use Rattle.mesa_schema.proofs.Lists.{all_map, all_so, map_is}
-use Rattle.mesa_schema.proofs.PresentRows.{columns_more, lifted_more, lifted_now, present_form}
-use Rattle.mesa_schema.proofs.ViewChanges.{views_outlive}
+use Rattle.mesa_columns.specs.declared.changes.Change.{Change}
+use Rattle.mesa_columns.specs.declared.rows.Row.{Row}
+use Rattle.mesa_columns.specs.declared.views.View.{View}
+use Rattle.mesa_columns.specs.Changes.{columns_after, lifted_once}
+use Rattle.mesa_pick_files.specs.mesa_schema.Changes.{Lineage, columns_at, columns_of, epoch_of, lifted, rule_checked, with_change}
+use Rattle.mesa_pick_files.specs.mesa_schema.Laws.{Outlives}
+use Rattle.mesa_pick_files.specs.mesa_schema.Lineages.{IsLineage}
+use Rattle.mesa_columns.specs.Rows.{AreRowsOf, IsRowOf}
+use Rattle.mesa_pick_files.specs.mesa_schema.Views.{view_columns, view_rows, with_view}
+use Rattle.mesa_columns.proofs.Lists.{all_map, all_so, map_is}
+use Rattle.mesa_pick_files.proofs.mesa_schema.PresentRows.{columns_more, lifted_more, lifted_now, present_form}
+use Rattle.mesa_pick_files.proofs.mesa_schema.ViewChanges.{views_outlive}
 use Rattle.mesa_file_records.specs.Grown.{HasGrown}
 
 -- ---- what was

@@ -1,8 +1,8 @@
 -- Where a recast has a table's ranges, each of them with rows was rewritten into a file.
 use Rattle.std.proofs.Common.{◌≡◌, inl, inr, ℕ, List, [], ◌∷◌, refl, ◌∙◌, subst, Option, Some, None}
-use Rattle.mesa_schema.specs.Columns.{Columns}
-use Rattle.mesa_schema.specs.Recasts.{Recast as Asked}
-use Rattle.mesa_schema.proofs.Lists.{all_so}
+use Rattle.mesa_columns.specs.Columns.{Columns}
+use Rattle.mesa_pick_files.specs.mesa_schema.Recasts.{Recast as Asked}
+use Rattle.mesa_columns.proofs.Lists.{all_so}
 use Rattle.mesa_pick_files.specs.mesa_delta.declared.input.Input.{Input}
 use Rattle.mesa_record.specs.declared.record.Files.{Files}
 use Rattle.mesa_engine.specs.mesa_store_spec.Catalog.{TableMeta}

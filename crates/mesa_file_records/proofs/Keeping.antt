@@ -13,11 +13,11 @@ use Rattle.mesa_pick_files.specs.mesa_key.declared.KeyType.TheVariants as kind
 use Rattle.mesa_pick_files.specs.mesa_key.declared.KeyValue.{KeyValue}
 use Rattle.mesa_pick_files.specs.mesa_key.declared.KeyValue.TheVariants as value
 use Rattle.mesa_pick_files.specs.mesa_key.Spelling.{IsKey, IsValue, key_of, key_spelling, value_spelling}
-use Rattle.mesa_schema.specs.declared.columns.KeyColumn.{KeyColumn}
-use Rattle.mesa_schema.specs.declared.rows.Row.{Row}
-use Rattle.mesa_schema.specs.Columns.{Columns, kinds_of}
-use Rattle.mesa_schema.specs.Schema.{is_schema, max_columns}
-use Rattle.mesa_schema.specs.Rows.{IsRowOf}
+use Rattle.mesa_columns.specs.declared.columns.KeyColumn.{KeyColumn}
+use Rattle.mesa_columns.specs.declared.rows.Row.{Row}
+use Rattle.mesa_columns.specs.Columns.{Columns, kinds_of}
+use Rattle.mesa_columns.specs.Schema.{is_schema, max_columns}
+use Rattle.mesa_columns.specs.Rows.{IsRowOf}
 use Rattle.mesa_file.specs.declared.file_ref.FileRef.{FileRef}
 use Rattle.mesa_engine.specs.mesa_record_fields.Rules.{is_count_of_columns, is_file_ref, is_key_length}
 use Rattle.mesa_pick_files.specs.mesa_block.Layout.{Layout}

@@ -14,14 +14,14 @@ use Rattle.std.specs.Cmp.Lexicographic.{nat_list_cmp_total, texts_ties}
 use Rattle.std.specs.FinMap.Entries.{by_order}
 use Rattle.mesa_list.specs.Bytes.{same_bytes}
 use Rattle.mesa_list.specs.Checks.{◌>>=◌, ◌>>◌, refused_as}
-use Rattle.mesa_value.specs.declared.Agg.{Agg}
+use Rattle.mesa_pick_files.specs.mesa_value.declared.Agg.{Agg}
 use Rattle.mesa_pick_files.specs.mesa_key.Order.{byte_cmp}
-use Rattle.mesa_schema.specs.declared.rows.Row.{Row}
-use Rattle.mesa_schema.specs.Columns.{aggs_of, place_of}
-use Rattle.mesa_schema.specs.Folded.{all_combined, folded, folded_at, keys_of, values_at, with_key}
-use Rattle.mesa_schema.proofs.Keys.{Keys, has}
-use Rattle.mesa_schema.proofs.Maps.{is_some_position}
-use Rattle.mesa_schema.proofs.Folds.{has-keys_of, keys, values_at_none}
+use Rattle.mesa_columns.specs.declared.rows.Row.{Row}
+use Rattle.mesa_columns.specs.Columns.{aggs_of, place_of}
+use Rattle.mesa_open_files.specs.mesa_fold.Folded.{all_combined, folded, folded_at, keys_of, values_at, with_key}
+use Rattle.mesa_pick_files.proofs.mesa_fold.Keys.{Keys, has}
+use Rattle.mesa_columns.proofs.Maps.{is_some_position}
+use Rattle.mesa_pick_files.proofs.mesa_fold.Folds.{has-keys_of, keys, values_at_none}
 use Rattle.mesa_batch.specs.declared.words.RowWords.{RowWords}
 use Rattle.mesa_batch.specs.declared.words.BatchError.{BatchError}
 use Rattle.mesa_batch.specs.declared.words.BatchError.TheVariants.{NoTable, BadRow}

@@ -1,7 +1,7 @@
 -- Things of a list, and things of which each has its id.
 use Rattle.std.proofs.Common.{◌≡◌, ◌⊎◌, inl, inr, ℕ, ◌+◌, List, [], ◌∷◌, refl, sym, subst, Some}
 use Rattle.std.specs.List.{AllByRecursion}
-use Rattle.mesa_schema.proofs.Lists.{all_so}
+use Rattle.mesa_columns.proofs.Lists.{all_so}
 use Rattle.mesa_engine.specs.mesa_store_spec.Rewritten.{Rewritten}
 use Rattle.mesa_file_records.specs.Adopted.{ref_under}
 use Rattle.mesa_file_records.specs.Recasts.{Took, rewritten_under}

@@ -3,7 +3,7 @@ use Rattle.std.proofs.Common.{◌≡◌, ℕ, zero, suc, ◌+◌, ◌<◌, List,
 use Rattle.std.specs.Prelude.{Bool, true, ◌&&◌, slice_get, slice_index_or, ⊤}
 use Rattle.std.specs.List.{AllByRecursion, list_all}
 use Rattle.std.proofs.lemmas.List.{length-append}
-use Rattle.mesa_schema.specs.declared.rows.Row.{Row}
+use Rattle.mesa_columns.specs.declared.rows.Row.{Row}
 use Rattle.mesa_engine.specs.mesa_store_spec.Contents.{Rows}
 use Rattle.mesa_open_files.specs.declared.made.MadeFile.{MadeFile}
 use Rattle.mesa_file_records.specs.Adopted.{told_under}

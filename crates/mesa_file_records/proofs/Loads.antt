@@ -4,10 +4,10 @@ use Rattle.std.specs.Prelude.{Bool, true, false, ◌&&◌, ◌==◌, cond, flat_
 use Rattle.std.specs.List.{AllByRecursion, list_all}
 use Rattle.std.proofs.lemmas.Bool.Decides.{nat_tests}
 use Rattle.std.proofs.lemmas.List.{length-map, map-append}
-use Rattle.mesa_schema.specs.declared.rows.Row.{Row}
-use Rattle.mesa_schema.specs.Columns.{Columns, aggs_of}
-use Rattle.mesa_schema.specs.Changes.{Lineage, columns_of, epoch_of}
-use Rattle.mesa_schema.specs.Folded.{folded}
+use Rattle.mesa_columns.specs.declared.rows.Row.{Row}
+use Rattle.mesa_columns.specs.Columns.{Columns, aggs_of}
+use Rattle.mesa_pick_files.specs.mesa_schema.Changes.{Lineage, columns_of, epoch_of}
+use Rattle.mesa_open_files.specs.mesa_fold.Folded.{folded}
 use Rattle.mesa_batch.specs.Batch.{Placed, rows_for}
 use Rattle.mesa_batch.specs.Totals.{abs_totals, over_bound, sum_places, sums_in}
 use Rattle.mesa_engine.specs.mesa_commit.Turn.{told_files}

@@ -3,17 +3,17 @@ use Rattle.std.proofs.Common.{◌≡◌, ℕ, zero, suc, ◌+◌, ◌≤◌, Lis
 use Rattle.std.specs.Prelude.{Bool, true, ◌&&◌, slice_get}
 use Rattle.std.specs.List.{AllByRecursion, list_all}
 use Rattle.std.proofs.lemmas.List.{length-map}
-use Rattle.mesa_schema.specs.declared.rows.Row.{Row}
-use Rattle.mesa_schema.specs.declared.views.View.{View}
-use Rattle.mesa_schema.specs.Columns.{Columns}
-use Rattle.mesa_schema.specs.Changes.{Lineage, columns_at, columns_of, epoch_of, lifted}
-use Rattle.mesa_schema.specs.Lineages.{IsLineage, is_view_of}
-use Rattle.mesa_schema.specs.Schema.{is_schema}
-use Rattle.mesa_schema.specs.Rows.{AreRowsOf, IsRowOf}
-use Rattle.mesa_schema.specs.Views.{view_columns, view_rows}
-use Rattle.mesa_schema.proofs.LineageRules.{present_schema}
-use Rattle.mesa_schema.proofs.Lists.{all_so}
-use Rattle.mesa_schema.proofs.ViewSchemas.{view_is_schema}
+use Rattle.mesa_columns.specs.declared.rows.Row.{Row}
+use Rattle.mesa_columns.specs.declared.views.View.{View}
+use Rattle.mesa_columns.specs.Columns.{Columns}
+use Rattle.mesa_pick_files.specs.mesa_schema.Changes.{Lineage, columns_at, columns_of, epoch_of, lifted}
+use Rattle.mesa_pick_files.specs.mesa_schema.Lineages.{IsLineage, is_view_of}
+use Rattle.mesa_columns.specs.Schema.{is_schema}
+use Rattle.mesa_columns.specs.Rows.{AreRowsOf, IsRowOf}
+use Rattle.mesa_pick_files.specs.mesa_schema.Views.{view_columns, view_rows}
+use Rattle.mesa_pick_files.proofs.mesa_schema.LineageRules.{present_schema}
+use Rattle.mesa_columns.proofs.Lists.{all_so}
+use Rattle.mesa_pick_files.proofs.mesa_schema.ViewSchemas.{view_is_schema}
 use Rattle.mesa_pick_files.specs.mesa_block.Rows.{IsRow}
 use Rattle.mesa_pick_files.specs.mesa_delta.File.{file_bytes}
 use Rattle.mesa_pick_files.specs.mesa_delta.Summary.{file_layout, new_layout}

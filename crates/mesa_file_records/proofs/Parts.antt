@@ -4,14 +4,14 @@ use Rattle.std.specs.Prelude.{ℤ, true, ◌&&◌, slice_get, ⊤}
 use Rattle.std.specs.List.{AllByRecursion, list_all}
 use Rattle.std.proofs.lemmas.Bool.Decides.{nat_tests}
 use Rattle.std.proofs.lemmas.List.{length-map}
-use Rattle.mesa_value.specs.declared.Agg.{Agg}
+use Rattle.mesa_pick_files.specs.mesa_value.declared.Agg.{Agg}
 use Rattle.mesa_pick_files.specs.mesa_key.declared.Format.TheVariants as format
-use Rattle.mesa_schema.specs.declared.rows.Row.{Row}
-use Rattle.mesa_schema.specs.declared.views.View.{View}
-use Rattle.mesa_schema.specs.Columns.{Columns, aggs_of}
-use Rattle.mesa_schema.specs.Changes.{Lineage, columns_of, epoch_of}
-use Rattle.mesa_schema.specs.Folded.{combined_from, folded, row_combined}
-use Rattle.mesa_schema.specs.Views.{view_columns, view_rows}
+use Rattle.mesa_columns.specs.declared.rows.Row.{Row}
+use Rattle.mesa_columns.specs.declared.views.View.{View}
+use Rattle.mesa_columns.specs.Columns.{Columns, aggs_of}
+use Rattle.mesa_pick_files.specs.mesa_schema.Changes.{Lineage, columns_of, epoch_of}
+use Rattle.mesa_open_files.specs.mesa_fold.Folded.{combined_from, folded, row_combined}
+use Rattle.mesa_pick_files.specs.mesa_schema.Views.{view_columns, view_rows}
 use Rattle.mesa_batch.specs.Totals.{abs_totals}
 use Rattle.mesa_file.specs.declared.file_ref.FileRef.{FileRef}
 use Rattle.mesa_record.specs.declared.record.ViewRef.{ViewRef}

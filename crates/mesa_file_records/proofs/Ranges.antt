@@ -2,12 +2,13 @@
 use Rattle.std.proofs.Common.{◌≡◌, ℕ, ◌-◌, ◌≤◌, List, [], ◌∷◌, ◌++◌, length, map, take, drop, refl, sym, ◌∙◌, ap, arith, length-drop}
 use Rattle.std.specs.List.{AllByRecursion}
 use Rattle.std.proofs.lemmas.List.{drop-append-le, take-append-drop, take-append-le}
-use Rattle.mesa_schema.specs.declared.rows.Row.{Row}
-use Rattle.mesa_schema.specs.declared.changes.Change.{Change}
-use Rattle.mesa_schema.specs.Columns.{aggs_of}
-use Rattle.mesa_schema.specs.Changes.{Lineage, columns_after, columns_at, epoch_of, lifted, lifted_by}
-use Rattle.mesa_schema.specs.Folded.{folded}
-use Rattle.mesa_schema.proofs.Lists.{map_is}
+use Rattle.mesa_columns.specs.declared.rows.Row.{Row}
+use Rattle.mesa_columns.specs.declared.changes.Change.{Change}
+use Rattle.mesa_columns.specs.Columns.{aggs_of}
+use Rattle.mesa_columns.specs.Changes.{columns_after, lifted_by}
+use Rattle.mesa_pick_files.specs.mesa_schema.Changes.{Lineage, columns_at, epoch_of, lifted}
+use Rattle.mesa_open_files.specs.mesa_fold.Folded.{folded}
+use Rattle.mesa_columns.proofs.Lists.{map_is}
 use Rattle.mesa_engine.specs.mesa_history_spec.Sources.{Source, range_rows, source_at}
 use Rattle.mesa_file_records.specs.Grown.{HasGrown}
 

@@ -2,13 +2,13 @@
 use Rattle.std.proofs.Common.{◌≡◌, ℕ, ◌+◌, ◌<◌, ◌≤◌, ◌^◌, List, [], ◌∷◌, ◌++◌, map, length, true, sym, ◌∙◌, ap, subst, arith, Option, Some, None, Ok}
 use Rattle.std.specs.Prelude.{IfSome, option_map}
 use Rattle.std.specs.List.{AllByRecursion}
-use Rattle.mesa_schema.specs.Changes.{columns_of, epoch_of}
-use Rattle.mesa_schema.specs.Columns.{Columns}
-use Rattle.mesa_schema.specs.Recasts.{recast_checked, recast_columns, recast_rows}
-use Rattle.mesa_schema.specs.Recasts.{Recast as Asked}
-use Rattle.mesa_schema.specs.Schema.{is_schema}
-use Rattle.mesa_schema.proofs.LineageRecasts.{recast_allowed, recast_schema}
-use Rattle.mesa_schema.proofs.LineageRules.{present_schema}
+use Rattle.mesa_pick_files.specs.mesa_schema.Changes.{columns_of, epoch_of}
+use Rattle.mesa_columns.specs.Columns.{Columns}
+use Rattle.mesa_pick_files.specs.mesa_schema.Recasts.{recast_checked, recast_columns, recast_rows}
+use Rattle.mesa_pick_files.specs.mesa_schema.Recasts.{Recast as Asked}
+use Rattle.mesa_columns.specs.Schema.{is_schema}
+use Rattle.mesa_pick_files.proofs.mesa_schema.LineageRecasts.{recast_allowed, recast_schema}
+use Rattle.mesa_pick_files.proofs.mesa_schema.LineageRules.{present_schema}
 use Rattle.mesa_span.specs.Ranges.{start_behind}
 use Rattle.mesa_record.specs.declared.checkpoint.CheckpointSingle.{CheckpointSingle}
 use Rattle.mesa_record.specs.declared.recasting.RecastBase.{RecastBase}
@@ -32,8 +32,8 @@ use Rattle.mesa_file_records.proofs.Brought.{brought_own, rewritten_joined, take
 use Rattle.mesa_file_records.proofs.Covering.{AreThese, base_below, base_covered, base_is, singles_are}
 use Rattle.mesa_file_records.proofs.Rewriting.{same_columns, range_rewritten}
 use Rattle.std.proofs.lemmas.List.{length-map}
-use Rattle.mesa_schema.specs.declared.rows.Row.{Row}
-use Rattle.mesa_schema.proofs.Lists.{all_so}
+use Rattle.mesa_columns.specs.declared.rows.Row.{Row}
+use Rattle.mesa_columns.proofs.Lists.{all_so}
 use Rattle.mesa_engine.specs.mesa_commit.Turn.{made_ids, told_files}
 use Rattle.mesa_pick_files.specs.mesa_delta.File.{file_bytes}
 use Rattle.mesa_pick_files.specs.mesa_delta.Summary.{file_layout}

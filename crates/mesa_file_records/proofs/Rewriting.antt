@@ -1,9 +1,9 @@
 -- Ranges of a recast are rewritten from what was written in them.
 use Rattle.std.proofs.Common.{◌≡◌, ℕ, List, sym, ◌∙◌, ap, subst, Option, Some}
-use Rattle.mesa_schema.specs.Changes.{Lineage, columns_of, epoch_of}
-use Rattle.mesa_schema.specs.Columns.{Columns}
-use Rattle.mesa_schema.specs.Recasts.{recast_columns, recast_rows}
-use Rattle.mesa_schema.specs.Recasts.{Recast as Asked}
+use Rattle.mesa_pick_files.specs.mesa_schema.Changes.{Lineage, columns_of, epoch_of}
+use Rattle.mesa_columns.specs.Columns.{Columns}
+use Rattle.mesa_pick_files.specs.mesa_schema.Recasts.{recast_columns, recast_rows}
+use Rattle.mesa_pick_files.specs.mesa_schema.Recasts.{Recast as Asked}
 use Rattle.mesa_file.specs.declared.file_ref.FileRef.{FileRef}
 use Rattle.mesa_engine.specs.mesa_store_spec.Contents.{Rows}
 use Rattle.mesa_engine.specs.mesa_store_spec.Sound.{IsTold}

@@ -12,19 +12,19 @@ use Rattle.mesa_pick_files.specs.mesa_key.declared.KeyType.TheVariants as kind
 use Rattle.mesa_pick_files.specs.mesa_key.declared.KeyValue.{KeyValue}
 use Rattle.mesa_pick_files.specs.mesa_key.declared.KeyValue.TheVariants as value
 use Rattle.mesa_pick_files.specs.mesa_key.Spelling.{IsKey, IsValue, key_of, key_spelling, value_spelling}
-use Rattle.mesa_schema.specs.declared.columns.KeyColumn.{KeyColumn}
-use Rattle.mesa_schema.specs.declared.rows.Row.{Row}
-use Rattle.mesa_schema.specs.declared.views.View.{View}
-use Rattle.mesa_schema.specs.Changes.{Lineage, columns_of, epoch_of}
-use Rattle.mesa_schema.specs.Folded.{folded}
-use Rattle.mesa_schema.specs.Columns.{Columns, aggs_of, kinds_of}
-use Rattle.mesa_schema.specs.Schema.{is_schema}
-use Rattle.mesa_schema.specs.Lineages.{IsLineage, is_view_of}
-use Rattle.mesa_schema.specs.Views.{view_columns, view_rows}
-use Rattle.mesa_schema.specs.Rows.{IsRowOf}
-use Rattle.mesa_schema.proofs.LineageRules.{present_schema}
-use Rattle.mesa_schema.proofs.Passing.{passed_if}
-use Rattle.mesa_schema.proofs.ViewSchemas.{view_is_schema}
+use Rattle.mesa_columns.specs.declared.columns.KeyColumn.{KeyColumn}
+use Rattle.mesa_columns.specs.declared.rows.Row.{Row}
+use Rattle.mesa_columns.specs.declared.views.View.{View}
+use Rattle.mesa_pick_files.specs.mesa_schema.Changes.{Lineage, columns_of, epoch_of}
+use Rattle.mesa_open_files.specs.mesa_fold.Folded.{folded}
+use Rattle.mesa_columns.specs.Columns.{Columns, aggs_of, kinds_of}
+use Rattle.mesa_columns.specs.Schema.{is_schema}
+use Rattle.mesa_pick_files.specs.mesa_schema.Lineages.{IsLineage, is_view_of}
+use Rattle.mesa_pick_files.specs.mesa_schema.Views.{view_columns, view_rows}
+use Rattle.mesa_columns.specs.Rows.{IsRowOf}
+use Rattle.mesa_pick_files.proofs.mesa_schema.LineageRules.{present_schema}
+use Rattle.mesa_pick_files.proofs.mesa_schema.Passing.{passed_if}
+use Rattle.mesa_pick_files.proofs.mesa_schema.ViewSchemas.{view_is_schema}
 use Rattle.mesa_batch.proofs.FewTotals.{few_sums, few_values}
 use Rattle.mesa_batch.specs.Batch.{Placed, rows_for}
 use Rattle.mesa_batch.specs.Totals.{abs_totals, sums_in}

@@ -3,9 +3,9 @@ use Rattle.std.proofs.Common.{◌≡◌, ℕ, ◌+◌, ◌<◌, ◌≤◌, ◌^�
 use Rattle.std.specs.Prelude.{IfSome, option_map}
 use Rattle.std.specs.List.{AllByRecursion}
 use Rattle.std.proofs.lemmas.List.{length-map, map-append}
-use Rattle.mesa_schema.specs.Changes.{columns_of}
-use Rattle.mesa_schema.specs.Recasts.{recast_checked}
-use Rattle.mesa_schema.proofs.LineageRecasts.{recast_allowed}
+use Rattle.mesa_pick_files.specs.mesa_schema.Changes.{columns_of}
+use Rattle.mesa_pick_files.specs.mesa_schema.Recasts.{recast_checked}
+use Rattle.mesa_pick_files.proofs.mesa_schema.LineageRecasts.{recast_allowed}
 use Rattle.mesa_disk.specs.Files.{files_of}
 use Rattle.mesa_disk.specs.declared.moving.Adoption.{Adoption}
 use Rattle.mesa_engine.specs.mesa_commit.Holding.{Among}

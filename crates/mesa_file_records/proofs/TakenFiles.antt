@@ -2,11 +2,11 @@
 use Rattle.std.proofs.Common.{◌≡◌, inl, inr, ℕ, ◌+◌, List, [], ◌∷◌, ◌++◌, true, sym, subst, Option, Some, None}
 use Rattle.std.specs.Prelude.{⊤}
 use Rattle.std.specs.List.{AllByRecursion}
-use Rattle.mesa_schema.specs.declared.rows.Row.{Row}
-use Rattle.mesa_schema.specs.Columns.{Columns}
-use Rattle.mesa_schema.specs.Recasts.{recast_columns, recast_rows}
-use Rattle.mesa_schema.specs.Recasts.{Recast as Asked}
-use Rattle.mesa_schema.specs.Schema.{is_schema}
+use Rattle.mesa_columns.specs.declared.rows.Row.{Row}
+use Rattle.mesa_columns.specs.Columns.{Columns}
+use Rattle.mesa_pick_files.specs.mesa_schema.Recasts.{recast_columns, recast_rows}
+use Rattle.mesa_pick_files.specs.mesa_schema.Recasts.{Recast as Asked}
+use Rattle.mesa_columns.specs.Schema.{is_schema}
 use Rattle.mesa_pick_files.specs.mesa_delta.Summary.{file_layout}
 use Rattle.mesa_pick_files.specs.mesa_delta.declared.input.Input.{Input}
 use Rattle.mesa_engine.specs.mesa_record_fields.Rules.{is_file_ref}

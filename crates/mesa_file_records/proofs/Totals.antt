@@ -4,7 +4,7 @@ use Rattle.std.specs.Prelude.{Bool, true, false, ◌||◌, is_some, nat_le, posi
 use Rattle.std.specs.List.{AllByRecursion, list_any}
 use Rattle.std.proofs.lemmas.Bool.Decides.{nat_tests}
 use Rattle.mesa_list.specs.Checks.{◌>>◌}
-use Rattle.mesa_schema.proofs.Maps.{is_some_position, position_map}
+use Rattle.mesa_columns.proofs.Maps.{is_some_position, position_map}
 use Rattle.mesa_batch.specs.Totals.{abs_total, capped, over_bound, sum_bound, totals_with}
 use Rattle.mesa_model.specs.declared.replies.Refusal.{Refusal}
 

@@ -1,8 +1,8 @@
 -- Finished files under the ids under which they are adopted.
 use Rattle.std.specs.Prelude.{◌≡◌, ℕ, ◌+◌, ◌<◌, List, [], ◌∷◌, ◌++◌, map, flat_map, length, Option, None, Some}
 use Rattle.std.specs.List.{AllByRecursion}
-use Rattle.mesa_schema.specs.Columns.{aggs_of}
-use Rattle.mesa_schema.specs.Changes.{columns_of, epoch_of}
+use Rattle.mesa_columns.specs.Columns.{aggs_of}
+use Rattle.mesa_pick_files.specs.mesa_schema.Changes.{columns_of, epoch_of}
 use Rattle.mesa_batch.specs.Totals.{sums_in}
 use Rattle.mesa_file.specs.declared.file_ref.FileRef.{FileRef}
 use Rattle.mesa_record.specs.declared.record.ViewRef.{ViewRef}

@@ -1,7 +1,7 @@
 -- The bound of the sums.
 use Rattle.std.specs.Prelude.{◌≡◌, ℕ, List, [], ◌∷◌, Option, Some, None, Result, Ok, Err, ⊤}
 use Rattle.mesa_list.specs.Checks.{◌>>◌}
-use Rattle.mesa_schema.specs.Changes.{columns_of}
+use Rattle.mesa_pick_files.specs.mesa_schema.Changes.{columns_of}
 use Rattle.mesa_batch.specs.Totals.{over_bound, sum_name}
 use Rattle.mesa_model.specs.declared.replies.Refusal.{Refusal}
 use Rattle.mesa_model.specs.declared.replies.Refusal.TheVariants as no

@@ -1,11 +1,11 @@
 -- Finished merges of tasks.
 use Rattle.std.specs.Prelude.{◌≡◌, ℕ, ◌≤◌, List, [], ◌∷◌, Option, ⊤}
 use Rattle.std.specs.List.{AllByRecursion}
-use Rattle.mesa_schema.specs.declared.rows.Row.{Row}
-use Rattle.mesa_schema.specs.declared.views.View.{View}
-use Rattle.mesa_schema.specs.Changes.{Lineage, columns_of}
-use Rattle.mesa_schema.specs.Columns.{Columns}
-use Rattle.mesa_schema.specs.Views.{view_columns, view_rows}
+use Rattle.mesa_columns.specs.declared.rows.Row.{Row}
+use Rattle.mesa_columns.specs.declared.views.View.{View}
+use Rattle.mesa_pick_files.specs.mesa_schema.Changes.{Lineage, columns_of}
+use Rattle.mesa_columns.specs.Columns.{Columns}
+use Rattle.mesa_pick_files.specs.mesa_schema.Views.{view_columns, view_rows}
 use Rattle.mesa_engine.specs.mesa_history_spec.Sources.{Source, Written, range_rows, sources_from}
 use Rattle.mesa_engine.specs.mesa_store_spec.Moves.{first_of, last_of}
 use Rattle.mesa_open_files.specs.Inputs.{IsMergeOf}

@@ -1,13 +1,13 @@
 -- What stays of a table's columns and views while they are changed.
 use Rattle.std.specs.Prelude.{◌≡◌, ◌⊎◌, ◌<◌, ℕ, List, length, map, take, IsTrue, is_ok, Some, slice_get}
-use Rattle.mesa_schema.specs.declared.changes.Change.{Change}
-use Rattle.mesa_schema.specs.declared.rows.Row.{Row}
-use Rattle.mesa_schema.specs.declared.views.View.{View}
-use Rattle.mesa_schema.specs.Changes.{Lineage, columns_of, epoch_of, lifted, rule_checked, with_change}
-use Rattle.mesa_schema.specs.Lineages.{IsLineage}
-use Rattle.mesa_schema.specs.Recasts.{Recast, recast_lineage}
-use Rattle.mesa_schema.specs.Rows.{AreRowsOf}
-use Rattle.mesa_schema.specs.Views.{view_columns, view_rows, with_view}
+use Rattle.mesa_columns.specs.declared.changes.Change.{Change}
+use Rattle.mesa_columns.specs.declared.rows.Row.{Row}
+use Rattle.mesa_columns.specs.declared.views.View.{View}
+use Rattle.mesa_pick_files.specs.mesa_schema.Changes.{Lineage, columns_of, epoch_of, lifted, rule_checked, with_change}
+use Rattle.mesa_pick_files.specs.mesa_schema.Lineages.{IsLineage}
+use Rattle.mesa_pick_files.specs.mesa_schema.Recasts.{Recast, recast_lineage}
+use Rattle.mesa_columns.specs.Rows.{AreRowsOf}
+use Rattle.mesa_pick_files.specs.mesa_schema.Views.{view_columns, view_rows, with_view}
 
 -- The view of a number is there still: it has the columns that it had, and lifted rows are grouped to what the rows were grouped to.
 pub record HasOutlived (was now : Lineage) (number : ℕ) (v : View) : Type 0 where

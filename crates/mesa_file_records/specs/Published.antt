@@ -1,9 +1,9 @@
 -- What is told of a load's record.
 use Rattle.std.specs.Prelude.{◌≡◌, ℕ, ◌-◌, ◌<◌, List, [], ◌∷◌, map, flat_map, length, true, nat_lt, if◌then◌else◌, Option, None, Some, slice_index_or, Ok, ⊤}
-use Rattle.mesa_schema.specs.declared.rows.Row.{Row}
-use Rattle.mesa_schema.specs.declared.views.View.{View}
-use Rattle.mesa_schema.specs.Changes.{columns_of}
-use Rattle.mesa_schema.specs.Views.{view_rows}
+use Rattle.mesa_columns.specs.declared.rows.Row.{Row}
+use Rattle.mesa_columns.specs.declared.views.View.{View}
+use Rattle.mesa_pick_files.specs.mesa_schema.Changes.{columns_of}
+use Rattle.mesa_pick_files.specs.mesa_schema.Views.{view_rows}
 use Rattle.mesa_batch.specs.declared.words.RowWords.{RowWords}
 use Rattle.mesa_batch.specs.Batch.{Placed}
 use Rattle.mesa_disk.specs.Files.{HasDistinctIds, files_of}

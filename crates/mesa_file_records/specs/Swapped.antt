@@ -1,7 +1,7 @@
 -- What is told of a swap's record.
 use Rattle.std.specs.Prelude.{◌≡◌, ℕ, ◌<◌, List, true, Option, None, Some}
-use Rattle.mesa_schema.specs.declared.rows.Row.{Row}
-use Rattle.mesa_schema.specs.Changes.{Lineage}
+use Rattle.mesa_columns.specs.declared.rows.Row.{Row}
+use Rattle.mesa_pick_files.specs.mesa_schema.Changes.{Lineage}
 use Rattle.mesa_disk.specs.Files.{HasDistinctIds, files_of}
 use Rattle.mesa_engine.specs.mesa_commit.Turn.{made_ids, told_files}
 use Rattle.mesa_record.specs.Rules.{keeps_rules}

@@ -1,7 +1,7 @@
 // The bound of the sums.
 ghost use Rattle.std.specs.Prelude.{◌≡◌, ◌<◌, length, Ok, IfErr, OnOk};
-ghost use Rattle.mesa_schema.specs.Changes.{columns_of};
-ghost use Rattle.mesa_schema.specs.Columns.{aggs_of};
+ghost use Rattle.mesa_pick_files.specs.mesa_schema.Changes.{columns_of};
+ghost use Rattle.mesa_columns.specs.Columns.{aggs_of};
 ghost use Rattle.mesa_batch.specs.Totals.{sums_in};
 ghost use Rattle.mesa_engine.specs.mesa_store_spec.Catalog.{meta_at};
 ghost use Rattle.mesa_engine.specs.mesa_store_spec.Shape.{IsCatalog};
@@ -11,11 +11,11 @@ ghost use Rattle.mesa_file_records.specs.Bounds.{IsDue, parts_checked, totals_ch
 use crate::Unpublished;
 use mesa_batch::{fits, sum_column};
 use mesa_catalog::Catalog;
+use mesa_columns::Totals;
 use mesa_disk::Made;
 use mesa_list::TryCopy;
 use mesa_model::Refusal;
 use mesa_open_files::PreparedPart;
-use mesa_columns::Totals;
 
 // Refuses a batch with which a sum column would pass its bound: the first, by the tables' numbers.
 pub(crate) fn check_bounds<M: Made>(

@@ -9,7 +9,7 @@ ghost use Rattle.mesa_engine.specs.mesa_store_spec.Ids.{named};
 ghost use Rattle.mesa_engine.specs.mesa_store_spec.Recordable.{AreRecordable};
 ghost use Rattle.mesa_engine.specs.EngineState.{most_files, next_id};
 ghost use Rattle.mesa_file_records.specs.Adopted.{ref_under, told_under};
-ghost use Rattle.mesa_schema.specs.Recasts.{recast_checked};
+ghost use Rattle.mesa_pick_files.specs.mesa_schema.Recasts.{recast_checked};
 ghost use Rattle.mesa_catalog_table.specs.Meaning.{AreLoaded, ending_of};
 ghost use Rattle.mesa_open_files.specs.Recasts.{IsRecastTask, IsRecasted, recast_in, recast_table};
 ghost use Rattle.mesa_engine.specs.mesa_commit.Holding.{Among};
@@ -18,13 +18,13 @@ ghost use Rattle.mesa_file_records.specs.Recasts.{AreSinglesRewritten, AreTaken,
 
 use crate::{Adopting, Swapped};
 use mesa_catalog_table::{Base, Loaded};
+use mesa_columns::Totals;
 use mesa_disk::{FileReader, Made};
 use mesa_engine::Metadata;
 use mesa_file::FileId;
 use mesa_list::{Items, TryCopy};
 use mesa_open_files::{MadeFile, Recast, Recasted, RecastedRange};
 use mesa_record::{CheckpointSingle, Files, RecastBase, Recasting, Record};
-use mesa_columns::Totals;
 use std::alloc::{AllocError, Global};
 use std::collections::VecDeque;
 

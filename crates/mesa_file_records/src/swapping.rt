@@ -1,6 +1,6 @@
 // The record of a work.
 ghost use Rattle.std.specs.Prelude.{◌≡◌, ◌+◌, ◌<◌, ◌≤◌, ◌^◌, ◌++◌, ℕ, Some, IfOk, OnOk, length};
-ghost use Rattle.mesa_schema.specs.Changes.{Lineage};
+ghost use Rattle.mesa_pick_files.specs.mesa_schema.Changes.{Lineage};
 ghost use Rattle.mesa_disk.specs.Files.{files_of};
 ghost use Rattle.mesa_span.specs.Ranges.{base_before};
 ghost use Rattle.mesa_span.specs.Work.{next_work};

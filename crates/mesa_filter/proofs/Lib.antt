@@ -1,3 +1,4 @@
+pub use Rattle.mesa_fold.proofs as mesa_fold
 pub use Rattle.mesa_list.proofs as mesa_list
 pub mod PlacesAmong
 pub mod Forms

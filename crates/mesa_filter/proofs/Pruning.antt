@@ -7,15 +7,15 @@ use Rattle.std.specs.declared.cmp.Ordering.TheVariants.{Less, Equal, Greater}
 use Rattle.std.specs.Bool.{OnFalse}
 use Rattle.std.proofs.lemmas.Bool.{and_from, and_parts, cases_lt, eqb-true}
 use Rattle.std.proofs.lemmas.List.{take_all}
-use Rattle.mesa_schema.specs.mesa_key.declared.KeyType.{KeyType}
-use Rattle.mesa_schema.specs.mesa_key.declared.KeyValue.{KeyValue}
-use Rattle.mesa_schema.specs.mesa_key.Order.{byte_cmp, short_key, value_cmp}
-use Rattle.mesa_schema.specs.mesa_key.Spelling.{AreBytes, IsKey, column_length, key_spelling, value_spelling}
+use Rattle.mesa_fold.specs.mesa_key.declared.KeyType.{KeyType}
+use Rattle.mesa_fold.specs.mesa_key.declared.KeyValue.{KeyValue}
+use Rattle.mesa_fold.specs.mesa_key.Order.{byte_cmp, short_key, value_cmp}
+use Rattle.mesa_fold.specs.mesa_key.Spelling.{AreBytes, IsKey, column_length, key_spelling, value_spelling}
 use Rattle.mesa_filter.specs.declared.terms.Term.{Term}
 use Rattle.mesa_filter.specs.Filter.{KeyFilter, meets, meets_term, value_meets}
 use Rattle.mesa_filter.specs.Walk.{behind_first, column_meets, column_reaches, first_value, is_whole, may_meet_from}
 use Rattle.mesa_filter.specs.Pruning.{NoneMeets}
-use Rattle.mesa_schema.proofs.mesa_key.Keys.{bytes-drop}
+use Rattle.mesa_fold.proofs.mesa_key.Keys.{bytes-drop}
 use Rattle.mesa_filter.proofs.ShortColumns.{decides}
 use Rattle.mesa_filter.proofs.ValueOrder.{between_equal, column_reached, level, tied}
 

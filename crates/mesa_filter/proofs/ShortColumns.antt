@@ -8,16 +8,16 @@ use Rattle.std.specs.Cmp.{nat_cmp_is}
 use Rattle.std.proofs.Math.Seq.{take-append-add}
 use Rattle.std.proofs.lemmas.Bool.{cases_lt, eq-eqb, eqb-false, leb-true}
 use Rattle.std.proofs.lemmas.List.{length-take-le, take-append-drop, take-append-le, take-take}
-use Rattle.mesa_schema.specs.mesa_key.declared.KeyType.{KeyType}
-use Rattle.mesa_schema.specs.mesa_key.declared.KeyType.TheVariants as kind
-use Rattle.mesa_schema.specs.mesa_key.declared.KeyValue.{KeyValue}
-use Rattle.mesa_schema.specs.mesa_key.declared.KeyValue.TheVariants as value
-use Rattle.mesa_schema.specs.mesa_key.Order.{byte_cmp, value_cmp}
-use Rattle.mesa_schema.specs.mesa_key.Spelling.{AreBytes, IsValue, before_zero, value_spelling}
-use Rattle.mesa_schema.proofs.mesa_key.Columns.{at_zero, spells, text_zeros}
-use Rattle.mesa_schema.proofs.mesa_key.Keys.{bytes-take}
-use Rattle.mesa_schema.proofs.mesa_key.KeyOrder.{NoZero, byte_cmp-texts}
-use Rattle.mesa_schema.proofs.mesa_key.SpellingOrder.{no_zeros, spelling_order_then}
+use Rattle.mesa_fold.specs.mesa_key.declared.KeyType.{KeyType}
+use Rattle.mesa_fold.specs.mesa_key.declared.KeyType.TheVariants as kind
+use Rattle.mesa_fold.specs.mesa_key.declared.KeyValue.{KeyValue}
+use Rattle.mesa_fold.specs.mesa_key.declared.KeyValue.TheVariants as value
+use Rattle.mesa_fold.specs.mesa_key.Order.{byte_cmp, value_cmp}
+use Rattle.mesa_fold.specs.mesa_key.Spelling.{AreBytes, IsValue, before_zero, value_spelling}
+use Rattle.mesa_fold.proofs.mesa_key.Columns.{at_zero, spells, text_zeros}
+use Rattle.mesa_fold.proofs.mesa_key.Keys.{bytes-take}
+use Rattle.mesa_fold.proofs.mesa_key.KeyOrder.{NoZero, byte_cmp-texts}
+use Rattle.mesa_fold.proofs.mesa_key.SpellingOrder.{no_zeros, spelling_order_then}
 use Rattle.mesa_filter.specs.Walk.{behind_first, first_value, is_whole}
 use Rattle.mesa_filter.proofs.ValueOrder.{tied}
 

@@ -2,8 +2,8 @@
 use Rattle.std.proofs.Common.{◌≡◌, ℕ, ◌+◌, ◌≤◌, List, [], ◌∷◌, Bool, true, false, refl, sym, ◌∙◌, arith}
 use Rattle.std.specs.Prelude.{◌==◌}
 use Rattle.std.proofs.lemmas.Bool.{ne_eqb}
-use Rattle.mesa_schema.specs.mesa_key.declared.KeyType.{KeyType}
-use Rattle.mesa_schema.specs.mesa_key.declared.KeyValue.{KeyValue}
+use Rattle.mesa_fold.specs.mesa_key.declared.KeyType.{KeyType}
+use Rattle.mesa_fold.specs.mesa_key.declared.KeyValue.{KeyValue}
 use Rattle.mesa_filter.specs.declared.terms.Term.{Term}
 use Rattle.mesa_filter.specs.Walk.{all_meet, behind_first, column_meets, columns_named, first_value}
 

@@ -4,9 +4,9 @@ use Rattle.std.specs.Prelude.{◌==◌, ◌&&◌, ◌||◌, nat_lt, slice_get}
 use Rattle.std.specs.List.{list_all}
 use Rattle.std.proofs.Math.Bool.{and-false}
 use Rattle.std.proofs.lemmas.Bool.{cases_lt, eq-eqb, le-ltb, lt-ltb, ne_eqb}
-use Rattle.mesa_schema.specs.mesa_key.declared.KeyType.{KeyType}
-use Rattle.mesa_schema.specs.mesa_key.declared.KeyValue.{KeyValue}
-use Rattle.mesa_schema.specs.mesa_key.Spelling.{key_of}
+use Rattle.mesa_fold.specs.mesa_key.declared.KeyType.{KeyType}
+use Rattle.mesa_fold.specs.mesa_key.declared.KeyValue.{KeyValue}
+use Rattle.mesa_fold.specs.mesa_key.Spelling.{key_of}
 use Rattle.mesa_filter.specs.declared.terms.Term.{Term}
 use Rattle.mesa_filter.specs.Filter.{KeyFilter, are_within, meets, meets_term, value_meets}
 use Rattle.mesa_filter.specs.Walk.{all_meet, behind_first, column_meets, first_value}

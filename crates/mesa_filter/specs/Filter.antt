@@ -6,14 +6,14 @@ use Rattle.std.specs.Ordering.{is_eq, is_le, is_ge, is_lt, is_gt}
 use Rattle.std.specs.declared.cmp.Ordering.{Ordering}
 use Rattle.mesa_list.specs.Checks.{◌>>=◌, ◌>>◌, refuse_if}
 use Rattle.mesa_list.specs.Split.{split_at}
-use Rattle.mesa_schema.specs.mesa_key.declared.KeyType.{KeyType}
-use Rattle.mesa_schema.specs.mesa_key.declared.KeyValue.{KeyValue}
-use Rattle.mesa_schema.specs.mesa_key.Order.{value_cmp}
-use Rattle.mesa_schema.specs.mesa_key.Spelling.{key_of}
-use Rattle.mesa_schema.specs.declared.rows.Row.{Row}
-use Rattle.mesa_schema.specs.Columns.{Columns, place_of, key_names, kinds_of}
-use Rattle.mesa_schema.specs.Names.{is_name_byte}
-use Rattle.mesa_schema.specs.Numbers.{key_value_of}
+use Rattle.mesa_fold.specs.mesa_key.declared.KeyType.{KeyType}
+use Rattle.mesa_fold.specs.mesa_key.declared.KeyValue.{KeyValue}
+use Rattle.mesa_fold.specs.mesa_key.Order.{value_cmp}
+use Rattle.mesa_fold.specs.mesa_key.Spelling.{key_of}
+use Rattle.mesa_columns.specs.declared.rows.Row.{Row}
+use Rattle.mesa_columns.specs.Columns.{Columns, place_of, key_names, kinds_of}
+use Rattle.mesa_columns.specs.Names.{is_name_byte}
+use Rattle.mesa_columns.specs.Numbers.{key_value_of}
 use Rattle.mesa_filter.specs.declared.terms.Comparison.{Comparison}
 use Rattle.mesa_filter.specs.declared.terms.Comparison.TheVariants as op
 use Rattle.mesa_filter.specs.declared.terms.Term.{Term}

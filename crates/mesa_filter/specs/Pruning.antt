@@ -1,10 +1,10 @@
 -- What a walk over two short keys may leave out.
 use Rattle.std.specs.Prelude.{◌≡◌, ℕ, List, take, Bool, false, ◌&&◌, IsTrue}
 use Rattle.std.specs.Ordering.{is_ge, is_le}
-use Rattle.mesa_schema.specs.mesa_key.declared.KeyType.{KeyType}
-use Rattle.mesa_schema.specs.mesa_key.declared.KeyValue.{KeyValue}
-use Rattle.mesa_schema.specs.mesa_key.Order.{byte_cmp, short_key}
-use Rattle.mesa_schema.specs.mesa_key.Spelling.{IsKey, key_spelling}
+use Rattle.mesa_fold.specs.mesa_key.declared.KeyType.{KeyType}
+use Rattle.mesa_fold.specs.mesa_key.declared.KeyValue.{KeyValue}
+use Rattle.mesa_fold.specs.mesa_key.Order.{byte_cmp, short_key}
+use Rattle.mesa_fold.specs.mesa_key.Spelling.{IsKey, key_spelling}
 use Rattle.mesa_filter.specs.declared.terms.Term.{Term}
 use Rattle.mesa_filter.specs.Filter.{meets}
 

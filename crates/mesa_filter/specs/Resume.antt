@@ -3,9 +3,9 @@ use Rattle.std.specs.Prelude.{ℕ, List, [], ◌∷◌, ◌++◌, length, drop, 
 use Rattle.std.specs.List.{join_with_byte, starts_with}
 use Rattle.std.specs.Option.{ok_or}
 use Rattle.mesa_list.specs.Checks.{◌>>=◌, ◌>>◌, refuse_unless}
-use Rattle.mesa_schema.specs.mesa_key.declared.KeyType.{KeyType}
-use Rattle.mesa_schema.specs.mesa_key.Spelling.{is_spelling}
-use Rattle.mesa_schema.specs.Columns.{Columns, key_names, kinds_of, chosen}
+use Rattle.mesa_fold.specs.mesa_key.declared.KeyType.{KeyType}
+use Rattle.mesa_fold.specs.mesa_key.Spelling.{is_spelling}
+use Rattle.mesa_columns.specs.Columns.{Columns, key_names, kinds_of, chosen}
 use Rattle.mesa_filter.specs.declared.words.QueryError.{QueryError}
 use Rattle.mesa_filter.specs.declared.words.QueryError.TheVariants.{BadResume}
 use Rattle.mesa_filter.specs.Hex.{bytes_of_hex}

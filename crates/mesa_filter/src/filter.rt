@@ -1,8 +1,8 @@
 // Filters.
 ghost use Rattle.std.specs.Prelude.{◌≡◌, ◌≢◌, ◌<◌, ◌^◌, IfOk, IfErr, IsTrue, length, map, take};
 ghost use Rattle.std.specs.List.{AllByRecursion};
-ghost use Rattle.mesa_schema.specs.mesa_key.Spelling.{is_spelling, key_of};
-ghost use Rattle.mesa_schema.specs.Columns.{chosen, kinds_of};
+ghost use Rattle.mesa_fold.specs.mesa_key.Spelling.{is_spelling, key_of};
+ghost use Rattle.mesa_columns.specs.Columns.{chosen, kinds_of};
 ghost use Rattle.mesa_filter.specs.declared.terms.Term.{Term as AnyTerm};
 ghost use Rattle.mesa_filter.specs.Among.{Holds, term_among};
 ghost use Rattle.mesa_filter.specs.Filter.{are_within, filter_of, meets};
@@ -16,8 +16,8 @@ use crate::matching::{columns_may_meet, columns_meet, last_named};
 use crate::parsing::terms;
 use crate::query::kinds_at;
 use crate::{FilterError, Term};
-use mesa_list::{Items, TryCopy};
 use mesa_columns::{KeyType, Schema};
+use mesa_list::{Items, TryCopy};
 use std::alloc::{AllocError, Global};
 use std::marker::Model;
 

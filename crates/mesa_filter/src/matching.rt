@@ -1,7 +1,7 @@
 // Whether keys meet terms.
 ghost use Rattle.std.specs.Prelude.{◌≡◌, ◌≤◌, IsTrue, Some};
-ghost use Rattle.mesa_schema.specs.mesa_key.Columns.{seen};
-ghost use Rattle.mesa_schema.specs.mesa_key.Spelling.{is_spelling};
+ghost use Rattle.mesa_fold.specs.mesa_key.Columns.{seen};
+ghost use Rattle.mesa_fold.specs.mesa_key.Spelling.{is_spelling};
 ghost use Rattle.mesa_filter.specs.Filter.{are_within, passes_as, value_meets};
 ghost use Rattle.mesa_filter.specs.Walk.{all_meet, columns_named, column_meets as meets_column, column_reaches as reaches_column, interval_meets, may_meet_from, reaches as reaches_by};
 

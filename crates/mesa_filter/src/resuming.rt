@@ -1,8 +1,8 @@
 // Resume keys: where a page goes on.
 ghost use Rattle.std.specs.Prelude.{◌≡◌, ◌≢◌, ◌++◌, ◌∷◌, [], IsTrue, IfOk, IfErr, OnOk, Ok, Err, decimal, is_some, map};
 ghost use Rattle.std.specs.List.{join_with_byte, list_all};
-ghost use Rattle.mesa_schema.specs.declared.columns.KeyColumn.{KeyColumn as Column};
-ghost use Rattle.mesa_schema.specs.Columns.{chosen};
+ghost use Rattle.mesa_columns.specs.declared.columns.KeyColumn.{KeyColumn as Column};
+ghost use Rattle.mesa_columns.specs.Columns.{chosen};
 ghost use Rattle.mesa_filter.specs.Hex.{bytes_of_hex, hex_value as digit_value};
 ghost use Rattle.mesa_filter.specs.Resume.{resume_behind, resume_prefix};
 ghost use Rattle.mesa_filter.specs.Query.{are_places};
@@ -11,8 +11,8 @@ use crate::QueryError;
 use crate::literals::hex_value;
 use hex::FromHexError;
 use itoa::Buffer;
-use mesa_list::Items;
 use mesa_columns::{KeyBytes, KeyColumn, KeyType, Name, Schema, Words, spells_key};
+use mesa_list::Items;
 use std::alloc::{AllocError, Global};
 
 // The first four parts of a query's resume keys: relation, version, epoch and group columns, each with a `/` behind it.

@@ -1,6 +1,6 @@
 // The terms of a filter.
-use mesa_list::Items;
 use mesa_columns::KeyValue;
+use mesa_list::Items;
 
 /// How a column's value compares with a literal.
 #[derive(Clone, Copy, Debug, PartialEq, Eq)]

@@ -5,7 +5,7 @@ use Rattle.std.specs.Fmt.{decimal, digit_glyph, digits, digits_onto}
 use Rattle.std.specs.List.{list_all}
 use Rattle.std.proofs.lemmas.Bool.{and_parts}
 use Rattle.mesa_generate.specs.Lines.{IsUnbroken, has_break}
-use Rattle.mesa_invariant_spec.specs.mesa_schema.Names.{is_lower, is_name, is_name_byte}
+use Rattle.mesa_invariant_spec.specs.mesa_columns.Names.{is_lower, is_name, is_name_byte}
 
 none_of : (a b : Bool) → (a || b) ≡ false → (a ≡ false) × (b ≡ false)
 none_of true b is = absurd (cc is)

@@ -3,17 +3,17 @@ use Rattle.std.proofs.Common.{◌≡◌, ℕ, ◌+◌, ◌∙◌, List, [], ◌�
 use Rattle.std.specs.List.{AllByRecursion, cons_option, list_all}
 use Rattle.std.proofs.lemmas.Bool.{and_parts}
 use Rattle.std.proofs.Math.ListN.{get_or-map}
-use Rattle.mesa_invariant_spec.specs.mesa_schema.declared.columns.ValueColumn.{ValueColumn}
-use Rattle.mesa_invariant_spec.specs.mesa_schema.Columns.{Columns, chosen, value_names}
-use Rattle.mesa_invariant_spec.specs.mesa_schema.Names.{is_name}
-use Rattle.mesa_invariant_spec.proofs.mesa_schema.Lists.{all_at, all_got, all_map}
-use Rattle.mesa_invariant_spec.proofs.mesa_schema.Places.{place_named}
+use Rattle.mesa_invariant_spec.specs.mesa_columns.declared.columns.ValueColumn.{ValueColumn}
+use Rattle.mesa_invariant_spec.specs.mesa_columns.Columns.{Columns, chosen, value_names}
+use Rattle.mesa_invariant_spec.specs.mesa_columns.Names.{is_name}
+use Rattle.mesa_invariant_spec.proofs.mesa_columns.Lists.{all_at, all_got, all_map}
+use Rattle.mesa_invariant_spec.proofs.mesa_columns.Places.{place_named}
 use Rattle.mesa_model.specs.Warehouse.{Store, Table, no_table, table_at}
 use Rattle.mesa_model.specs.Load.{tables_loaded}
 use Rattle.mesa_model.specs.Relations.{table_number}
 use Rattle.mesa_invariant_spec.specs.mesa_batch.Batch.{Placed}
 use Rattle.mesa_invariant_spec.specs.mesa_batch.Totals.{sum_name, sum_places}
-use Rattle.mesa_invariant_spec.specs.mesa_schema.Columns.{aggs_of}
+use Rattle.mesa_invariant_spec.specs.mesa_columns.Columns.{aggs_of}
 use Rattle.mesa_generate.specs.Excerpt.{ArePlainColumns, HasPlainNames, IsPlainColumn, IsPlainTable}
 use Rattle.mesa_generate.specs.Lines.{IsUnbroken}
 use Rattle.mesa_generate.proofs.Breaks.{name_unbroken}

@@ -8,8 +8,8 @@ use Rattle.std.proofs.lemmas.Bool.{le-leb}
 use Rattle.std.proofs.lemmas.Fmt.{decimal_is_IsNumeral, digits_decimal, digits_value-decimal}
 use Rattle.std.proofs.lemmas.Str.Parse.{IsNumeralModel, numerals_by_fold}
 use Rattle.mesa_invariant_spec.specs.mesa_list.Checks.{◌>>=◌, ◌>>◌, refuse_unless}
-use Rattle.mesa_invariant_spec.specs.mesa_schema.Names.{is_digit}
-use Rattle.mesa_invariant_spec.specs.mesa_schema.Numbers.{digits_from, number_of}
+use Rattle.mesa_invariant_spec.specs.mesa_columns.Names.{is_digit}
+use Rattle.mesa_invariant_spec.specs.mesa_columns.Numbers.{digits_from, number_of}
 use Rattle.mesa_invariant_spec.specs.mesa_script.declared.script.Reason.TheVariants as reason
 use Rattle.mesa_invariant_spec.specs.mesa_script.Records.{is_between}
 use Rattle.mesa_invariant_spec.specs.mesa_script.Words.{max_number, number_in}

@@ -7,7 +7,7 @@ use Rattle.std.proofs.lemmas.List.{length-append}
 use Rattle.mesa_invariant_spec.specs.mesa_list.Checks.{◌>>=◌, ◌>>◌, each_of, refuse_if, refuse_unless, refused_as}
 use Rattle.mesa_invariant_spec.specs.mesa_list.Split.{entries_of}
 use Rattle.mesa_invariant_spec.specs.mesa_script.Words.{key_words, limit_of, max_number, number_in, value_words, version_of}
-use Rattle.mesa_invariant_spec.proofs.mesa_schema.Lists.{all_append}
+use Rattle.mesa_invariant_spec.proofs.mesa_columns.Lists.{all_append}
 use Rattle.mesa_model.specs.declared.commands.Command.{Command}
 use Rattle.mesa_model.specs.declared.commands.Command.TheVariants as command
 use Rattle.mesa_model.specs.declared.commands.Script.{Script}

@@ -5,7 +5,7 @@ use Rattle.std.specs.Fmt.{decimal}
 use Rattle.std.proofs.lemmas.Bool.{lt-leb}
 use Rattle.std.specs.List.{AllByRecursion}
 use Rattle.mesa_invariant_spec.specs.mesa_list.Checks.{◌>>=◌, ◌>>◌, refuse_if, refused_as}
-use Rattle.mesa_invariant_spec.proofs.mesa_schema.Lists.{all_append}
+use Rattle.mesa_invariant_spec.proofs.mesa_columns.Lists.{all_append}
 use Rattle.mesa_invariant_spec.specs.mesa_batch.declared.words.RowWords.{RowWords}
 use Rattle.mesa_model.specs.declared.commands.Command.{Command}
 use Rattle.mesa_model.specs.declared.commands.Command.TheVariants as command

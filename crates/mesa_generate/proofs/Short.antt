@@ -5,18 +5,18 @@ use Rattle.std.specs.Prelude.{codes}
 use Rattle.std.specs.Fmt.{decimal}
 use Rattle.std.proofs.lemmas.Bool.{and_parts}
 use Rattle.mesa_invariant_spec.specs.mesa_list.Checks.{◌>>◌, refuse_if, refuse_unless}
-use Rattle.mesa_invariant_spec.specs.mesa_schema.declared.columns.ValueColumn.{ValueColumn}
-use Rattle.mesa_invariant_spec.specs.mesa_schema.declared.schema.SchemaError.{SchemaError}
-use Rattle.mesa_invariant_spec.specs.mesa_schema.declared.schema.SchemaError.TheVariants as schema
-use Rattle.mesa_invariant_spec.specs.mesa_schema.declared.views.ViewError.{ViewError}
-use Rattle.mesa_invariant_spec.specs.mesa_schema.declared.views.ViewError.TheVariants as view
-use Rattle.mesa_invariant_spec.specs.mesa_schema.declared.rows.Row.{Row}
-use Rattle.mesa_invariant_spec.specs.mesa_schema.Columns.{Columns, is_replace, key_names, places_in, value_names}
+use Rattle.mesa_invariant_spec.specs.mesa_columns.declared.columns.ValueColumn.{ValueColumn}
+use Rattle.mesa_invariant_spec.specs.mesa_columns.declared.schema.SchemaError.{SchemaError}
+use Rattle.mesa_invariant_spec.specs.mesa_columns.declared.schema.SchemaError.TheVariants as schema
+use Rattle.mesa_invariant_spec.specs.mesa_columns.declared.views.ViewError.{ViewError}
+use Rattle.mesa_invariant_spec.specs.mesa_columns.declared.views.ViewError.TheVariants as view
+use Rattle.mesa_invariant_spec.specs.mesa_columns.declared.rows.Row.{Row}
+use Rattle.mesa_invariant_spec.specs.mesa_columns.Columns.{Columns, is_replace, key_names, places_in, value_names}
 use Rattle.mesa_invariant_spec.specs.mesa_schema.Changes.{columns_of}
-use Rattle.mesa_invariant_spec.specs.mesa_schema.Names.{has_name, is_name, repeated}
-use Rattle.mesa_invariant_spec.specs.mesa_schema.Schema.{schema_checked}
+use Rattle.mesa_invariant_spec.specs.mesa_columns.Names.{has_name, is_name, repeated}
+use Rattle.mesa_invariant_spec.specs.mesa_columns.Schema.{schema_checked}
 use Rattle.mesa_invariant_spec.specs.mesa_schema.Views.{choice_checked, max_views, values_named, view_checked}
-use Rattle.mesa_invariant_spec.proofs.mesa_schema.Lists.{all_append, all_found, all_map, all_set}
+use Rattle.mesa_invariant_spec.proofs.mesa_columns.Lists.{all_append, all_found, all_map, all_set}
 use Rattle.mesa_invariant_spec.specs.mesa_batch.declared.words.RowWords.{RowWords}
 use Rattle.mesa_invariant_spec.specs.mesa_batch.declared.words.BatchError.{BatchError}
 use Rattle.mesa_invariant_spec.specs.mesa_batch.declared.words.BatchError.TheVariants as batch

@@ -1,9 +1,9 @@
 -- What a run prints for its last commands.
 use Rattle.std.specs.Prelude.{Bool, true, false, Ok, ◌≡◌, ◌≤◌, ◌<◌, ◌-◌, ℕ, List, ◌++◌, length}
 use Rattle.std.specs.List.{AllByRecursion}
-use Rattle.mesa_invariant_spec.specs.mesa_schema.declared.columns.ValueColumn.{ValueColumn}
+use Rattle.mesa_invariant_spec.specs.mesa_columns.declared.columns.ValueColumn.{ValueColumn}
 use Rattle.mesa_invariant_spec.specs.mesa_schema.Changes.{columns_of}
-use Rattle.mesa_invariant_spec.specs.mesa_schema.Columns.{Columns}
+use Rattle.mesa_invariant_spec.specs.mesa_columns.Columns.{Columns}
 use Rattle.mesa_model.specs.Warehouse.{Store, Table}
 use Rattle.mesa_invariant_spec.specs.mesa_history_spec.Output.{IsOutput}
 use Rattle.mesa_invariant_spec.specs.mesa_history_spec.Run.{Run, State, begins, commands_of}

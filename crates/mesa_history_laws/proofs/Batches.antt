@@ -14,14 +14,14 @@ use Rattle.mesa_history_spec.specs.mesa_key.declared.KeyValue.{KeyValue}
 use Rattle.mesa_history_spec.specs.mesa_key.declared.KeyValue.TheVariants as value
 use Rattle.mesa_history_spec.specs.mesa_key.Spelling.{IsKey, IsValue, is_key_text, key_of, key_spelling}
 use Rattle.mesa_history_spec.proofs.mesa_key.Keys.{key_again}
-use Rattle.mesa_history_spec.specs.mesa_schema.declared.rows.Row.{Row}
-use Rattle.mesa_history_spec.specs.mesa_schema.declared.columns.ValueColumn.{ValueColumn}
-use Rattle.mesa_history_spec.specs.mesa_schema.Columns.{Columns, aggs_of, kinds_of, place_of}
+use Rattle.mesa_history_spec.specs.mesa_columns.declared.rows.Row.{Row}
+use Rattle.mesa_history_spec.specs.mesa_columns.declared.columns.ValueColumn.{ValueColumn}
+use Rattle.mesa_history_spec.specs.mesa_columns.Columns.{Columns, aggs_of, kinds_of, place_of}
 use Rattle.mesa_history_spec.specs.mesa_schema.Changes.{columns_of}
-use Rattle.mesa_history_spec.specs.mesa_schema.Numbers.{amount_of, any_signed, is_i64, key_value_of}
-use Rattle.mesa_history_spec.specs.mesa_schema.Rows.{AreOf, AreRowsOf, IsRowOf}
-use Rattle.mesa_history_spec.proofs.mesa_schema.NumberWords.{is_i64-fits}
-use Rattle.mesa_history_spec.proofs.mesa_schema.Places.{place_named}
+use Rattle.mesa_history_spec.specs.mesa_columns.Numbers.{amount_of, any_signed, is_i64, key_value_of}
+use Rattle.mesa_history_spec.specs.mesa_columns.Rows.{AreOf, AreRowsOf, IsRowOf}
+use Rattle.mesa_history_spec.proofs.mesa_columns.NumberWords.{is_i64-fits}
+use Rattle.mesa_history_spec.proofs.mesa_columns.Places.{place_named}
 use Rattle.mesa_history_spec.proofs.mesa_batch.RowForms.{is_of}
 use Rattle.mesa_history_spec.specs.mesa_batch.declared.words.RowWords.{RowWords}
 use Rattle.mesa_history_spec.specs.mesa_batch.declared.words.BatchError.TheVariants.{BadRow, NoTable}
@@ -29,7 +29,7 @@ use Rattle.mesa_history_spec.specs.mesa_batch.Batch.{Named, Placed, batch_from, 
 use Rattle.mesa_history_spec.specs.mesa_model.Warehouse.{Store, Table}
 use Rattle.mesa_history_spec.specs.mesa_model.Load.{tables_named}
 use Rattle.mesa_history_laws.proofs.Checks.{bound, bound_other, bound_some, passed}
-use Rattle.mesa_history_spec.proofs.mesa_schema.Lists.{all_append}
+use Rattle.mesa_history_spec.proofs.mesa_columns.Lists.{all_append}
 
 -- ---- values and keys
 

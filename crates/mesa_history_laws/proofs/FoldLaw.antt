@@ -4,7 +4,7 @@ use Rattle.std.proofs.lemmas.List.{get_or_past}
 use Rattle.std.proofs.lemmas.Option.{slice_get_past}
 use Rattle.mesa_history_spec.specs.mesa_schema.Changes.{Lineage, columns_of, epoch_of, rule_checked}
 use Rattle.mesa_history_spec.specs.mesa_schema.Recasts.{Recast}
-use Rattle.mesa_history_spec.specs.mesa_schema.Rows.{AreRowsOf}
+use Rattle.mesa_history_spec.specs.mesa_columns.Rows.{AreRowsOf}
 use Rattle.mesa_history_spec.proofs.mesa_schema.Passing.{passed_first}
 use Rattle.mesa_history_spec.specs.mesa_model.declared.commands.Script.{Script}
 use Rattle.mesa_history_spec.specs.mesa_model.declared.entries.Entry.{Entry}
@@ -20,7 +20,7 @@ use Rattle.mesa_history_laws.proofs.LawLoads.{law_loads}
 use Rattle.mesa_history_laws.proofs.LawTables.{law_alters, law_expires, law_expires_one, law_makes, law_recasts, law_views}
 use Rattle.mesa_history_laws.proofs.Lifting.{present_now}
 use Rattle.mesa_history_laws.proofs.Lineages.{change_default}
-use Rattle.mesa_history_spec.proofs.mesa_schema.Lists.{all_at, all_got}
+use Rattle.mesa_history_spec.proofs.mesa_columns.Lists.{all_at, all_got}
 use Rattle.mesa_history_laws.proofs.Moves.{Moves}
 use Rattle.mesa_history_laws.proofs.Recasts.{recast_rules, recast_there}
 use Rattle.mesa_history_laws.proofs.Turns.{go_moves}

@@ -2,7 +2,7 @@
 use Rattle.std.proofs.Common.{◌≡◌, ℕ, ◌-◌, ◌==◌, ◌⊎◌, inl, inr, ◌<◌, ◌≤◌, List, refl, sym, ◌∙◌, ap, subst, arith, Option, Some, None, Result, Ok}
 use Rattle.std.proofs.lemmas.Bool.{eq-eqb}
 use Rattle.mesa_history_spec.specs.mesa_list.Checks.{◌>>=◌, refuse_if, refused_as}
-use Rattle.mesa_history_spec.specs.mesa_schema.declared.rows.Row.{Row}
+use Rattle.mesa_history_spec.specs.mesa_columns.declared.rows.Row.{Row}
 use Rattle.mesa_history_spec.specs.mesa_schema.Changes.{columns_of, epoch_of}
 use Rattle.mesa_history_spec.specs.mesa_filter.declared.words.QueryWords.{QueryWords}
 use Rattle.mesa_history_spec.specs.mesa_filter.declared.words.VersionWord.{VersionWord}

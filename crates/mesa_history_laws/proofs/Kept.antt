@@ -2,10 +2,10 @@
 use Rattle.std.proofs.Common.{◌≡◌, ℕ, ◌-◌, ◌<◌, ◌≤◌, List, [], ◌∷◌, length, map, slice_get, Some, nat_lt}
 use Rattle.std.specs.List.{AllByRecursion}
 use Rattle.std.proofs.lemmas.Bool.{cond-false, cond-true, le-ltb, lt-ltb}
-use Rattle.mesa_history_spec.specs.mesa_schema.Columns.{aggs_of}
+use Rattle.mesa_history_spec.specs.mesa_columns.Columns.{aggs_of}
 use Rattle.mesa_history_spec.specs.mesa_schema.Changes.{Lineage, columns_of, epoch_of}
-use Rattle.mesa_history_spec.specs.mesa_schema.Folded.{folded}
-use Rattle.mesa_history_spec.specs.mesa_schema.Rows.{AreRowsOf}
+use Rattle.mesa_history_spec.specs.mesa_fold.Folded.{folded}
+use Rattle.mesa_history_spec.specs.mesa_columns.Rows.{AreRowsOf}
 use Rattle.mesa_history_spec.specs.mesa_model.Warehouse.{Store, Table, Warehouse, content_at}
 use Rattle.mesa_history_spec.specs.Law.{carried_content}
 use Rattle.mesa_history_spec.specs.Sources.{Source, Written, rows_now, sources_to}

@@ -12,7 +12,7 @@ use Rattle.mesa_history_spec.specs.mesa_key.declared.KeyValue.TheVariants as val
 use Rattle.mesa_history_spec.specs.mesa_key.Text.{is_key_text}
 use Rattle.mesa_history_spec.specs.mesa_key.Spelling.{IsKey, IsValue, key_spelling, value_spelling}
 use Rattle.mesa_history_spec.specs.mesa_filter.Hex.{bytes_of_hex, hex_digit, hex_of, hex_value, with_byte}
-use Rattle.mesa_history_spec.proofs.mesa_schema.Lists.{all_append}
+use Rattle.mesa_history_spec.proofs.mesa_columns.Lists.{all_append}
 
 -- all are bytes
 abbrev pub Bytes : List ℕ → Type 0

@@ -11,7 +11,7 @@ use Rattle.mesa_history_spec.specs.mesa_model.Query.{Answer, query_answer, store
 use Rattle.mesa_history_spec.specs.Run.{Run}
 use Rattle.mesa_history_laws.specs.Later.{IsLaterPlace, IsStillThere}
 use Rattle.mesa_history_laws.specs.Pages.{ArePagesOf, Asking, IsWholeAnswer, from_first, pages_asked_at}
-use Rattle.mesa_history_spec.proofs.mesa_schema.Lists.{all_so}
+use Rattle.mesa_history_spec.proofs.mesa_columns.Lists.{all_so}
 use Rattle.mesa_history_laws.proofs.QueryPages.{AsksAlike, pages_of_whole}
 use Rattle.mesa_history_laws.proofs.StayingAnswers.{answers_stay}
 use Rattle.mesa_history_laws.proofs.StoredRows.{IsStored, well_stored}

@@ -4,8 +4,8 @@ use Rattle.std.proofs.lemmas.Bool.{or_cases, or_left, or_right}
 use Rattle.std.proofs.lemmas.Cmp.{nat_list_eq_equiv}
 use Rattle.std.proofs.lemmas.List.Folds.{list_any-append}
 use Rattle.mesa_history_spec.specs.mesa_list.Bytes.{same_bytes}
-use Rattle.mesa_history_spec.specs.mesa_schema.declared.views.View.{View}
-use Rattle.mesa_history_spec.specs.mesa_schema.Names.{has_name, repeated}
+use Rattle.mesa_history_spec.specs.mesa_columns.declared.views.View.{View}
+use Rattle.mesa_history_spec.specs.mesa_columns.Names.{has_name, repeated}
 use Rattle.mesa_history_spec.specs.mesa_model.Warehouse.{Store, Table}
 use Rattle.mesa_history_spec.specs.mesa_model.WellFormed.{relation_names}
 use Rattle.mesa_history_spec.specs.mesa_model.Relations.{Relation, relation_from, relation_of}

@@ -4,16 +4,17 @@ use Rattle.std.specs.List.{AllByRecursion}
 use Rattle.std.proofs.lemmas.Bool.{cases_lt}
 use Rattle.std.proofs.lemmas.List.{length-map}
 use Rattle.std.proofs.lemmas.Simd.{map-map}
-use Rattle.mesa_history_spec.specs.mesa_schema.declared.rows.Row.{Row}
-use Rattle.mesa_history_spec.specs.mesa_schema.declared.changes.Change.{Change}
-use Rattle.mesa_history_spec.specs.mesa_schema.Columns.{Columns, aggs_of}
-use Rattle.mesa_history_spec.specs.mesa_schema.Changes.{Lineage, changed, columns_of, lifted_once, with_change}
-use Rattle.mesa_history_spec.specs.mesa_schema.Folded.{folded, rows_of}
+use Rattle.mesa_history_spec.specs.mesa_columns.declared.rows.Row.{Row}
+use Rattle.mesa_history_spec.specs.mesa_columns.declared.changes.Change.{Change}
+use Rattle.mesa_history_spec.specs.mesa_columns.Columns.{Columns, aggs_of}
+use Rattle.mesa_history_spec.specs.mesa_columns.Changes.{changed, lifted_once}
+use Rattle.mesa_history_spec.specs.mesa_schema.Changes.{Lineage, columns_of, with_change}
+use Rattle.mesa_history_spec.specs.mesa_fold.Folded.{folded, rows_of}
 use Rattle.mesa_history_spec.specs.mesa_schema.Lineages.{HasDefault}
 use Rattle.mesa_history_spec.specs.mesa_schema.Recasts.{IsRecastOf, Recast, recast_columns, recast_lineage, recast_rows}
-use Rattle.mesa_history_spec.specs.mesa_schema.Rows.{AreRowsOf, IsRowOf}
+use Rattle.mesa_history_spec.specs.mesa_columns.Rows.{AreRowsOf, IsRowOf}
 use Rattle.mesa_history_spec.proofs.mesa_schema.Forms.{lifts_folded}
-use Rattle.mesa_history_spec.proofs.mesa_schema.Lists.{all_append, all_filter, all_map, all_so, map_at, same_maps}
+use Rattle.mesa_history_spec.proofs.mesa_columns.Lists.{all_append, all_filter, all_map, all_so, map_at, same_maps}
 use Rattle.mesa_history_spec.proofs.mesa_schema.PresentRows.{columns_more, epoch_more, forms_more}
 use Rattle.mesa_history_spec.proofs.mesa_schema.Recasting.{recast_folds, recast_form}
 use Rattle.mesa_history_spec.specs.mesa_model.Warehouse.{Table, Warehouse}

@@ -6,12 +6,12 @@ use Rattle.std.proofs.lemmas.List.{append-nil, get_or_append_left, get_or_past, 
 use Rattle.std.proofs.lemmas.List.Elements.{filter-append}
 use Rattle.std.proofs.lemmas.Option.{get_or_from_slice_get}
 use Rattle.mesa_history_spec.specs.mesa_value.declared.Agg.{Agg}
-use Rattle.mesa_history_spec.specs.mesa_schema.declared.rows.Row.{Row}
-use Rattle.mesa_history_spec.specs.mesa_schema.Columns.{aggs_of}
+use Rattle.mesa_history_spec.specs.mesa_columns.declared.rows.Row.{Row}
+use Rattle.mesa_history_spec.specs.mesa_columns.Columns.{aggs_of}
 use Rattle.mesa_history_spec.specs.mesa_schema.Changes.{columns_of, epoch_of, lifted}
-use Rattle.mesa_history_spec.specs.mesa_schema.Folded.{folded}
-use Rattle.mesa_history_spec.specs.mesa_schema.Rows.{AreRowsOf}
-use Rattle.mesa_history_spec.proofs.mesa_schema.Refolds.{refolded}
+use Rattle.mesa_history_spec.specs.mesa_fold.Folded.{folded}
+use Rattle.mesa_history_spec.specs.mesa_columns.Rows.{AreRowsOf}
+use Rattle.mesa_history_spec.proofs.mesa_fold.Refolds.{refolded}
 use Rattle.mesa_history_spec.specs.mesa_batch.declared.words.RowWords.{RowWords}
 use Rattle.mesa_history_spec.specs.mesa_batch.Batch.{Placed, batch_of, rows_for}
 use Rattle.mesa_history_spec.specs.mesa_model.Warehouse.{Store, Table, Warehouse, content_at, no_table, table_at}
@@ -21,7 +21,7 @@ use Rattle.mesa_history_spec.specs.Sources.{Source, Written, rows_now, source_wr
 use Rattle.mesa_history_laws.proofs.Batches.{batch_forms, no_rows_for}
 use Rattle.mesa_history_laws.proofs.Kept.{IsAt, IsSince, Law, LawAt, all_written, first_written, law_early, law_late, no_source}
 use Rattle.mesa_history_laws.proofs.Lifting.{present_now}
-use Rattle.mesa_history_spec.proofs.mesa_schema.Lists.{all_append, all_pass, all_so}
+use Rattle.mesa_history_spec.proofs.mesa_columns.Lists.{all_append, all_pass, all_so}
 
 -- ---- loaded tables
 

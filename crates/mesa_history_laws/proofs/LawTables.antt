@@ -6,11 +6,11 @@ use Rattle.std.proofs.lemmas.Bool.{cases_lt, eqb-false, eqb-true}
 use Rattle.std.proofs.lemmas.List.{get_or-drop, get_or-replicate, length-append, length-drop, length-map, length-replicate, length-set}
 use Rattle.std.proofs.lemmas.Option.{slice_get_within}
 use Rattle.mesa_history_spec.specs.mesa_value.declared.Agg.{Agg}
-use Rattle.mesa_history_spec.specs.mesa_schema.declared.rows.Row.{Row}
-use Rattle.mesa_history_spec.specs.mesa_schema.declared.changes.Change.{Change}
-use Rattle.mesa_history_spec.specs.mesa_schema.Columns.{Columns, aggs_of}
+use Rattle.mesa_history_spec.specs.mesa_columns.declared.rows.Row.{Row}
+use Rattle.mesa_history_spec.specs.mesa_columns.declared.changes.Change.{Change}
+use Rattle.mesa_history_spec.specs.mesa_columns.Columns.{Columns, aggs_of}
 use Rattle.mesa_history_spec.specs.mesa_schema.Changes.{Lineage, columns_of}
-use Rattle.mesa_history_spec.specs.mesa_schema.Folded.{folded, folded_at, keys_of, rows_of}
+use Rattle.mesa_history_spec.specs.mesa_fold.Folded.{folded, folded_at, keys_of, rows_of}
 use Rattle.mesa_history_spec.specs.mesa_schema.Lineages.{HasDefault}
 use Rattle.mesa_history_spec.specs.mesa_schema.Recasts.{IsRecastOf, Recast, recast_rows}
 use Rattle.mesa_history_spec.specs.mesa_model.declared.commands.ViewWords.{ViewWords}
@@ -21,7 +21,7 @@ use Rattle.mesa_history_spec.specs.Law.{Regroups, carried_content, carried_throu
 use Rattle.mesa_history_spec.specs.Sources.{Source, Written, rows_now, source_recast, source_written, sources_to, written_recast}
 use Rattle.mesa_history_laws.proofs.Kept.{IsAt, IsSince, Law, LawAt, all_written, law_early, law_late, no_source}
 use Rattle.mesa_history_laws.proofs.LawAlters.{changed_law, recast_law}
-use Rattle.mesa_history_spec.proofs.mesa_schema.Lists.{all_filter, all_map, all_so, got_map, got_push, got_set}
+use Rattle.mesa_history_spec.proofs.mesa_columns.Lists.{all_filter, all_map, all_so, got_map, got_push, got_set}
 use Rattle.mesa_history_laws.proofs.Moves.{viewed}
 
 -- ---- a table more

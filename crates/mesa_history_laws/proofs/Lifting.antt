@@ -2,10 +2,11 @@
 use Rattle.std.proofs.Common.{◌≡◌, ◌≤◌, List, map, sym, ◌∙◌}
 use Rattle.std.proofs.lemmas.List.{map-id}
 use Rattle.std.proofs.lemmas.Simd.{map-map}
-use Rattle.mesa_history_spec.specs.mesa_schema.declared.rows.Row.{Row}
-use Rattle.mesa_history_spec.specs.mesa_schema.declared.changes.Change.{Change}
-use Rattle.mesa_history_spec.specs.mesa_schema.Changes.{Lineage, columns_of, epoch_of, lifted, lifted_once, with_change}
-use Rattle.mesa_history_spec.proofs.mesa_schema.Lists.{map_is}
+use Rattle.mesa_history_spec.specs.mesa_columns.declared.rows.Row.{Row}
+use Rattle.mesa_history_spec.specs.mesa_columns.declared.changes.Change.{Change}
+use Rattle.mesa_history_spec.specs.mesa_columns.Changes.{lifted_once}
+use Rattle.mesa_history_spec.specs.mesa_schema.Changes.{Lineage, columns_of, epoch_of, lifted, with_change}
+use Rattle.mesa_history_spec.proofs.mesa_columns.Lists.{map_is}
 use Rattle.mesa_history_spec.proofs.mesa_schema.PresentRows.{lifted_more, lifted_now}
 use Rattle.mesa_history_spec.specs.Sources.{Source, rows_now}
 

@@ -2,16 +2,17 @@
 use Rattle.std.proofs.Common.{◌≡◌, ◌<◌, length, Bool, true, false, refl, Result, Ok, Err, is_ok, nat_le, subst}
 use Rattle.std.proofs.lemmas.Bool.{leb-false}
 use Rattle.mesa_history_spec.specs.mesa_list.Checks.{◌>>◌, refuse_unless, refused_as}
-use Rattle.mesa_history_spec.specs.mesa_schema.declared.columns.KeyColumn.{KeyColumn}
-use Rattle.mesa_history_spec.specs.mesa_schema.declared.views.View.{View}
-use Rattle.mesa_history_spec.specs.mesa_schema.declared.views.ViewError.{ViewError}
-use Rattle.mesa_history_spec.specs.mesa_schema.declared.changes.Change.{Change}
-use Rattle.mesa_history_spec.specs.mesa_schema.declared.changes.Change.TheVariants.{AddKey, AddValue, DropValue}
-use Rattle.mesa_history_spec.specs.mesa_schema.declared.changes.ChangeError.TheVariants.{BadDefault}
+use Rattle.mesa_history_spec.specs.mesa_columns.declared.columns.KeyColumn.{KeyColumn}
+use Rattle.mesa_history_spec.specs.mesa_columns.declared.views.View.{View}
+use Rattle.mesa_history_spec.specs.mesa_columns.declared.views.ViewError.{ViewError}
+use Rattle.mesa_history_spec.specs.mesa_columns.declared.changes.Change.{Change}
+use Rattle.mesa_history_spec.specs.mesa_columns.declared.changes.Change.TheVariants.{AddKey, AddValue, DropValue}
+use Rattle.mesa_history_spec.specs.mesa_columns.declared.changes.ChangeError.TheVariants.{BadDefault}
 use Rattle.mesa_history_spec.specs.mesa_value.Agg.{IsNarrow}
-use Rattle.mesa_history_spec.specs.mesa_schema.Numbers.{any_signed, key_value_of, signed_of}
-use Rattle.mesa_history_spec.specs.mesa_schema.Columns.{key_names, value_names}
-use Rattle.mesa_history_spec.specs.mesa_schema.Changes.{Lineage, columns_of, is_default, new_name_checked, rule_checked}
+use Rattle.mesa_history_spec.specs.mesa_columns.Numbers.{any_signed, key_value_of, signed_of}
+use Rattle.mesa_history_spec.specs.mesa_columns.Columns.{key_names, value_names}
+use Rattle.mesa_history_spec.specs.mesa_columns.Changes.{is_default}
+use Rattle.mesa_history_spec.specs.mesa_schema.Changes.{Lineage, columns_of, new_name_checked, rule_checked}
 use Rattle.mesa_history_spec.specs.mesa_schema.Views.{max_views, view_checked}
 use Rattle.mesa_history_spec.specs.mesa_schema.Lineages.{HasDefault, IsLineage}
 use Rattle.mesa_history_spec.proofs.mesa_schema.LineageChanges.{default_fits, lineage_viewed as lineage_with_view}

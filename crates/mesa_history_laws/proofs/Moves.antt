@@ -1,10 +1,10 @@
 -- What a turn makes of the tables and the number of versions, and what it does to the rows that are written: nothing, or what one of seven commands makes of them.
 use Rattle.std.proofs.Common.{◌≡◌, ℕ, ◌+◌, List, [], ◌∷◌, ◌++◌, length, true, false, subst, sym, Option, Some, None, Result, Ok, Err, is_none, is_ok, nat_le}
-use Rattle.mesa_history_spec.specs.mesa_schema.declared.changes.Change.{Change}
+use Rattle.mesa_history_spec.specs.mesa_columns.declared.changes.Change.{Change}
 use Rattle.mesa_history_spec.specs.mesa_schema.Changes.{change_checked, columns_of}
-use Rattle.mesa_history_spec.specs.mesa_schema.Names.{is_name}
+use Rattle.mesa_history_spec.specs.mesa_columns.Names.{is_name}
 use Rattle.mesa_history_spec.specs.mesa_schema.Recasts.{Recast, recast_checked}
-use Rattle.mesa_history_spec.specs.mesa_schema.Schema.{schema_checked}
+use Rattle.mesa_history_spec.specs.mesa_columns.Schema.{schema_checked}
 use Rattle.mesa_history_spec.specs.mesa_batch.declared.words.RowWords.{RowWords}
 use Rattle.mesa_history_spec.specs.mesa_batch.declared.words.BatchError.{BatchError}
 use Rattle.mesa_history_spec.specs.mesa_batch.Batch.{Placed, batch_of}

@@ -6,9 +6,9 @@ use Rattle.mesa_history_spec.specs.mesa_span.declared.works.Work.{Work}
 use Rattle.mesa_history_spec.specs.mesa_span.declared.works.Work.TheVariants as work
 use Rattle.mesa_history_spec.specs.mesa_lease.Book.{holder}
 use Rattle.mesa_history_spec.specs.mesa_schema.Changes.{change_checked, columns_of}
-use Rattle.mesa_history_spec.specs.mesa_schema.Names.{is_name}
+use Rattle.mesa_history_spec.specs.mesa_columns.Names.{is_name}
 use Rattle.mesa_history_spec.specs.mesa_schema.Recasts.{recast_checked}
-use Rattle.mesa_history_spec.specs.mesa_schema.Schema.{schema_checked}
+use Rattle.mesa_history_spec.specs.mesa_columns.Schema.{schema_checked}
 use Rattle.mesa_history_spec.specs.mesa_batch.Batch.{batch_of}
 use Rattle.mesa_history_spec.specs.mesa_batch.declared.words.RowWords.{RowWords}
 use Rattle.mesa_history_spec.specs.mesa_filter.declared.words.VersionWord.{VersionWord}

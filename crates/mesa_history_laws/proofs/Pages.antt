@@ -8,18 +8,18 @@ use Rattle.std.proofs.lemmas.Bool.{and_from, and_parts, cases_lt, le-ltb, lt-ltb
 use Rattle.std.proofs.lemmas.Cmp.{nat_list_cmp_total, tied_itself}
 use Rattle.std.proofs.lemmas.List.{append-nil, length-drop, take-append-drop, take_all}
 use Rattle.mesa_history_spec.specs.mesa_key.Order.{byte_cmp}
-use Rattle.mesa_history_spec.specs.mesa_schema.declared.rows.Row.{Row}
-use Rattle.mesa_history_spec.specs.mesa_schema.Columns.{Columns, aggs_of, chosen}
-use Rattle.mesa_history_spec.specs.mesa_schema.Folded.{regrouped}
+use Rattle.mesa_history_spec.specs.mesa_columns.declared.rows.Row.{Row}
+use Rattle.mesa_history_spec.specs.mesa_columns.Columns.{Columns, aggs_of, chosen}
+use Rattle.mesa_history_spec.specs.mesa_fold.Folded.{regrouped}
 use Rattle.mesa_history_spec.specs.mesa_filter.Asked.{Asked}
 use Rattle.mesa_history_spec.specs.mesa_filter.Filter.{filtered}
 use Rattle.mesa_history_spec.specs.mesa_model.declared.replies.Page.{Page}
 use Rattle.mesa_history_spec.specs.mesa_model.Page.{last_key, page_from, page_of, rows_after}
 use Rattle.mesa_history_spec.specs.mesa_model.Query.{answer_rows}
-use Rattle.mesa_history_spec.specs.mesa_schema.Rows.{keys_rise}
+use Rattle.mesa_history_spec.specs.mesa_columns.Rows.{keys_rise}
 use Rattle.mesa_history_laws.specs.Pages.{pages_from, rows_left, rows_of_pages}
-use Rattle.mesa_history_spec.proofs.mesa_schema.Lists.{all_filter, all_pass, all_so}
-use Rattle.mesa_history_spec.proofs.mesa_schema.RisingRows.{folded_rise}
+use Rattle.mesa_history_spec.proofs.mesa_columns.Lists.{all_filter, all_pass, all_so}
+use Rattle.mesa_history_spec.proofs.mesa_fold.RisingRows.{folded_rise}
 
 -- ---- keys in order
 

@@ -4,9 +4,9 @@ use Rattle.std.specs.List.{AllByRecursion}
 use Rattle.std.proofs.lemmas.List.{append-nil}
 use Rattle.mesa_history_spec.specs.mesa_list.Checks.{◌>>◌}
 use Rattle.mesa_history_spec.specs.mesa_schema.Changes.{change_checked, columns_of}
-use Rattle.mesa_history_spec.specs.mesa_schema.Names.{is_name}
+use Rattle.mesa_history_spec.specs.mesa_columns.Names.{is_name}
 use Rattle.mesa_history_spec.specs.mesa_schema.Recasts.{recast_checked}
-use Rattle.mesa_history_spec.specs.mesa_schema.Schema.{schema_checked}
+use Rattle.mesa_history_spec.specs.mesa_columns.Schema.{schema_checked}
 use Rattle.mesa_history_spec.specs.mesa_batch.Batch.{batch_of}
 use Rattle.mesa_history_spec.specs.mesa_filter.declared.words.VersionWord.{VersionWord}
 use Rattle.mesa_history_spec.specs.mesa_model.declared.commands.Command.{Command}
@@ -31,7 +31,7 @@ use Rattle.mesa_history_spec.proofs.More.{runs_more}
 use Rattle.mesa_history_laws.specs.Given.{WasGiven, warehouse_after}
 use Rattle.mesa_history_laws.proofs.Checks.{after_check, after_other, after_other_check, after_refuse_if, after_refuse_unless, after_some, after_value}
 use Rattle.mesa_history_laws.proofs.FromTheFold.{asked_there}
-use Rattle.mesa_history_spec.proofs.mesa_schema.Lists.{all_append, all_filter, all_so}
+use Rattle.mesa_history_spec.proofs.mesa_columns.Lists.{all_append, all_filter, all_so}
 use Rattle.mesa_history_laws.proofs.TurnKinds.{Stays, Steps, turned_does}
 use Rattle.mesa_history_laws.proofs.WellFormed.{common_kept, runs_well}
 

@@ -5,10 +5,10 @@ use Rattle.std.proofs.lemmas.Bool.{cond-false, le-ltb}
 use Rattle.std.proofs.lemmas.List.{length-replicate, take_all}
 use Rattle.mesa_history_spec.specs.mesa_list.Checks.{◌>>=◌, ◌>>◌, refused_as}
 use Rattle.mesa_history_spec.specs.mesa_key.declared.KeyType.{KeyType}
-use Rattle.mesa_history_spec.specs.mesa_schema.declared.rows.Row.{Row}
-use Rattle.mesa_history_spec.specs.mesa_schema.Columns.{Columns, chosen, kinds_of}
+use Rattle.mesa_history_spec.specs.mesa_columns.declared.rows.Row.{Row}
+use Rattle.mesa_history_spec.specs.mesa_columns.Columns.{Columns, chosen, kinds_of}
 use Rattle.mesa_history_spec.specs.mesa_schema.Changes.{epoch_of}
-use Rattle.mesa_history_spec.proofs.mesa_schema.KeyLifts.{Spells}
+use Rattle.mesa_history_spec.proofs.mesa_fold.KeyLifts.{Spells}
 use Rattle.mesa_history_spec.specs.mesa_filter.declared.words.QueryError.{QueryError}
 use Rattle.mesa_history_spec.specs.mesa_filter.declared.words.QueryWords.{QueryWords}
 use Rattle.mesa_history_spec.specs.mesa_filter.Asked.{Asked, asked_of}
@@ -17,7 +17,7 @@ use Rattle.mesa_history_spec.specs.mesa_filter.Resume.{resume_of, resume_prefix}
 use Rattle.mesa_history_spec.specs.mesa_model.declared.replies.Page.{Page}
 use Rattle.mesa_history_spec.specs.mesa_model.declared.replies.Refusal.{Refusal}
 use Rattle.mesa_history_spec.specs.mesa_model.Warehouse.{Store, Warehouse}
-use Rattle.mesa_history_spec.specs.mesa_schema.Rows.{keys_rise}
+use Rattle.mesa_history_spec.specs.mesa_columns.Rows.{keys_rise}
 use Rattle.mesa_history_spec.specs.mesa_model.Page.{last_key, page_of, rows_after}
 use Rattle.mesa_history_spec.specs.mesa_model.Relations.{Relation, relation_columns, relation_content, relation_of}
 use Rattle.mesa_history_spec.specs.mesa_model.Refusals.{no_such_table, query_refusal, refuse_closed}
@@ -25,8 +25,8 @@ use Rattle.mesa_history_spec.specs.mesa_model.Query.{Answer, answer_over, answer
 use Rattle.mesa_history_laws.specs.Pages.{ArePagesOf, Asking, IsWholeAnswer, asked_after, from_first, pages_asked, pages_asked_at, pages_from, rows_left, rows_of_pages}
 use Rattle.mesa_history_laws.proofs.AnswersOver.{answer_in}
 use Rattle.mesa_history_laws.proofs.Checks.{bound, bound_other, bound_some, passed}
-use Rattle.mesa_history_spec.proofs.mesa_schema.GroupKeys.{AllSpell}
-use Rattle.mesa_history_spec.proofs.mesa_schema.Lists.{all_filter, all_replicate, all_so}
+use Rattle.mesa_history_spec.proofs.mesa_fold.GroupKeys.{AllSpell}
+use Rattle.mesa_history_spec.proofs.mesa_columns.Lists.{all_filter, all_replicate, all_so}
 use Rattle.mesa_history_laws.proofs.Pages.{answers_rise, consecutive_each, once_each, tells, whole_each}
 use Rattle.mesa_history_laws.proofs.Resuming.{resume_again}
 use Rattle.mesa_history_laws.proofs.StoredRows.{IsStored, answer_spells}

@@ -26,7 +26,7 @@ use Rattle.mesa_history_laws.proofs.Checks.{bound, bound_some, passed}
 use Rattle.mesa_history_laws.proofs.FoldLaw.{law_holds}
 use Rattle.mesa_history_laws.proofs.FromTheFold.{answer_folds, present_folds, seen_in}
 use Rattle.mesa_history_laws.proofs.LaterRelations.{relation_there}
-use Rattle.mesa_history_spec.proofs.mesa_schema.Lists.{all_found}
+use Rattle.mesa_history_spec.proofs.mesa_columns.Lists.{all_found}
 use Rattle.mesa_history_laws.proofs.Pinning.{pins_given}
 use Rattle.mesa_history_laws.proofs.Printing.{pages_answered}
 

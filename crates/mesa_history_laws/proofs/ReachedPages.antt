@@ -14,7 +14,7 @@ use Rattle.mesa_history_spec.specs.Run.{State, begins}
 use Rattle.mesa_history_laws.specs.Given.{WasGiven, warehouse_after}
 use Rattle.mesa_history_laws.specs.Pages.{ArePagesOf, IsWholeAnswer, from_first, pages_asked}
 use Rattle.mesa_history_laws.proofs.Checks.{bound_some}
-use Rattle.mesa_history_spec.proofs.mesa_schema.Lists.{all_found}
+use Rattle.mesa_history_spec.proofs.mesa_columns.Lists.{all_found}
 use Rattle.mesa_history_laws.proofs.Pinning.{pins_given}
 use Rattle.mesa_history_laws.proofs.QueryPages.{pages_of_place}
 use Rattle.mesa_history_laws.proofs.StoredRows.{IsStored, pin_stored, well_stored}

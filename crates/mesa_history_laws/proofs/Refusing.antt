@@ -2,9 +2,9 @@
 use Rattle.std.proofs.Common.{◌≡◌, ℕ, length, refl, Some, None, Result, Ok, Err, is_none, nat_le}
 use Rattle.mesa_history_spec.specs.mesa_list.Checks.{◌>>◌}
 use Rattle.mesa_history_spec.specs.mesa_schema.Changes.{change_checked, columns_of}
-use Rattle.mesa_history_spec.specs.mesa_schema.Names.{is_name}
+use Rattle.mesa_history_spec.specs.mesa_columns.Names.{is_name}
 use Rattle.mesa_history_spec.specs.mesa_schema.Recasts.{recast_checked}
-use Rattle.mesa_history_spec.specs.mesa_schema.Schema.{schema_checked}
+use Rattle.mesa_history_spec.specs.mesa_columns.Schema.{schema_checked}
 use Rattle.mesa_history_spec.specs.mesa_batch.Batch.{batch_of}
 use Rattle.mesa_history_spec.specs.mesa_model.declared.commands.Command.{Command}
 use Rattle.mesa_history_spec.specs.mesa_model.declared.commands.Command.TheVariants as command

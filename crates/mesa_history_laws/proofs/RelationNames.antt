@@ -4,9 +4,9 @@ use Rattle.std.proofs.lemmas.Grind.{flat_map-append}
 use Rattle.std.proofs.lemmas.List.{append-nil, map-append}
 use Rattle.std.proofs.lemmas.List.Folds.{list_any-append}
 use Rattle.mesa_history_spec.specs.mesa_list.Bytes.{same_bytes}
-use Rattle.mesa_history_spec.specs.mesa_schema.declared.views.View.{View}
-use Rattle.mesa_history_spec.specs.mesa_schema.declared.changes.Change.{Change}
-use Rattle.mesa_history_spec.specs.mesa_schema.Names.{has_name, repeated}
+use Rattle.mesa_history_spec.specs.mesa_columns.declared.views.View.{View}
+use Rattle.mesa_history_spec.specs.mesa_columns.declared.changes.Change.{Change}
+use Rattle.mesa_history_spec.specs.mesa_columns.Names.{has_name, repeated}
 use Rattle.mesa_history_spec.specs.mesa_batch.Batch.{Placed}
 use Rattle.mesa_history_spec.specs.mesa_model.declared.commands.ViewWords.{ViewWords}
 use Rattle.mesa_history_spec.specs.mesa_model.Warehouse.{Store, Table}

@@ -9,8 +9,8 @@ use Rattle.mesa_history_spec.specs.mesa_list.Checks.{◌>>=◌, ◌>>◌, refuse
 use Rattle.mesa_history_spec.specs.mesa_key.declared.KeyType.{KeyType}
 use Rattle.mesa_history_spec.specs.mesa_key.Spelling.{is_spelling, key_of}
 use Rattle.mesa_history_spec.proofs.mesa_key.Keys.{spelling_passes}
-use Rattle.mesa_history_spec.specs.mesa_schema.Columns.{Columns, chosen, key_names, kinds_of}
-use Rattle.mesa_history_spec.proofs.mesa_schema.KeyLifts.{Spells}
+use Rattle.mesa_history_spec.specs.mesa_columns.Columns.{Columns, chosen, key_names, kinds_of}
+use Rattle.mesa_history_spec.proofs.mesa_fold.KeyLifts.{Spells}
 use Rattle.mesa_history_spec.specs.mesa_filter.declared.words.QueryError.{QueryError}
 use Rattle.mesa_history_spec.specs.mesa_filter.declared.words.QueryError.TheVariants.{BadResume}
 use Rattle.mesa_history_spec.specs.mesa_filter.Hex.{bytes_of_hex, hex_of}

@@ -2,8 +2,8 @@
 use Rattle.std.proofs.Common.{◌≡◌, ℕ, ◌+◌, ◌*◌, ◌≤◌, ◌&&◌, ◌||◌, List, length, true, not, false, IsTrue, refl, sym, arith, ok_or, nat_le, is_none, Option, Some, None}
 use Rattle.std.specs.Prelude.{Result, Ok, Err, IfOk}
 use Rattle.mesa_history_spec.specs.mesa_list.Checks.{◌>>◌, refuse_if, refuse_unless, refused_as}
-use Rattle.mesa_history_spec.specs.mesa_schema.Names.{is_name}
-use Rattle.mesa_history_spec.specs.mesa_schema.Schema.{schema_checked}
+use Rattle.mesa_history_spec.specs.mesa_columns.Names.{is_name}
+use Rattle.mesa_history_spec.specs.mesa_columns.Schema.{schema_checked}
 use Rattle.mesa_history_spec.specs.mesa_schema.Changes.{columns_of, change_checked}
 use Rattle.mesa_history_spec.specs.mesa_schema.Recasts.{Recast}
 use Rattle.mesa_history_spec.specs.mesa_batch.Batch.{batch_of}

@@ -3,12 +3,12 @@ use Rattle.std.proofs.Common.{◌≡◌, ℕ, zero, suc, ◌+◌, ◌-◌, ◌�
 use Rattle.std.specs.Prelude.{max, option_map}
 use Rattle.std.proofs.lemmas.List.{append-nil, get_or-drop, get_or_append_left, length-append}
 use Rattle.std.proofs.lemmas.Option.{get_or_from_slice_get, slice_get-map}
-use Rattle.mesa_history_spec.specs.mesa_schema.declared.changes.Change.{Change}
-use Rattle.mesa_history_spec.specs.mesa_schema.declared.rows.Row.{Row}
-use Rattle.mesa_history_spec.specs.mesa_schema.declared.views.View.{View}
-use Rattle.mesa_history_spec.specs.mesa_schema.Columns.{aggs_of}
+use Rattle.mesa_history_spec.specs.mesa_columns.declared.changes.Change.{Change}
+use Rattle.mesa_history_spec.specs.mesa_columns.declared.rows.Row.{Row}
+use Rattle.mesa_history_spec.specs.mesa_columns.declared.views.View.{View}
+use Rattle.mesa_history_spec.specs.mesa_columns.Columns.{aggs_of}
 use Rattle.mesa_history_spec.specs.mesa_schema.Changes.{columns_of}
-use Rattle.mesa_history_spec.specs.mesa_schema.Folded.{folded}
+use Rattle.mesa_history_spec.specs.mesa_fold.Folded.{folded}
 use Rattle.mesa_history_spec.specs.mesa_schema.Recasts.{Recast}
 use Rattle.mesa_history_spec.specs.mesa_batch.Batch.{Placed, rows_for}
 use Rattle.mesa_history_spec.specs.mesa_model.declared.commands.Script.{Script}
@@ -22,7 +22,7 @@ use Rattle.mesa_history_spec.specs.mesa_model.Versions.{store_from, table_from}
 use Rattle.mesa_history_spec.specs.Run.{Run}
 use Rattle.mesa_history_spec.specs.Replay.{go, runs}
 use Rattle.mesa_history_laws.specs.Later.{IsLater}
-use Rattle.mesa_history_spec.proofs.mesa_schema.Lists.{all_got}
+use Rattle.mesa_history_spec.proofs.mesa_columns.Lists.{all_got}
 use Rattle.mesa_history_laws.proofs.Moves.{Moves, viewed}
 use Rattle.mesa_history_laws.proofs.Turns.{go_moves}
 use Rattle.mesa_history_laws.proofs.WellFormed.{go_well}

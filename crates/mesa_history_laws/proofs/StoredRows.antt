@@ -2,13 +2,13 @@
 use Rattle.std.proofs.Common.{◌≡◌, ℕ, ◌-◌, List, [], refl, subst, Option, Some, None}
 use Rattle.std.specs.List.{AllByRecursion}
 use Rattle.mesa_history_spec.specs.mesa_key.declared.KeyType.{KeyType}
-use Rattle.mesa_history_spec.specs.mesa_schema.declared.columns.KeyColumn.{KeyColumn}
-use Rattle.mesa_history_spec.specs.mesa_schema.declared.rows.Row.{Row}
-use Rattle.mesa_history_spec.specs.mesa_schema.declared.views.View.{View}
-use Rattle.mesa_history_spec.specs.mesa_schema.Columns.{Columns, chosen, kinds_of}
+use Rattle.mesa_history_spec.specs.mesa_columns.declared.columns.KeyColumn.{KeyColumn}
+use Rattle.mesa_history_spec.specs.mesa_columns.declared.rows.Row.{Row}
+use Rattle.mesa_history_spec.specs.mesa_columns.declared.views.View.{View}
+use Rattle.mesa_history_spec.specs.mesa_columns.Columns.{Columns, chosen, kinds_of}
 use Rattle.mesa_history_spec.specs.mesa_schema.Changes.{columns_of}
 use Rattle.mesa_history_spec.specs.mesa_schema.Views.{view_key_places, view_rows, view_value_places}
-use Rattle.mesa_history_spec.proofs.mesa_schema.KeyLifts.{Spells}
+use Rattle.mesa_history_spec.proofs.mesa_fold.KeyLifts.{Spells}
 use Rattle.mesa_history_spec.specs.mesa_filter.Asked.{Asked}
 use Rattle.mesa_history_spec.specs.mesa_filter.Filter.{filtered}
 use Rattle.mesa_history_spec.specs.mesa_model.Warehouse.{Store, Table, Warehouse, content_at}
@@ -18,8 +18,8 @@ use Rattle.mesa_history_spec.specs.mesa_model.Pins.{store_at, table_pinned}
 use Rattle.mesa_history_spec.specs.mesa_model.Query.{answer_rows}
 use Rattle.mesa_history_laws.proofs.AnswersOver.{columns_seen, rows_seen}
 use Rattle.mesa_history_laws.proofs.LaterRelations.{relation_there}
-use Rattle.mesa_history_spec.proofs.mesa_schema.GroupKeys.{AllSpell, chosen_mapped, grouped_spell, rows_spell}
-use Rattle.mesa_history_spec.proofs.mesa_schema.Lists.{all_at, all_filter, all_got, all_map, all_so}
+use Rattle.mesa_history_spec.proofs.mesa_fold.GroupKeys.{AllSpell, chosen_mapped, grouped_spell, rows_spell}
+use Rattle.mesa_history_spec.proofs.mesa_columns.Lists.{all_at, all_filter, all_got, all_map, all_so}
 
 -- each content of each table has the form of its columns
 abbrev HasContents : Table → Type 0

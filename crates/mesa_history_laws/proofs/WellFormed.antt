@@ -5,19 +5,20 @@ use Rattle.std.specs.Prelude.{max}
 use Rattle.std.proofs.lemmas.Bool.{and_parts, eqb-true, leb-false, lt-ltb, ltb-false, ltb-true, or_cases, or_left}
 use Rattle.std.proofs.lemmas.List.{length-append, length-drop, length-map, length-replicate}
 use Rattle.std.proofs.lemmas.Option.{slice_get-get_or}
-use Rattle.mesa_history_spec.specs.mesa_schema.declared.rows.Row.{Row}
-use Rattle.mesa_history_spec.specs.mesa_schema.declared.changes.Change.{Change}
-use Rattle.mesa_history_spec.specs.mesa_schema.Columns.{Columns, aggs_of}
-use Rattle.mesa_history_spec.specs.mesa_schema.Changes.{change_checked, changed, columns_of, lifted_once, rule_checked}
-use Rattle.mesa_history_spec.specs.mesa_schema.Folded.{folded, rows_of}
+use Rattle.mesa_history_spec.specs.mesa_columns.declared.rows.Row.{Row}
+use Rattle.mesa_history_spec.specs.mesa_columns.declared.changes.Change.{Change}
+use Rattle.mesa_history_spec.specs.mesa_columns.Columns.{Columns, aggs_of}
+use Rattle.mesa_history_spec.specs.mesa_columns.Changes.{changed, lifted_once}
+use Rattle.mesa_history_spec.specs.mesa_schema.Changes.{change_checked, columns_of, rule_checked}
+use Rattle.mesa_history_spec.specs.mesa_fold.Folded.{folded, rows_of}
 use Rattle.mesa_history_spec.specs.mesa_schema.Recasts.{Recast, recast_checked, recast_columns, recast_rows}
-use Rattle.mesa_history_spec.specs.mesa_schema.Names.{repeated}
-use Rattle.mesa_history_spec.specs.mesa_schema.Schema.{schema_checked}
+use Rattle.mesa_history_spec.specs.mesa_columns.Names.{repeated}
+use Rattle.mesa_history_spec.specs.mesa_columns.Schema.{schema_checked}
 use Rattle.mesa_history_spec.specs.mesa_schema.Lineages.{HasDefault}
-use Rattle.mesa_history_spec.specs.mesa_schema.Rows.{AreRowsOf, IsRowOf}
-use Rattle.mesa_history_spec.proofs.mesa_schema.Forms.{folded_form}
+use Rattle.mesa_history_spec.specs.mesa_columns.Rows.{AreRowsOf, IsRowOf}
+use Rattle.mesa_history_spec.proofs.mesa_fold.Forms.{folded_form}
 use Rattle.mesa_history_spec.proofs.mesa_schema.Passing.{passed_first, passed_if, passed_last}
-use Rattle.mesa_history_spec.proofs.mesa_schema.Places.{place_named}
+use Rattle.mesa_history_spec.proofs.mesa_columns.Places.{place_named}
 use Rattle.mesa_history_spec.specs.mesa_batch.declared.words.RowWords.{RowWords}
 use Rattle.mesa_history_spec.specs.mesa_batch.Batch.{Placed, batch_of, rows_for}
 use Rattle.mesa_history_spec.specs.mesa_model.declared.commands.Command.{Command}
@@ -41,9 +42,10 @@ use Rattle.mesa_history_laws.proofs.Lineages.{change_default, lineage_viewed}
 use Rattle.mesa_history_spec.proofs.mesa_schema.LineageChanges.{lineage_changed, lineage_new}
 use Rattle.mesa_history_spec.proofs.mesa_schema.LineageRecasts.{lineage_recast}
 use Rattle.mesa_history_spec.proofs.mesa_schema.Recasting.{recast_form, recast_rise}
-use Rattle.mesa_history_spec.proofs.mesa_schema.Lists.{all_append, all_drop, all_from_got, all_got, all_map, all_replicate, all_set, all_so}
+use Rattle.mesa_history_spec.proofs.mesa_columns.Lists.{all_append, all_drop, all_from_got, all_got, all_map, all_replicate, all_set, all_so}
 use Rattle.mesa_history_laws.proofs.Moves.{Moves, step_moves, viewed}
-use Rattle.mesa_history_spec.proofs.mesa_schema.RisingRows.{folded_rise, lifted_rise}
+use Rattle.mesa_history_spec.proofs.mesa_fold.RisingRows.{folded_rise}
+use Rattle.mesa_history_spec.proofs.mesa_schema.RisingRows.{lifted_rise}
 use Rattle.mesa_history_laws.proofs.Recasts.{ok_is, recast_there}
 use Rattle.mesa_history_laws.proofs.RelationNames.{names_changed, names_loaded, names_mapped, names_pushed, names_set, names_viewed}
 use Rattle.mesa_history_laws.proofs.Turns.{go_moves}

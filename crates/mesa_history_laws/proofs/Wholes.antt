@@ -2,12 +2,12 @@
 use Rattle.std.proofs.Common.{◌≡◌, ℕ, zero, suc, ◌+◌, ◌-◌, ◌<◌, ◌≤◌, List, [], ◌∷◌, length, get_or, refl, ◌∙◌, ap, arith, Some, Result, Ok, Err, nat_le, inl, inr}
 use Rattle.std.proofs.lemmas.List.{get_or_append_left, get_or_push}
 use Rattle.std.proofs.lemmas.Option.{slice_get-get_or}
-use Rattle.mesa_history_spec.specs.mesa_schema.declared.rows.Row.{Row}
-use Rattle.mesa_history_spec.specs.mesa_schema.declared.views.View.{View}
-use Rattle.mesa_history_spec.specs.mesa_schema.Columns.{aggs_of}
+use Rattle.mesa_history_spec.specs.mesa_columns.declared.rows.Row.{Row}
+use Rattle.mesa_history_spec.specs.mesa_columns.declared.views.View.{View}
+use Rattle.mesa_history_spec.specs.mesa_columns.Columns.{aggs_of}
 use Rattle.mesa_history_spec.specs.mesa_schema.Views.{view_key_places, view_value_places}
 use Rattle.mesa_history_spec.specs.mesa_schema.Changes.{columns_of}
-use Rattle.mesa_history_spec.specs.mesa_schema.Folded.{folded, grouped}
+use Rattle.mesa_history_spec.specs.mesa_fold.Folded.{folded, grouped}
 use Rattle.mesa_history_spec.specs.mesa_batch.declared.words.RowWords.{RowWords}
 use Rattle.mesa_history_spec.specs.mesa_batch.Batch.{Placed, batch_of, rows_for}
 use Rattle.mesa_history_spec.specs.mesa_model.declared.commands.Command.TheVariants as command
@@ -22,7 +22,7 @@ use Rattle.mesa_history_spec.specs.mesa_model.Refusals.{refuse_closed}
 use Rattle.mesa_history_laws.specs.Whole.{HasBatch, HasWhole, IsWholeOrNone}
 use Rattle.mesa_history_laws.proofs.Checks.{after_check, after_other, after_refuse_if}
 use Rattle.mesa_history_laws.proofs.LawLoads.{length_loaded, newest_last}
-use Rattle.mesa_history_spec.proofs.mesa_schema.Lists.{all_got}
+use Rattle.mesa_history_spec.proofs.mesa_columns.Lists.{all_got}
 use Rattle.mesa_history_laws.proofs.WellFormed.{kept_there}
 
 -- the table of a number after a load

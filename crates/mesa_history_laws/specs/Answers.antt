@@ -1,8 +1,8 @@
 -- Answers over the contents that the fold law gives.
 use Rattle.std.specs.Prelude.{◌≡◌, ℕ, List, Option, Some, None, Ok}
-use Rattle.mesa_history_spec.specs.mesa_schema.declared.rows.Row.{Row}
-use Rattle.mesa_history_spec.specs.mesa_schema.declared.views.View.{View}
-use Rattle.mesa_history_spec.specs.mesa_schema.Columns.{Columns}
+use Rattle.mesa_history_spec.specs.mesa_columns.declared.rows.Row.{Row}
+use Rattle.mesa_history_spec.specs.mesa_columns.declared.views.View.{View}
+use Rattle.mesa_history_spec.specs.mesa_columns.Columns.{Columns}
 use Rattle.mesa_history_spec.specs.mesa_schema.Changes.{columns_of, epoch_of}
 use Rattle.mesa_history_spec.specs.mesa_schema.Views.{view_rows}
 use Rattle.mesa_history_spec.specs.mesa_filter.declared.words.QueryWords.{QueryWords}

@@ -1,11 +1,11 @@
 -- Pages of one answer that are asked for one after another.
 use Rattle.std.specs.Prelude.{IsTrue, ◌≡◌, ◌<◌, length, ℕ, replicate, List, [], ◌∷◌, ◌++◌, flat_map, Option, Some, None, Ok, Err}
-use Rattle.mesa_history_spec.specs.mesa_schema.declared.rows.Row.{Row}
+use Rattle.mesa_history_spec.specs.mesa_columns.declared.rows.Row.{Row}
 use Rattle.mesa_history_spec.specs.mesa_filter.Hex.{hex_of}
 use Rattle.mesa_history_spec.specs.mesa_filter.declared.words.QueryWords.{QueryWords}
 use Rattle.mesa_history_spec.specs.mesa_model.declared.replies.Page.{Page}
 use Rattle.mesa_history_spec.specs.mesa_model.Warehouse.{Warehouse}
-use Rattle.mesa_history_spec.specs.mesa_schema.Rows.{keys_rise}
+use Rattle.mesa_history_spec.specs.mesa_columns.Rows.{keys_rise}
 use Rattle.mesa_history_spec.specs.mesa_model.Query.{Answer, query_answer}
 use Rattle.mesa_history_spec.specs.mesa_model.Page.{page_of, rows_after}
 

@@ -16,9 +16,9 @@ ghost use Rattle.mesa_history_spec.specs.mesa_model.Step.{step};
 ghost use Rattle.mesa_history_spec.specs.mesa_model.Warehouse.{Table, Warehouse, content_at};
 ghost use Rattle.mesa_history_spec.specs.mesa_model.WellFormed.{IsWellFormed};
 ghost use Rattle.mesa_history_spec.specs.mesa_schema.Changes.{columns_of};
-ghost use Rattle.mesa_history_spec.specs.mesa_schema.Folded.{grouped};
+ghost use Rattle.mesa_history_spec.specs.mesa_fold.Folded.{grouped};
 ghost use Rattle.mesa_history_spec.specs.mesa_schema.Views.{view_key_places, view_value_places};
-ghost use Rattle.mesa_history_spec.specs.mesa_schema.declared.views.View.{View};
+ghost use Rattle.mesa_history_spec.specs.mesa_columns.declared.views.View.{View};
 
 /// A load adds its batch to all tables at once, or to none, and there are as many versions more as
 /// batches were accepted, which are written of every table; whatever is refused changes nothing; and

@@ -13,10 +13,10 @@ ghost use Rattle.mesa_history_spec.specs.mesa_model.declared.entries.Entry.{Entr
 ghost use Rattle.mesa_history_spec.specs.mesa_model.Page.{page_of, rows_after};
 ghost use Rattle.mesa_history_spec.specs.mesa_model.Query.{Answer, answer_rows, query_answer};
 ghost use Rattle.mesa_history_spec.specs.mesa_model.Warehouse.{Warehouse};
-ghost use Rattle.mesa_history_spec.specs.mesa_schema.Rows.{keys_rise};
+ghost use Rattle.mesa_history_spec.specs.mesa_columns.Rows.{keys_rise};
 ghost use Rattle.mesa_history_spec.specs.mesa_model.WellFormed.{IsWellFormed};
-ghost use Rattle.mesa_history_spec.specs.mesa_schema.Columns.{Columns};
-ghost use Rattle.mesa_history_spec.specs.mesa_schema.declared.rows.Row.{Row};
+ghost use Rattle.mesa_history_spec.specs.mesa_columns.Columns.{Columns};
+ghost use Rattle.mesa_history_spec.specs.mesa_columns.declared.rows.Row.{Row};
 
 /// Pages of one answer, each asked for after the resume key of the page before it, are consecutive
 /// parts of the answer's rows, and no row comes twice. A limit of 0 would skip a row whose key has

@@ -3,10 +3,10 @@ use Rattle.std.proofs.Common.{◌≡◌, ℕ, ◌+◌, List, [], ◌∷◌, ◌+
 use Rattle.std.specs.Prelude.{if◌then◌else◌, max}
 use Rattle.mesa_script.specs.mesa_list.Bytes.{same_bytes}
 use Rattle.mesa_script.specs.mesa_list.Checks.{◌>>=◌, ◌>>◌, refuse_if, refuse_unless, refused_as}
-use Rattle.mesa_script.specs.mesa_schema.declared.views.View.{View}
-use Rattle.mesa_script.specs.mesa_schema.Names.{is_name}
-use Rattle.mesa_script.specs.mesa_schema.Columns.{place_of}
-use Rattle.mesa_script.specs.mesa_schema.Schema.{schema_checked}
+use Rattle.mesa_script.specs.mesa_columns.declared.views.View.{View}
+use Rattle.mesa_script.specs.mesa_columns.Names.{is_name}
+use Rattle.mesa_script.specs.mesa_columns.Columns.{place_of}
+use Rattle.mesa_script.specs.mesa_columns.Schema.{schema_checked}
 use Rattle.mesa_script.specs.mesa_schema.Changes.{Lineage, columns_of, epoch_of, change_checked}
 use Rattle.mesa_script.specs.mesa_schema.Recasts.{Recast, recast_checked}
 use Rattle.mesa_script.specs.mesa_batch.declared.words.RowWords.{RowWords}

@@ -3,9 +3,9 @@ use Rattle.std.proofs.Common.{◌≡◌, ℕ, suc, ◌+◌, ◌<◌, ◌≤◌, 
 use Rattle.std.specs.Prelude.{Result, Ok, Err, IfOk}
 use Rattle.std.proofs.lemmas.List.{length-append, length-set, length-map}
 use Rattle.mesa_script.specs.mesa_list.Checks.{◌>>◌, refuse_if, refuse_unless, refused_as}
-use Rattle.mesa_script.specs.mesa_schema.Names.{is_name}
-use Rattle.mesa_script.specs.mesa_schema.Schema.{schema_checked}
-use Rattle.mesa_script.specs.mesa_schema.declared.changes.Change.{Change}
+use Rattle.mesa_script.specs.mesa_columns.Names.{is_name}
+use Rattle.mesa_script.specs.mesa_columns.Schema.{schema_checked}
+use Rattle.mesa_script.specs.mesa_columns.declared.changes.Change.{Change}
 use Rattle.mesa_script.specs.mesa_schema.Changes.{columns_of, change_checked}
 use Rattle.mesa_script.specs.mesa_batch.declared.words.RowWords.{RowWords}
 use Rattle.mesa_script.specs.mesa_batch.Batch.{Placed, batch_of}

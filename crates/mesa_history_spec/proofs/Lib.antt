@@ -1,4 +1,6 @@
 pub use Rattle.mesa_script.proofs.mesa_batch as mesa_batch
+pub use Rattle.mesa_script.proofs.mesa_columns as mesa_columns
+pub use Rattle.mesa_script.proofs.mesa_fold as mesa_fold
 pub use Rattle.mesa_script.proofs.mesa_key as mesa_key
 pub use Rattle.mesa_script.proofs.mesa_schema as mesa_schema
 pub use Rattle.mesa_span.proofs as mesa_span

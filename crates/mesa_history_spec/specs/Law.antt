@@ -1,9 +1,9 @@
 -- The fold law: after any history each content is the fold of what stood at the start and of the batches accepted since, each carried to the present.
 use Rattle.std.specs.Prelude.{◌≡◌, ℕ, ◌-◌, ◌<◌, ◌≤◌, ◌==◌, List, [], ◌∷◌, ◌++◌, map, nat_lt, if◌then◌else◌, Option, Some, None, slice_get, Result, Ok, Err}
-use Rattle.mesa_script.specs.mesa_schema.declared.rows.Row.{Row}
-use Rattle.mesa_script.specs.mesa_schema.Columns.{aggs_of}
+use Rattle.mesa_script.specs.mesa_columns.declared.rows.Row.{Row}
+use Rattle.mesa_script.specs.mesa_columns.Columns.{aggs_of}
 use Rattle.mesa_script.specs.mesa_schema.Changes.{columns_of, epoch_of}
-use Rattle.mesa_script.specs.mesa_schema.Folded.{folded}
+use Rattle.mesa_script.specs.mesa_fold.Folded.{folded}
 use Rattle.mesa_script.specs.mesa_schema.Recasts.{Recast}
 use Rattle.mesa_script.specs.mesa_batch.declared.words.BatchError.{BatchError}
 use Rattle.mesa_script.specs.mesa_batch.Batch.{Placed, batch_of, rows_for}

@@ -1,6 +1,8 @@
 pub use Rattle.mesa_script.specs.mesa_batch as mesa_batch
+pub use Rattle.mesa_script.specs.mesa_columns as mesa_columns
 pub use Rattle.mesa_script.specs.mesa_file as mesa_file
 pub use Rattle.mesa_script.specs.mesa_filter as mesa_filter
+pub use Rattle.mesa_script.specs.mesa_fold as mesa_fold
 pub use Rattle.mesa_script.specs.mesa_key as mesa_key
 pub use Rattle.mesa_lease.specs as mesa_lease
 pub use Rattle.mesa_script.specs.mesa_list as mesa_list

@@ -1,6 +1,6 @@
 -- The rows of the files that a store holds when a run begins.
 use Rattle.std.specs.Prelude.{ℕ, List, []}
-use Rattle.mesa_script.specs.mesa_schema.declared.rows.Row.{Row}
+use Rattle.mesa_script.specs.mesa_columns.declared.rows.Row.{Row}
 
 -- the rows of each file, by the file's id
 abbrev pub Rows : Type 0

@@ -1,9 +1,9 @@
 -- Sources: the rows of a table as they were written, and what a recast carries them to.
 use Rattle.std.specs.Prelude.{ℕ, List, map, filter, ◌&&◌, nat_le}
-use Rattle.mesa_script.specs.mesa_schema.declared.rows.Row.{Row}
-use Rattle.mesa_script.specs.mesa_schema.Columns.{aggs_of}
+use Rattle.mesa_script.specs.mesa_columns.declared.rows.Row.{Row}
+use Rattle.mesa_script.specs.mesa_columns.Columns.{aggs_of}
 use Rattle.mesa_script.specs.mesa_schema.Changes.{Lineage, columns_at, columns_of, epoch_of, lifted}
-use Rattle.mesa_script.specs.mesa_schema.Folded.{folded}
+use Rattle.mesa_script.specs.mesa_fold.Folded.{folded}
 use Rattle.mesa_script.specs.mesa_schema.Recasts.{Recast, recast_lineage, recast_rows}
 
 -- Rows of a table, and the epoch whose columns they have.

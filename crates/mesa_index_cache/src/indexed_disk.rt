@@ -2,11 +2,11 @@
 ghost use Rattle.std.specs.Prelude.{◌≡◌};
 
 use crate::indexes::Indexes;
+use mesa_columns::Schema;
 use mesa_delta::Index;
 use mesa_disk::{Area, Disk, DiskFailed, ListFault, Made, OpenFault};
 use mesa_file::{FileId, FileRef};
 use mesa_open_files::DeltaDisk;
-use mesa_columns::Schema;
 use std::alloc::Global;
 use std::marker::{Model, PhantomData};
 

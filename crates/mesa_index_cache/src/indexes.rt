@@ -7,9 +7,9 @@ ghost use Rattle.mesa_delta.specs.Summary.{file_layout};
 ghost use Rattle.mesa_index_cache.specs.Kept.{AreWith, AreWithout, index_kept};
 
 use crate::kept::Kept;
+use mesa_columns::Schema;
 use mesa_delta::Index;
 use mesa_file::{FileId, FileRef};
-use mesa_columns::Schema;
 use std::alloc::Global;
 use std::collections::BTreeMap;
 

@@ -6,10 +6,10 @@ ghost use Rattle.mesa_delta.specs.Places.{tail_spelled};
 ghost use Rattle.mesa_delta.specs.Summary.{file_layout};
 
 use crate::same::same_columns;
+use mesa_columns::Schema;
 use mesa_delta::Index;
 use mesa_file::FileRef;
 use mesa_key::short;
-use mesa_columns::Schema;
 
 /// The index of a file, and the SHA-256 of the tail that tells it.
 #[derive(Drop)]

@@ -1,5 +1,5 @@
+pub use Rattle.mesa_history_spec.proofs.mesa_columns as mesa_columns
 pub use Rattle.mesa_history_spec.proofs as mesa_history_spec
-pub use Rattle.mesa_history_spec.proofs.mesa_schema as mesa_schema
 pub mod Printed
 pub mod Clock
 pub mod Steps

@@ -2,10 +2,10 @@
 use Rattle.std.proofs.Common.{◌≡◌, ℕ, ◌+◌, List, [], ◌∷◌, ◌++◌, length, Bool, true, refl, sym, ◌∙◌, ap, IsTrue, None, Option, Some, Result, Ok, Err, ok_or}
 use Rattle.std.specs.Prelude.{nat_le}
 use Rattle.mesa_history_spec.specs.mesa_list.Checks.{◌>>=◌, ◌>>◌, refuse_if, refuse_unless, refused_as}
-use Rattle.mesa_history_spec.specs.mesa_schema.declared.changes.Change.{Change}
+use Rattle.mesa_history_spec.specs.mesa_columns.declared.changes.Change.{Change}
 use Rattle.mesa_history_spec.specs.mesa_schema.Changes.{change_checked, columns_of, epoch_of}
-use Rattle.mesa_history_spec.specs.mesa_schema.Names.{is_name}
-use Rattle.mesa_history_spec.specs.mesa_schema.Schema.{schema_checked}
+use Rattle.mesa_history_spec.specs.mesa_columns.Names.{is_name}
+use Rattle.mesa_history_spec.specs.mesa_columns.Schema.{schema_checked}
 use Rattle.mesa_history_spec.specs.mesa_schema.Views.{with_view}
 use Rattle.mesa_history_spec.specs.mesa_batch.Batch.{Placed, batch_of}
 use Rattle.mesa_history_spec.specs.mesa_batch.declared.words.RowWords.{RowWords}

@@ -1,4 +1,5 @@
 pub use Rattle.mesa_history_spec.specs.mesa_batch as mesa_batch
+pub use Rattle.mesa_history_spec.specs.mesa_columns as mesa_columns
 pub use Rattle.mesa_history_spec.specs.mesa_file as mesa_file
 pub use Rattle.mesa_history_spec.specs.mesa_filter as mesa_filter
 pub use Rattle.mesa_history_spec.specs as mesa_history_spec

@@ -1,3 +1,4 @@
+pub use Rattle.mesa_value.proofs.mesa_list as mesa_list
 pub mod Columns
 pub mod Cuts
 pub mod Eights

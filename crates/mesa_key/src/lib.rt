@@ -15,7 +15,7 @@ pub use encoding::{encode, encode_int, encode_text};
 pub use key_columns::{Column, KeyColumns, spells_key};
 pub use laws::{orders_bytes_as_keys, reads_back, reads_spellings, spells_once};
 pub use lent::ColumnValue;
-pub use mesa_value::{Agg, Amount, Items, TryCopy, Values, combine, combines};
+pub use mesa_value::{Agg, Amount, Items, TryCopy, Values, combine, combines, put_bytes};
 pub use order::{compare, short};
 pub use text::KeyText;
 

@@ -8,14 +8,14 @@ use Rattle.std.specs.declared.cmp.Ordering.TheVariants.{Less, Equal, Greater}
 use Rattle.std.specs.FinMap.Entries.{by_order}
 use Rattle.std.proofs.lemmas.Bool.{and_parts, le-leb}
 use Rattle.std.proofs.lemmas.List.{length-map}
-use Rattle.mesa_answer.specs.mesa_value.declared.Agg.{Agg}
-use Rattle.mesa_answer.specs.mesa_value.declared.Agg.TheVariants as agg
-use Rattle.mesa_answer.specs.mesa_key.Order.{byte_cmp}
-use Rattle.mesa_schema.specs.declared.rows.Row.{Row}
-use Rattle.mesa_schema.specs.declared.views.View.{View}
-use Rattle.mesa_schema.specs.Columns.{Columns, aggs_of, chosen}
-use Rattle.mesa_schema.specs.Folded.{folded, folded_at, keys_of, regrouped, rows_of, with_key}
-use Rattle.mesa_schema.specs.Rows.{keys_rise}
+use Rattle.mesa_open_files.specs.mesa_value.declared.Agg.{Agg}
+use Rattle.mesa_open_files.specs.mesa_value.declared.Agg.TheVariants as agg
+use Rattle.mesa_delta.specs.mesa_key.Order.{byte_cmp}
+use Rattle.mesa_open_files.specs.mesa_columns.declared.rows.Row.{Row}
+use Rattle.mesa_open_files.specs.mesa_columns.declared.views.View.{View}
+use Rattle.mesa_open_files.specs.mesa_columns.Columns.{Columns, aggs_of, chosen}
+use Rattle.mesa_open_files.specs.mesa_fold.Folded.{folded, folded_at, keys_of, regrouped, rows_of, with_key}
+use Rattle.mesa_open_files.specs.mesa_columns.Rows.{keys_rise}
 use Rattle.mesa_schema.specs.Views.{view_key_places, view_rows, view_value_places}
 use Rattle.mesa_batch.specs.Totals.{abs_total, abs_totals, sum_bound, sum_places}
 use Rattle.mesa_open_files.specs.mesa_block.Rows.{Rise}

@@ -6,12 +6,12 @@ use Rattle.std.proofs.lemmas.Bool.{le-leb, leb-true}
 use Rattle.std.proofs.lemmas.Grind.{flat_map-append}
 use Rattle.std.proofs.lemmas.List.{length-take-le}
 use Rattle.std.proofs.lemmas.List.Folds.{list_any-append}
-use Rattle.mesa_schema.specs.declared.rows.Row.{Row}
-use Rattle.mesa_schema.specs.Columns.{Columns, aggs_of}
+use Rattle.mesa_open_files.specs.mesa_columns.declared.rows.Row.{Row}
+use Rattle.mesa_open_files.specs.mesa_columns.Columns.{Columns, aggs_of}
 use Rattle.mesa_schema.specs.Changes.{Lineage, columns_of}
-use Rattle.mesa_schema.specs.Folded.{folded}
-use Rattle.mesa_schema.specs.Laws.{FoldsRise}
-use Rattle.mesa_schema.specs.Rows.{AreRowsOf, keys_rise}
+use Rattle.mesa_open_files.specs.mesa_fold.Folded.{folded}
+use Rattle.mesa_open_files.specs.mesa_fold.Laws.{FoldsRise}
+use Rattle.mesa_open_files.specs.mesa_columns.Rows.{AreRowsOf, keys_rise}
 use Rattle.mesa_batch.specs.Batch.{Placed, columns_at, rows_for}
 use Rattle.mesa_batch.specs.Gathered.{Batched, columns_for, rows_at}
 use Rattle.mesa_batch.specs.Glance.{Known, Sight, columns_in, tables_of}

@@ -1,8 +1,8 @@
 -- Files that are written side by side.
 use Rattle.std.specs.Prelude.{◌≡◌, ◌<◌, ℕ, List, [], ◌∷◌, length, slice_index_or, Option, None, Some, IfSome, ⊤}
 use Rattle.mesa_open_files.specs.mesa_io.Causes.{Rose}
-use Rattle.mesa_schema.specs.declared.rows.Row.{Row}
-use Rattle.mesa_schema.specs.declared.views.View.{View}
+use Rattle.mesa_open_files.specs.mesa_columns.declared.rows.Row.{Row}
+use Rattle.mesa_open_files.specs.mesa_columns.declared.views.View.{View}
 use Rattle.mesa_schema.specs.Changes.{Lineage, columns_of}
 use Rattle.mesa_batch.specs.Gathered.{rows_at}
 use Rattle.mesa_delta.specs.declared.error.WriteError.{WriteError}

@@ -2,7 +2,7 @@
 ghost use Rattle.std.specs.Prelude.{◌≡◌, ◌<◌, ℕ, List, [], Some, length, slice_index_or, IfOk, IfSome};
 ghost use Rattle.std.specs.List.{AllByRecursion};
 ghost use Rattle.std.specs.Thread.{IsSend};
-ghost use Rattle.mesa_schema.specs.Rows.{AreRowsOf};
+ghost use Rattle.mesa_open_files.specs.mesa_columns.Rows.{AreRowsOf};
 ghost use Rattle.mesa_batch.specs.Gathered.{rows_at};
 ghost use Rattle.mesa_load.specs.declared.building.FileToWrite.{FileToWrite as AnyFileToWrite};
 ghost use Rattle.mesa_load.specs.Collected.{HasCause, IsBegun};

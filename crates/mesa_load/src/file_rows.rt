@@ -1,6 +1,6 @@
 // The rows of one file.
 ghost use Rattle.std.specs.Prelude.{◌≡◌, ◌<◌, Some, length, slice_get};
-ghost use Rattle.mesa_schema.specs.Lent.{lent};
+ghost use Rattle.mesa_open_files.specs.mesa_columns.Lent.{lent};
 ghost use Rattle.mesa_load.specs.Filing.{file_rows};
 
 use mesa_batch::Batch;

@@ -1,9 +1,9 @@
 // The content of a view over a batch's rows.
 ghost use Rattle.std.specs.Prelude.{◌≡◌, ◌<◌, List, [], ◌∷◌, ◌++◌, length, IfOk, OnOk};
-ghost use Rattle.mesa_schema.specs.declared.rows.Row.{Row as AnyRow};
+ghost use Rattle.mesa_open_files.specs.mesa_columns.declared.rows.Row.{Row as AnyRow};
 ghost use Rattle.mesa_schema.specs.Changes.{columns_of};
-ghost use Rattle.mesa_schema.specs.Lent.{lent};
-ghost use Rattle.mesa_schema.specs.Rows.{AreRowsOf, IsRowOf};
+ghost use Rattle.mesa_open_files.specs.mesa_columns.Lent.{lent};
+ghost use Rattle.mesa_open_files.specs.mesa_columns.Rows.{AreRowsOf, IsRowOf};
 ghost use Rattle.mesa_schema.specs.Views.{view_columns, view_rows};
 ghost use Rattle.mesa_batch.specs.Gathered.{rows_at};
 ghost use Rattle.mesa_answer.specs.Answering.{KeepsSums};

@@ -1,7 +1,7 @@
 -- Inputs of which blocks were read ahead.
 use Rattle.std.proofs.Common.{◌≡◌, ℕ, zero, suc, ◌<◌, List, [], ◌∷◌, get_or, length, set, refl, sym, ◌∙◌, ap, subst, arith}
 use Rattle.std.specs.Prelude.{IfSome, Option, Some, slice_get}
-use Rattle.mesa_schema.specs.declared.rows.Row.{Row}
+use Rattle.mesa_scan.specs.mesa_columns.declared.rows.Row.{Row}
 use Rattle.mesa_delta.specs.Ahead.{AreAhead, AreOfFile, IsOfFile, Told, Untested}
 use Rattle.mesa_delta.specs.Reading.{index_of}
 use Rattle.mesa_delta.specs.declared.input.Input.{Input}

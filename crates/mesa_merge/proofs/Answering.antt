@@ -2,7 +2,7 @@
 use Rattle.std.proofs.Common.{◌≡◌, ap, false}
 use Rattle.std.specs.Prelude.{ℕ, List, Bool, Option, None, Result, Ok, Err, IfOk, IfErr}
 use Rattle.std.specs.Bool.{then_some}
-use Rattle.mesa_schema.specs.declared.rows.Row.{Row}
+use Rattle.mesa_scan.specs.mesa_columns.declared.rows.Row.{Row}
 use Rattle.mesa_delta.specs.declared.error.FileError.{FileError}
 use Rattle.mesa_merge.specs.Calls.{answer_of}
 use Rattle.mesa_merge.specs.Faults.{HaveFaultCause}

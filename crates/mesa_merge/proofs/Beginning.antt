@@ -1,10 +1,10 @@
 -- Inputs whose first blocks are read.
 use Rattle.std.proofs.Common.{◌≡◌, ℕ, List, [], sym, subst, length, get_or}
 use Rattle.std.specs.Prelude.{Option}
-use Rattle.mesa_schema.specs.declared.rows.Row.{Row}
-use Rattle.mesa_schema.specs.Columns.{Columns}
-use Rattle.mesa_schema.specs.Laws.{AreUnder}
-use Rattle.mesa_schema.specs.Rows.{AreRowsOf}
+use Rattle.mesa_scan.specs.mesa_columns.declared.rows.Row.{Row}
+use Rattle.mesa_scan.specs.mesa_columns.Columns.{Columns}
+use Rattle.mesa_scan.specs.mesa_fold.Laws.{AreUnder}
+use Rattle.mesa_scan.specs.mesa_columns.Rows.{AreRowsOf}
 use Rattle.mesa_delta.specs.declared.input.Input.{Input}
 use Rattle.mesa_scan.specs.declared.cursor.Cursor.{Cursor}
 use Rattle.mesa_merge.specs.Inputs.{AreAlike, knowns_of}

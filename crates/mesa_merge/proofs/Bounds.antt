@@ -4,11 +4,11 @@ use Rattle.std.proofs.lemmas.List.Sums.{sum_by-append}
 use Rattle.std.specs.Prelude.{pos, nat_abs, Option, None, Some, slice_get, Bool, true, false, cond, filter}
 use Rattle.mesa_value.specs.declared.Agg.{Agg}
 use Rattle.mesa_value.specs.declared.Agg.TheVariants.{Sum}
-use Rattle.mesa_schema.specs.declared.rows.Row.{Row}
-use Rattle.mesa_schema.specs.Columns.{Columns, aggs_of}
-use Rattle.mesa_schema.specs.Folded.{AllCombine, folded, rows_of}
-use Rattle.mesa_schema.specs.Laws.{AreFull}
-use Rattle.mesa_schema.specs.Rows.{AreRowsOf}
+use Rattle.mesa_scan.specs.mesa_columns.declared.rows.Row.{Row}
+use Rattle.mesa_scan.specs.mesa_columns.Columns.{Columns, aggs_of}
+use Rattle.mesa_scan.specs.mesa_fold.Folded.{AllCombine, folded, rows_of}
+use Rattle.mesa_scan.specs.mesa_fold.Laws.{AreFull}
+use Rattle.mesa_scan.specs.mesa_columns.Rows.{AreRowsOf}
 use Rattle.mesa_batch.specs.Totals.{abs_total, sum_bound}
 use Rattle.mesa_scan.specs.Cut.{cut, lies_in}
 use Rattle.mesa_batch.specs.Bound.{FoldsTotals, KeepsBound}

@@ -2,14 +2,14 @@
 use Rattle.std.proofs.Common.{◌≡◌, ◌≢◌, inl, inr, ℕ, suc, ◌+◌, ◌<◌, ◌≤◌, List, [], ◌∷◌, ◌++◌, refl, sym, ◌∙◌, ap, subst, length, get_or, set}
 use Rattle.std.proofs.lemmas.List.{get_or-set_same, get_or-set_other}
 use Rattle.std.specs.Prelude.{Option, map}
-use Rattle.mesa_schema.specs.declared.rows.Row.{Row}
-use Rattle.mesa_schema.specs.declared.columns.ValueColumn.{ValueColumn}
-use Rattle.mesa_schema.specs.Columns.{Columns, aggs_of}
-use Rattle.mesa_schema.specs.Folded.{folded, row_combined}
-use Rattle.mesa_schema.specs.Laws.{AreUnder, PutsGiven}
-use Rattle.mesa_schema.specs.Rows.{AreRowsOf, IsRowOf}
-use Rattle.mesa_schema.proofs.Lifts.{row_combined-length}
-use Rattle.mesa_schema.proofs.Ranges.{ranges_combined}
+use Rattle.mesa_scan.specs.mesa_columns.declared.rows.Row.{Row}
+use Rattle.mesa_scan.specs.mesa_columns.declared.columns.ValueColumn.{ValueColumn}
+use Rattle.mesa_scan.specs.mesa_columns.Columns.{Columns, aggs_of}
+use Rattle.mesa_scan.specs.mesa_fold.Folded.{folded, row_combined}
+use Rattle.mesa_scan.specs.mesa_fold.Laws.{AreUnder, PutsGiven}
+use Rattle.mesa_scan.specs.mesa_columns.Rows.{AreRowsOf, IsRowOf}
+use Rattle.mesa_scan.proofs.mesa_fold.Lifts.{row_combined-length}
+use Rattle.mesa_scan.proofs.mesa_fold.Ranges.{ranges_combined}
 use Rattle.mesa_delta.specs.declared.input.Input.{Input}
 use Rattle.mesa_scan.specs.declared.cursor.Cursor.{Cursor}
 use Rattle.mesa_merge.specs.Hands.{IsAhead, IsFrom, IsLeastAt, IsLeastOf, hands_of}

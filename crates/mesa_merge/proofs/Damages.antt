@@ -5,11 +5,11 @@ use Rattle.std.specs.Ordering.{is_ge}
 use Rattle.std.specs.declared.cmp.Ordering.TheVariants.{Less, Equal, Greater}
 use Rattle.mesa_value.specs.declared.Agg.{Agg}
 use Rattle.mesa_value.specs.declared.Agg.TheVariants as agg
-use Rattle.mesa_schema.specs.Folded.{AllCombine, row_combined}
+use Rattle.mesa_scan.specs.mesa_fold.Folded.{AllCombine, row_combined}
 use Rattle.mesa_scan.specs.mesa_file.declared.damage.Damage.{Damage}
 use Rattle.mesa_key.specs.Order.{byte_cmp}
-use Rattle.mesa_schema.specs.declared.rows.Row.{Row}
-use Rattle.mesa_schema.specs.Columns.{Columns, aggs_of}
+use Rattle.mesa_scan.specs.mesa_columns.declared.rows.Row.{Row}
+use Rattle.mesa_scan.specs.mesa_columns.Columns.{Columns, aggs_of}
 use Rattle.mesa_batch.proofs.Place.{flipped}
 use Rattle.mesa_delta.specs.declared.input.Input.{Input}
 use Rattle.mesa_scan.specs.declared.cursor.Cursor.{Cursor}

@@ -6,7 +6,7 @@ use Rattle.std.specs.Prelude.{Option, None, Some, map}
 use Rattle.std.specs.Ordering.{is_le, is_lt}
 use Rattle.std.specs.declared.cmp.Ordering.TheVariants.{Less, Equal, Greater}
 use Rattle.mesa_key.specs.Order.{byte_cmp}
-use Rattle.mesa_schema.specs.declared.rows.Row.{Row}
+use Rattle.mesa_scan.specs.mesa_columns.declared.rows.Row.{Row}
 use Rattle.mesa_schema.proofs.PresentRows.{present_rise}
 use Rattle.mesa_batch.proofs.Place.{flipped}
 use Rattle.mesa_delta.specs.declared.input.Input.{Input}

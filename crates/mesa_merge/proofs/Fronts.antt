@@ -11,7 +11,7 @@ use Rattle.mesa_key.specs.Order.{byte_cmp, short_key}
 use Rattle.mesa_key.specs.Spelling.{AreBytes}
 use Rattle.mesa_delta.proofs.Shorts.{short_le}
 use Rattle.mesa_batch.proofs.Place.{flipped}
-use Rattle.mesa_schema.specs.declared.rows.Row.{Row}
+use Rattle.mesa_scan.specs.mesa_columns.declared.rows.Row.{Row}
 use Rattle.mesa_merge.specs.Fronts.{AreFronts, HasFront, IsFront}
 use Rattle.mesa_merge.specs.Hands.{ComesBefore}
 use Rattle.mesa_merge.proofs.Trees.{same_or_not}

@@ -1,3 +1,4 @@
+pub use Rattle.mesa_scan.proofs.mesa_fold as mesa_fold
 pub use Rattle.mesa_scan.proofs as mesa_scan
 pub mod Ahead
 pub mod Answering

@@ -1,6 +1,6 @@
 -- The newest input that holds a key.
 use Rattle.std.proofs.Common.{◌≡◌, ◌⊎◌, inl, inr, ℕ, ◌+◌, ◌<◌, ◌≤◌, List, [], refl, subst, length, get_or, arith}
-use Rattle.mesa_schema.specs.declared.rows.Row.{Row}
+use Rattle.mesa_scan.specs.mesa_columns.declared.rows.Row.{Row}
 use Rattle.mesa_merge.specs.Sums.{HasHead, IsNewest}
 use Rattle.mesa_merge.proofs.Trees.{beyond, past, same_or_not}
 

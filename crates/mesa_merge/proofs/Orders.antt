@@ -8,8 +8,8 @@ use Rattle.std.specs.Cmp.Lexicographic.{nat_list_cmp_total}
 use Rattle.std.specs.Cmp.{eq_by_cmp_equiv}
 use Rattle.std.specs.FinMap.{slice_cmp-IsAntisymmetric, nat_cmp-IsAntisymmetric}
 use Rattle.mesa_key.specs.Order.{byte_cmp}
-use Rattle.mesa_schema.specs.declared.rows.Row.{Row}
-use Rattle.mesa_schema.proofs.Folds.{is_equal}
+use Rattle.mesa_scan.specs.mesa_columns.declared.rows.Row.{Row}
+use Rattle.mesa_scan.proofs.mesa_fold.Folds.{is_equal}
 use Rattle.mesa_batch.proofs.Place.{flipped}
 use Rattle.mesa_scan.specs.Cut.{is_under}
 use Rattle.mesa_scan.proofs.Cutting.{at_below}

@@ -2,7 +2,7 @@
 use Rattle.std.proofs.Common.{◌≡◌, ℕ, zero, suc, ◌<◌, List, [], ◌∷◌, ◌++◌, refl, ap, length, get_or, take, arith}
 use Rattle.std.specs.Prelude.{Option, map}
 use Rattle.mesa_value.specs.declared.Agg.{Agg}
-use Rattle.mesa_schema.specs.Folded.{folded, folded_at, keys_of, rows_of}
+use Rattle.mesa_scan.specs.mesa_fold.Folded.{folded, folded_at, keys_of, rows_of}
 use Rattle.mesa_delta.specs.declared.input.Input.{Input}
 use Rattle.mesa_scan.specs.declared.cursor.Cursor.{Cursor}
 use Rattle.mesa_scan.specs.Cursors.{HasGivenFrom, at_hand}

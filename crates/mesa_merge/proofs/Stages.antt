@@ -9,10 +9,10 @@ use Rattle.std.specs.Cmp.Lexicographic.{nat_list_cmp_total}
 use Rattle.std.specs.FinMap.{slice_cmp-IsAntisymmetric, nat_cmp-IsAntisymmetric}
 use Rattle.mesa_value.specs.declared.Agg.{Agg}
 use Rattle.mesa_key.specs.Order.{byte_cmp}
-use Rattle.mesa_schema.specs.declared.rows.Row.{Row}
-use Rattle.mesa_schema.specs.Folded.{folded, row_combined, rows_of}
+use Rattle.mesa_scan.specs.mesa_columns.declared.rows.Row.{Row}
+use Rattle.mesa_scan.specs.mesa_fold.Folded.{folded, row_combined, rows_of}
 use Rattle.mesa_batch.proofs.Place.{flipped}
-use Rattle.mesa_schema.specs.Laws.{AreUnder, PutsGiven}
+use Rattle.mesa_scan.specs.mesa_fold.Laws.{AreUnder, PutsGiven}
 use Rattle.mesa_merge.specs.Hands.{IsAhead, IsFrom, IsLeastAt}
 use Rattle.mesa_merge.specs.Merging.{AreAbove, AreUpTo, IsStage}
 use Rattle.mesa_merge.proofs.Orders.{same_key}

@@ -1,9 +1,9 @@
 -- One row taken from an input.
 use Rattle.std.proofs.Common.{◌≡◌, ◌≢◌, inl, inr, ℕ, ◌+◌, ◌<◌, ◌≤◌, List, [], ◌∷◌, ◌++◌, refl, sym, ◌∙◌, ap, subst, length, get_or, set, arith}
 use Rattle.mesa_value.specs.declared.Agg.{Agg}
-use Rattle.mesa_schema.specs.declared.rows.Row.{Row}
-use Rattle.mesa_schema.specs.Folded.{folded, row_combined}
-use Rattle.mesa_schema.specs.Laws.{AreUnder, PutsGiven}
+use Rattle.mesa_scan.specs.mesa_columns.declared.rows.Row.{Row}
+use Rattle.mesa_scan.specs.mesa_fold.Folded.{folded, row_combined}
+use Rattle.mesa_scan.specs.mesa_fold.Laws.{AreUnder, PutsGiven}
 use Rattle.mesa_merge.specs.Hands.{IsAhead, IsLeastAt, IsLeastOf}
 use Rattle.mesa_merge.specs.Merging.{AreAbove, IsStage}
 use Rattle.mesa_merge.proofs.Trees.{beyond}

@@ -1,7 +1,7 @@
 -- Trees of matches.
 use Rattle.std.proofs.Common.{◌≡◌, ◌≢◌, ◌⊎◌, inl, inr, ℕ, zero, suc, ◌+◌, ◌*◌, ◌-◌, ◌/◌, ◌<◌, ◌≤◌, List, [], ◌∷◌, refl, sym, ◌∙◌, ap, subst, length, get_or, set, arith, get_or-set_other, get_or-set_same}
 use Rattle.std.proofs.lemmas.List.{length-set}
-use Rattle.mesa_schema.specs.declared.rows.Row.{Row}
+use Rattle.mesa_scan.specs.mesa_columns.declared.rows.Row.{Row}
 use Rattle.mesa_merge.specs.Hands.{ComesBefore, IsBefore, IsLeastAt}
 use Rattle.mesa_merge.specs.Matches.{AreWinners, AreWon, above}
 use Rattle.mesa_merge.proofs.Orders.{before_ahead, before_along, before_from, before_none, before_nothing, itself_before}

@@ -3,10 +3,10 @@ use Rattle.std.specs.Prelude.{◌≡◌, ℕ, List, [], ◌∷◌, ◌++◌, Boo
 use Rattle.std.specs.Bool.{then_some}
 use Rattle.std.specs.List.{AllByRecursion}
 use Rattle.mesa_scan.specs.mesa_file.declared.damage.Damage.{Damage}
-use Rattle.mesa_schema.specs.declared.rows.Row.{Row}
-use Rattle.mesa_schema.specs.Columns.{Columns, aggs_of}
-use Rattle.mesa_schema.specs.Folded.{folded, rows_of}
-use Rattle.mesa_schema.specs.Rows.{IsRowOf}
+use Rattle.mesa_scan.specs.mesa_columns.declared.rows.Row.{Row}
+use Rattle.mesa_scan.specs.mesa_columns.Columns.{Columns, aggs_of}
+use Rattle.mesa_scan.specs.mesa_fold.Folded.{folded, rows_of}
+use Rattle.mesa_scan.specs.mesa_columns.Rows.{IsRowOf}
 use Rattle.mesa_batch.specs.Bound.{KeepsBound}
 use Rattle.mesa_delta.specs.declared.error.FileError.{FileError}
 use Rattle.mesa_delta.specs.declared.error.FileError.TheVariants.{Damaged, Read}

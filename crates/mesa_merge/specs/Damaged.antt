@@ -4,10 +4,10 @@ use Rattle.mesa_value.specs.declared.Agg.{Agg}
 use Rattle.mesa_value.specs.declared.Agg.TheVariants.{Sum, Min, Max, Replace}
 use Rattle.mesa_value.specs.Agg.{IsSum}
 use Rattle.mesa_scan.specs.mesa_file.declared.damage.Damage.{Damage}
-use Rattle.mesa_schema.specs.declared.rows.Row.{Row}
-use Rattle.mesa_schema.specs.Columns.{Columns, aggs_of}
-use Rattle.mesa_schema.specs.Folded.{folded}
-use Rattle.mesa_schema.specs.Laws.{AreUnder}
+use Rattle.mesa_scan.specs.mesa_columns.declared.rows.Row.{Row}
+use Rattle.mesa_scan.specs.mesa_columns.Columns.{Columns, aggs_of}
+use Rattle.mesa_scan.specs.mesa_fold.Folded.{folded}
+use Rattle.mesa_scan.specs.mesa_fold.Laws.{AreUnder}
 use Rattle.mesa_delta.specs.Reading.{IsIndexed, index_of}
 use Rattle.mesa_delta.specs.declared.input.Input.{Input}
 use Rattle.mesa_scan.specs.declared.cursor.Cursor.{Cursor}

@@ -3,7 +3,7 @@ use Rattle.std.specs.Prelude.{◌≡◌, ℕ, ◌-◌, ◌^◌, ◌<◌, List, [
 use Rattle.std.specs.Int.{w128, from_be_bytes}
 use Rattle.mesa_key.specs.Order.{short_key}
 use Rattle.mesa_key.specs.Spelling.{AreBytes}
-use Rattle.mesa_schema.specs.declared.rows.Row.{Row}
+use Rattle.mesa_scan.specs.mesa_columns.declared.rows.Row.{Row}
 
 -- The front of a key is its short key, 16 bytes, as one number, the first byte the highest.
 pub record IsFront (front : ℕ) (key : List ℕ) : Type 0 where

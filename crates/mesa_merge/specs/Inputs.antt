@@ -1,9 +1,9 @@
 -- Inputs that are merged, by what is known of them.
 use Rattle.std.specs.Prelude.{◌≡◌, ℕ, List, [], ◌∷◌, map, Option, Some, ⊤}
 use Rattle.std.specs.List.{AllByRecursion}
-use Rattle.mesa_schema.specs.declared.rows.Row.{Row}
+use Rattle.mesa_scan.specs.mesa_columns.declared.rows.Row.{Row}
 use Rattle.mesa_schema.specs.Changes.{Lineage, columns_of, epoch_of, lifted}
-use Rattle.mesa_schema.specs.Columns.{Columns}
+use Rattle.mesa_scan.specs.mesa_columns.Columns.{Columns}
 use Rattle.mesa_delta.specs.Ahead.{Told}
 use Rattle.mesa_delta.specs.Indexed.{Indexed}
 use Rattle.mesa_delta.specs.Reading.{IsIndexed, IsWhole, index_of}

@@ -1,6 +1,6 @@
 -- A tree of matches among inputs: the places 1 to n - 1 are matches, each of the winners at the two places below it, and the place n + j is the input j itself.
 use Rattle.std.specs.Prelude.{◌≡◌, ◌≢◌, ℕ, zero, suc, ◌+◌, ◌/◌, ◌<◌, ◌≤◌, List, [], length, get_or}
-use Rattle.mesa_schema.specs.declared.rows.Row.{Row}
+use Rattle.mesa_scan.specs.mesa_columns.declared.rows.Row.{Row}
 use Rattle.mesa_merge.specs.Fronts.{AreFronts, HasFront}
 use Rattle.mesa_merge.specs.Hands.{IsBefore}
 use Rattle.mesa_merge.specs.declared.matches.Tree.{Tree}

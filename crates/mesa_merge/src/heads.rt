@@ -1,8 +1,8 @@
 // The row at hand of an input, and a row that is being combined.
 ghost use Rattle.std.specs.Prelude.{◌≡◌, ◌∷◌, List, OnOk, length};
 ghost use Rattle.std.specs.Bool.{OnFalse, OnTrue};
-ghost use Rattle.mesa_schema.specs.declared.rows.Row.{Row as AnyRow};
-ghost use Rattle.mesa_schema.specs.Folded.{AllCombine, row_combined};
+ghost use Rattle.mesa_scan.specs.mesa_columns.declared.rows.Row.{Row as AnyRow};
+ghost use Rattle.mesa_scan.specs.mesa_fold.Folded.{AllCombine, row_combined};
 ghost use Rattle.mesa_scan.specs.Cursors.{at_hand};
 
 use mesa_batch::{combine_into, combines_all};

@@ -2,10 +2,10 @@
 ghost use Rattle.std.specs.Prelude.{◌≡◌, ◌<◌, ◌≤◌, ◌*◌, ◌-◌, ◌^◌, [], ℕ, List, length, Option, min, sum_by, slice_get, IfOk, IfErr, IfNone, None, Some, Err};
 ghost use Rattle.std.specs.List.{AllByRecursion};
 ghost use Rattle.mesa_value.specs.declared.Agg.{Agg as AnyAgg};
-ghost use Rattle.mesa_schema.specs.declared.rows.Row.{Row as AnyRow};
-ghost use Rattle.mesa_schema.specs.Columns.{Columns};
-ghost use Rattle.mesa_schema.specs.Folded.{folded};
-ghost use Rattle.mesa_schema.specs.Lent.{lent};
+ghost use Rattle.mesa_scan.specs.mesa_columns.declared.rows.Row.{Row as AnyRow};
+ghost use Rattle.mesa_scan.specs.mesa_columns.Columns.{Columns};
+ghost use Rattle.mesa_scan.specs.mesa_fold.Folded.{folded};
+ghost use Rattle.mesa_scan.specs.mesa_columns.Lent.{lent};
 ghost use Rattle.mesa_delta.specs.declared.error.FileError.{FileError as AnyError};
 ghost use Rattle.mesa_scan.specs.Cursors.{IsInput};
 ghost use Rattle.mesa_merge.specs.Inputs.{AreInputs, Known as AnyKnown, knowns_of};

@@ -1,6 +1,6 @@
 // Where a merge ends.
 ghost use Rattle.std.specs.Prelude.{◌≡◌, ◌<◌, ◌∷◌, [], ℕ, List, length, get_or, IsTrue, IfSome, IfNone, None};
-ghost use Rattle.mesa_schema.specs.declared.rows.Row.{Row as AnyRow};
+ghost use Rattle.mesa_scan.specs.mesa_columns.declared.rows.Row.{Row as AnyRow};
 ghost use Rattle.mesa_scan.specs.Cut.{is_under};
 ghost use Rattle.mesa_merge.specs.Hands.{IsLeastAt, IsPast, hands_of};
 ghost use Rattle.mesa_merge.specs.Matches.{IsTree};

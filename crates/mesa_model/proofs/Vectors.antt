@@ -1,12 +1,12 @@
 -- A small run of commands, computed.
 use Rattle.std.proofs.Common.{◌≡◌, ℕ, List, [], ◌∷◌, refl, Some, None}
 use Rattle.std.specs.Prelude.{pos, codes}
-use Rattle.mesa_key.specs.declared.KeyValue.TheVariants as value
-use Rattle.mesa_key.specs.declared.KeyType.TheVariants as kind
-use Rattle.mesa_key.specs.Spelling.{key_spelling, before_zero}
-use Rattle.mesa_value.specs.declared.Agg.TheVariants.{Sum, Max, Replace}
-use Rattle.mesa_schema.specs.declared.views.View.{View}
-use Rattle.mesa_schema.specs.Columns.{Columns}
+use Rattle.mesa_batch.specs.mesa_key.declared.KeyValue.TheVariants as value
+use Rattle.mesa_batch.specs.mesa_key.declared.KeyType.TheVariants as kind
+use Rattle.mesa_batch.specs.mesa_key.Spelling.{key_spelling, before_zero}
+use Rattle.mesa_batch.specs.mesa_value.declared.Agg.TheVariants.{Sum, Max, Replace}
+use Rattle.mesa_columns.specs.declared.views.View.{View}
+use Rattle.mesa_columns.specs.Columns.{Columns}
 use Rattle.mesa_filter.specs.declared.terms.Comparison.TheVariants as op
 use Rattle.mesa_filter.specs.declared.terms.Term.{Term}
 use Rattle.mesa_filter.specs.declared.words.VersionWord.TheVariants as asks

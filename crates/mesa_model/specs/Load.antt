@@ -1,10 +1,10 @@
 -- Loading a batch of rows.
 use Rattle.std.specs.Prelude.{ℕ, ◌+◌, List, [], ◌∷◌, ◌++◌, map, length, nat_le, Some, None, Result, Ok, Err}
-use Rattle.mesa_list.specs.Checks.{◌>>=◌, ◌>>◌, refuse_if, refused_as}
-use Rattle.mesa_schema.specs.declared.rows.Row.{Row}
-use Rattle.mesa_schema.specs.Columns.{aggs_of}
-use Rattle.mesa_schema.specs.Changes.{columns_of}
-use Rattle.mesa_schema.specs.Folded.{folded}
+use Rattle.mesa_batch.specs.mesa_list.Checks.{◌>>=◌, ◌>>◌, refuse_if, refused_as}
+use Rattle.mesa_columns.specs.declared.rows.Row.{Row}
+use Rattle.mesa_columns.specs.Columns.{aggs_of}
+use Rattle.mesa_batch.specs.mesa_schema.Changes.{columns_of}
+use Rattle.mesa_batch.specs.mesa_fold.Folded.{folded}
 use Rattle.mesa_batch.specs.declared.words.RowWords.{RowWords}
 use Rattle.mesa_batch.specs.Batch.{Named, Placed, batch_of, rows_for}
 use Rattle.mesa_batch.specs.Totals.{abs_totals, over_bound, sum_name, totals_with}

@@ -1,12 +1,12 @@
 -- Further orders: a view whose keys are all key columns of its table has the table's rows in an order of its own, and a query of the table may be answered by it.
 use Rattle.std.specs.Prelude.{ℕ, List, [], ◌∷◌, map, filter, length, max, position, slice_index_or, take_while, Bool, true, false, ◌&&◌, ◌==◌, not, if◌then◌else◌, Option, Some, None, Result, Ok}
 use Rattle.std.specs.List.{list_all, list_any, enumerate_from}
-use Rattle.mesa_list.specs.Checks.{◌>>=◌, refused_as}
-use Rattle.mesa_schema.specs.declared.columns.ValueColumn.{ValueColumn}
-use Rattle.mesa_schema.specs.declared.views.View.{View}
-use Rattle.mesa_schema.specs.Columns.{Columns, is_replace}
-use Rattle.mesa_schema.specs.Changes.{columns_of}
-use Rattle.mesa_schema.specs.Views.{view_key_places, view_value_places}
+use Rattle.mesa_batch.specs.mesa_list.Checks.{◌>>=◌, refused_as}
+use Rattle.mesa_columns.specs.declared.columns.ValueColumn.{ValueColumn}
+use Rattle.mesa_columns.specs.declared.views.View.{View}
+use Rattle.mesa_columns.specs.Columns.{Columns, is_replace}
+use Rattle.mesa_batch.specs.mesa_schema.Changes.{columns_of}
+use Rattle.mesa_batch.specs.mesa_schema.Views.{view_key_places, view_value_places}
 use Rattle.mesa_filter.specs.declared.terms.Comparison.{Comparison}
 use Rattle.mesa_filter.specs.declared.terms.Comparison.TheVariants as op
 use Rattle.mesa_filter.specs.declared.terms.Term.{Term}

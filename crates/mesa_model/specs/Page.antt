@@ -1,8 +1,8 @@
 -- Pages of an answer.
 use Rattle.std.specs.Prelude.{ℕ, List, [], ◌∷◌, filter, take, length, nat_lt, if◌then◌else◌, Option, Some, None}
 use Rattle.std.specs.Ordering.{is_lt}
-use Rattle.mesa_key.specs.Order.{byte_cmp}
-use Rattle.mesa_schema.specs.declared.rows.Row.{Row}
+use Rattle.mesa_batch.specs.mesa_key.Order.{byte_cmp}
+use Rattle.mesa_columns.specs.declared.rows.Row.{Row}
 use Rattle.mesa_model.specs.declared.replies.Page.{Page}
 
 -- the rows whose key is greater than the resume key

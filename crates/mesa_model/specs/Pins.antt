@@ -1,6 +1,6 @@
 -- Pins: versions that a session keeps.
 use Rattle.std.specs.Prelude.{ℕ, zero, suc, ◌+◌, List, [], ◌∷◌, ◌++◌, map, filter, length, Bool, ◌&&◌, ◌==◌, not, nat_le, Option, find, is_none, slice_index_or, Result, Ok}
-use Rattle.mesa_list.specs.Checks.{◌>>=◌, ◌>>◌, refuse_if}
+use Rattle.mesa_batch.specs.mesa_list.Checks.{◌>>=◌, ◌>>◌, refuse_if}
 use Rattle.mesa_filter.specs.declared.words.VersionWord.{VersionWord}
 use Rattle.mesa_model.specs.declared.replies.Refusal.{Refusal}
 use Rattle.mesa_model.specs.declared.replies.Refusal.TheVariants as no

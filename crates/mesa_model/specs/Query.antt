@@ -1,12 +1,12 @@
 -- Answering a query.
 use Rattle.std.specs.Prelude.{ℕ, List, Option, Result, Ok}
 use Rattle.std.specs.Option.{ok_or}
-use Rattle.mesa_list.specs.Checks.{◌>>=◌, ◌>>◌, refused_as}
-use Rattle.mesa_key.specs.declared.KeyType.{KeyType}
-use Rattle.mesa_schema.specs.declared.rows.Row.{Row}
-use Rattle.mesa_schema.specs.Columns.{Columns, kinds_of, chosen}
-use Rattle.mesa_schema.specs.Changes.{epoch_of}
-use Rattle.mesa_schema.specs.Folded.{grouped}
+use Rattle.mesa_batch.specs.mesa_list.Checks.{◌>>=◌, ◌>>◌, refused_as}
+use Rattle.mesa_batch.specs.mesa_key.declared.KeyType.{KeyType}
+use Rattle.mesa_columns.specs.declared.rows.Row.{Row}
+use Rattle.mesa_columns.specs.Columns.{Columns, kinds_of, chosen}
+use Rattle.mesa_batch.specs.mesa_schema.Changes.{epoch_of}
+use Rattle.mesa_batch.specs.mesa_fold.Folded.{grouped}
 use Rattle.mesa_filter.specs.declared.words.VersionWord.{VersionWord}
 use Rattle.mesa_filter.specs.declared.words.VersionWord.TheVariants as asks
 use Rattle.mesa_filter.specs.declared.words.QueryWords.{QueryWords}

@@ -1,14 +1,14 @@
 -- The refusals of the lower layers as replies.
 use Rattle.std.specs.Prelude.{ℕ, List, Option, Some, None, Result, Ok, Err}
-use Rattle.mesa_schema.specs.declared.schema.SchemaError.{SchemaError}
-use Rattle.mesa_schema.specs.declared.schema.SchemaError.TheVariants as schema
-use Rattle.mesa_schema.specs.declared.views.ViewError.{ViewError}
-use Rattle.mesa_schema.specs.declared.views.ViewError.TheVariants as view
-use Rattle.mesa_schema.specs.declared.changes.ChangeError.{ChangeError}
-use Rattle.mesa_schema.specs.declared.changes.ChangeError.TheVariants as change
-use Rattle.mesa_schema.specs.declared.recasts.RecastError.{RecastError}
-use Rattle.mesa_schema.specs.declared.recasts.RecastError.TheVariants as recast
-use Rattle.mesa_schema.specs.Changes.{max_changes}
+use Rattle.mesa_columns.specs.declared.schema.SchemaError.{SchemaError}
+use Rattle.mesa_columns.specs.declared.schema.SchemaError.TheVariants as schema
+use Rattle.mesa_columns.specs.declared.views.ViewError.{ViewError}
+use Rattle.mesa_columns.specs.declared.views.ViewError.TheVariants as view
+use Rattle.mesa_columns.specs.declared.changes.ChangeError.{ChangeError}
+use Rattle.mesa_columns.specs.declared.changes.ChangeError.TheVariants as change
+use Rattle.mesa_batch.specs.mesa_schema.declared.recasts.RecastError.{RecastError}
+use Rattle.mesa_batch.specs.mesa_schema.declared.recasts.RecastError.TheVariants as recast
+use Rattle.mesa_batch.specs.mesa_schema.Changes.{max_changes}
 use Rattle.mesa_batch.specs.declared.words.BatchError.{BatchError}
 use Rattle.mesa_batch.specs.declared.words.BatchError.TheVariants as batch
 use Rattle.mesa_filter.specs.declared.words.QueryError.{QueryError}

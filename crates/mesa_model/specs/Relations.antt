@@ -1,11 +1,11 @@
 -- Relations: the tables and views that a query may name.
 use Rattle.std.specs.Prelude.{ℕ, ◌+◌, List, [], ◌∷◌, map, Bool, if◌then◌else◌, Option, Some, None, option_map, find, is_some}
-use Rattle.mesa_list.specs.Bytes.{same_bytes}
-use Rattle.mesa_schema.specs.declared.rows.Row.{Row}
-use Rattle.mesa_schema.specs.declared.views.View.{View}
-use Rattle.mesa_schema.specs.Columns.{Columns, place_of}
-use Rattle.mesa_schema.specs.Changes.{columns_of}
-use Rattle.mesa_schema.specs.Views.{view_columns, view_rows}
+use Rattle.mesa_batch.specs.mesa_list.Bytes.{same_bytes}
+use Rattle.mesa_columns.specs.declared.rows.Row.{Row}
+use Rattle.mesa_columns.specs.declared.views.View.{View}
+use Rattle.mesa_columns.specs.Columns.{Columns, place_of}
+use Rattle.mesa_batch.specs.mesa_schema.Changes.{columns_of}
+use Rattle.mesa_batch.specs.mesa_schema.Views.{view_columns, view_rows}
 use Rattle.mesa_model.specs.Warehouse.{Table, Store, content_at}
 
 -- A table, by its number, or a view of it.

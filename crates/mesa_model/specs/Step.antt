@@ -1,6 +1,6 @@
 -- One command of a session on the reference warehouse.
 use Rattle.std.specs.Prelude.{ℕ, Result, Ok, Err}
-use Rattle.mesa_list.specs.Checks.{◌>>◌}
+use Rattle.mesa_batch.specs.mesa_list.Checks.{◌>>◌}
 use Rattle.mesa_model.specs.declared.commands.Command.{Command}
 use Rattle.mesa_model.specs.declared.commands.Command.TheVariants as command
 use Rattle.mesa_model.specs.declared.replies.Refusal.{Refusal}

@@ -2,16 +2,17 @@
 use Rattle.std.specs.Prelude.{ℕ, ◌+◌, ◌-◌, List, [], ◌∷◌, ◌++◌, map, length, replicate, Bool, ◌&&◌, nat_le, Result, Ok}
 use Rattle.std.specs.List.{list_all}
 use Rattle.std.specs.Option.{ok_or}
-use Rattle.mesa_list.specs.Checks.{◌>>=◌, ◌>>◌, refuse_if, refuse_unless, refused_as}
-use Rattle.mesa_schema.specs.declared.changes.Change.{Change}
-use Rattle.mesa_schema.specs.declared.changes.Change.TheVariants as change
-use Rattle.mesa_schema.specs.Names.{is_name}
-use Rattle.mesa_schema.specs.Numbers.{signed_of, key_value_of}
-use Rattle.mesa_schema.specs.Columns.{Columns, key_names, value_names, aggs_of}
-use Rattle.mesa_schema.specs.Schema.{schema_checked}
-use Rattle.mesa_schema.specs.Changes.{columns_of, epoch_of, with_change, new_name_checked, change_checked, lifted_once}
-use Rattle.mesa_schema.specs.Views.{max_views, view_checked, with_view}
-use Rattle.mesa_schema.specs.Recasts.{Recast, recast_checked, recast_lineage, recast_rows}
+use Rattle.mesa_batch.specs.mesa_list.Checks.{◌>>=◌, ◌>>◌, refuse_if, refuse_unless, refused_as}
+use Rattle.mesa_columns.specs.declared.changes.Change.{Change}
+use Rattle.mesa_columns.specs.declared.changes.Change.TheVariants as change
+use Rattle.mesa_columns.specs.Names.{is_name}
+use Rattle.mesa_columns.specs.Numbers.{signed_of, key_value_of}
+use Rattle.mesa_columns.specs.Columns.{Columns, key_names, value_names, aggs_of}
+use Rattle.mesa_columns.specs.Schema.{schema_checked}
+use Rattle.mesa_columns.specs.Changes.{lifted_once}
+use Rattle.mesa_batch.specs.mesa_schema.Changes.{columns_of, epoch_of, with_change, new_name_checked, change_checked}
+use Rattle.mesa_batch.specs.mesa_schema.Views.{max_views, view_checked, with_view}
+use Rattle.mesa_batch.specs.mesa_schema.Recasts.{Recast, recast_checked, recast_lineage, recast_rows}
 use Rattle.mesa_batch.specs.Totals.{sums_in, totals_after, totals_recast}
 use Rattle.mesa_model.specs.declared.commands.KeyWords.{KeyWords}
 use Rattle.mesa_model.specs.declared.commands.ValueWords.{ValueWords}

@@ -1,7 +1,7 @@
 -- Asking for a version, and letting old ones go.
 use Rattle.std.specs.Prelude.{ℕ, ◌-◌, List, [], ◌∷◌, map, drop, max, ◌==◌, nat_lt, nat_le, Option, Some, None, Result, Ok, Err}
 use Rattle.std.specs.Option.{ok_or}
-use Rattle.mesa_list.specs.Checks.{◌>>=◌, ◌>>◌, refuse_if}
+use Rattle.mesa_batch.specs.mesa_list.Checks.{◌>>=◌, ◌>>◌, refuse_if}
 use Rattle.mesa_filter.specs.declared.words.VersionWord.{VersionWord}
 use Rattle.mesa_filter.specs.declared.words.VersionWord.TheVariants as asks
 use Rattle.mesa_model.specs.declared.replies.Refusal.{Refusal}

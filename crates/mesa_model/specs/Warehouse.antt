@@ -1,7 +1,7 @@
 -- The reference warehouse: for each table the whole content at each version that can be queried.
 use Rattle.std.specs.Prelude.{ℕ, ◌-◌, ◌^◌, List, [], Option, Some, None, slice_index_or, slice_set, ◌==◌, if◌then◌else◌}
-use Rattle.mesa_schema.specs.declared.rows.Row.{Row}
-use Rattle.mesa_schema.specs.Changes.{Lineage}
+use Rattle.mesa_columns.specs.declared.rows.Row.{Row}
+use Rattle.mesa_batch.specs.mesa_schema.Changes.{Lineage}
 
 -- A table: its name, its columns through its life with its views, its absolute totals for each sum column, its oldest version that can be queried, and its content at each version from that one on.
 pub record Table : Type 0 where

@@ -1,13 +1,13 @@
 -- What every warehouse keeps that a run may start from.
 use Rattle.std.specs.Prelude.{◌≡◌, ◌≤◌, ℕ, ◌-◌, List, ◌∷◌, map, length, flat_map, Bool, ◌&&◌, ◌||◌, ◌==◌, nat_lt, is_none, IsTrue}
 use Rattle.std.specs.List.{AllByRecursion}
-use Rattle.mesa_schema.specs.declared.rows.Row.{Row}
-use Rattle.mesa_schema.specs.declared.views.View.{View}
-use Rattle.mesa_schema.specs.Names.{repeated}
-use Rattle.mesa_schema.specs.Columns.{Columns}
-use Rattle.mesa_schema.specs.Rows.{AreRowsOf, keys_rise}
-use Rattle.mesa_schema.specs.Changes.{columns_of}
-use Rattle.mesa_schema.specs.Lineages.{IsLineage}
+use Rattle.mesa_columns.specs.declared.rows.Row.{Row}
+use Rattle.mesa_columns.specs.declared.views.View.{View}
+use Rattle.mesa_columns.specs.Names.{repeated}
+use Rattle.mesa_columns.specs.Columns.{Columns}
+use Rattle.mesa_columns.specs.Rows.{AreRowsOf, keys_rise}
+use Rattle.mesa_batch.specs.mesa_schema.Changes.{columns_of}
+use Rattle.mesa_batch.specs.mesa_schema.Lineages.{IsLineage}
 use Rattle.mesa_model.specs.Warehouse.{Table, Store, Warehouse}
 
 -- A content: rows of the form of the columns, whose keys rise strictly.

@@ -1,10 +1,7 @@
 // What a script asks.
 use mesa_batch::LoadRows;
+use mesa_columns::{Agg, Fields, Items, KeyType, Words};
 use mesa_filter::{QueryWords, VersionWord};
-use mesa_key::KeyType;
-use mesa_list::Items;
-use mesa_columns::{Fields, Words};
-use mesa_value::Agg;
 
 /// A key column as a script has it: its name may be any bytes without a space.
 #[derive(Drop)]

@@ -3,7 +3,7 @@ use crate::{
     AlterWords, ChangeWords, Command, ExplainWords, KeyWords, Page, RecastWords, Refusal, Reply,
     Script, TableWords, ValueWords, ViewWords, WorkWords,
 };
-use mesa_list::TryCopy;
+use mesa_columns::TryCopy;
 use std::alloc::AllocError;
 
 impl TryCopy for KeyWords {

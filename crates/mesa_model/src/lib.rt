@@ -14,4 +14,5 @@ pub use commands::{
 };
 pub use entries::{Entry, Kind, Outcome};
 pub use laws::{closes_to_every_command, numbers_tell_entries};
+pub use mesa_columns::Words;
 pub use replies::{Page, Refusal, Reply, SchemaFault};

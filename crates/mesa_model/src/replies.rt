@@ -1,9 +1,7 @@
 // What a command is answered.
+use mesa_columns::{Items, KeyBytes, Name, RowList};
 use mesa_file::Damage;
 use mesa_filter::VersionWord;
-use mesa_key::KeyBytes;
-use mesa_list::Items;
-use mesa_columns::{Name, RowList};
 
 /// A page of a query's answer: its version, its rows in the order of their group keys, and where
 /// further rows follow the key after which they begin.

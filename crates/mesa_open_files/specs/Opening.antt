@@ -5,9 +5,9 @@ use Rattle.mesa_scan.specs.mesa_io.Causes.{last}
 use Rattle.mesa_file.specs.declared.damage.Damage.{Damage}
 use Rattle.mesa_file.specs.declared.damage.Seen.TheVariants as seen
 use Rattle.mesa_file.specs.declared.file_ref.FileRef.{FileRef}
-use Rattle.mesa_schema.specs.Columns.{Columns}
+use Rattle.mesa_history_spec.specs.mesa_columns.Columns.{Columns}
 use Rattle.mesa_schema.specs.Changes.{columns_at, epoch_of}
-use Rattle.mesa_schema.specs.declared.rows.Row.{Row}
+use Rattle.mesa_history_spec.specs.mesa_columns.declared.rows.Row.{Row}
 use Rattle.mesa_disk.specs.Image.{Image, file_of}
 use Rattle.mesa_disk.specs.Story.{Story}
 use Rattle.mesa_delta.specs.mesa_block.Layout.{Layout}

@@ -1,9 +1,9 @@
 -- Tables that are to be recast, and what comes of their ranges.
 use Rattle.std.specs.Prelude.{◌≡◌, ◌<◌, ℕ, List, [], ◌∷◌, flat_map, length, take, option_to_list, Option, Some, None, Ok, ⊤}
 use Rattle.std.specs.List.{AllByRecursion}
-use Rattle.mesa_schema.specs.declared.rows.Row.{Row}
+use Rattle.mesa_history_spec.specs.mesa_columns.declared.rows.Row.{Row}
 use Rattle.mesa_schema.specs.Changes.{Lineage, columns_of, epoch_of}
-use Rattle.mesa_schema.specs.Columns.{Columns}
+use Rattle.mesa_history_spec.specs.mesa_columns.Columns.{Columns}
 use Rattle.mesa_schema.specs.Recasts.{recast_checked, recast_columns, recast_rows}
 use Rattle.mesa_schema.specs.Recasts.{Recast as Asked}
 use Rattle.mesa_batch.specs.Totals.{abs_totals, sum_bound}

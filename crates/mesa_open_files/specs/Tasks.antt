@@ -1,9 +1,9 @@
 -- Ranges that are to be merged, and what comes of them.
 use Rattle.std.specs.Prelude.{◌≡◌, ℕ, ◌+◌, List, Vec, [], ◌∷◌, Option, Some, None, IfSome, ⊤}
 use Rattle.std.specs.declared.alloc.Global.{Global}
-use Rattle.mesa_schema.specs.declared.rows.Row.{Row}
-use Rattle.mesa_schema.specs.declared.views.View.{View}
-use Rattle.mesa_schema.specs.Columns.{Columns}
+use Rattle.mesa_history_spec.specs.mesa_columns.declared.rows.Row.{Row}
+use Rattle.mesa_history_spec.specs.mesa_columns.declared.views.View.{View}
+use Rattle.mesa_history_spec.specs.mesa_columns.Columns.{Columns}
 use Rattle.mesa_schema.specs.Changes.{Lineage, columns_of, epoch_of}
 use Rattle.mesa_schema.specs.Views.{view_columns, view_rows}
 use Rattle.mesa_delta.specs.declared.input.Input.{Input}

@@ -9,8 +9,8 @@ use Rattle.std.proofs.lemmas.Iterator.Adapters.{position_from-zero}
 use Rattle.std.proofs.lemmas.List.Quantifiers.{position-Some}
 use Rattle.std.proofs.lemmas.Option.{slice_get-get_or}
 use Rattle.mesa_filter.proofs.mesa_list.Whole.{both}
-use Rattle.mesa_schema.specs.declared.views.View.{View}
-use Rattle.mesa_schema.specs.Columns.{Columns}
+use Rattle.mesa_model.specs.mesa_columns.declared.views.View.{View}
+use Rattle.mesa_model.specs.mesa_columns.Columns.{Columns}
 use Rattle.mesa_filter.specs.declared.terms.Term.{Term}
 use Rattle.mesa_model.specs.Orders.{best_score, choice, is_candidate, leading, table_score, view_score}
 use Rattle.mesa_schema.specs.Views.{view_key_places}

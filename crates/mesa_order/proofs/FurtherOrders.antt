@@ -9,24 +9,24 @@ use Rattle.mesa_model.specs.mesa_value.Agg.{IsOrderless}
 use Rattle.mesa_model.specs.mesa_key.declared.KeyType.{KeyType}
 use Rattle.mesa_model.specs.mesa_key.declared.KeyValue.{KeyValue}
 use Rattle.mesa_model.specs.mesa_key.Spelling.{IsKey, columns_of as key_columns, key_of, key_spelling}
-use Rattle.mesa_schema.proofs.mesa_key.Keys.{key_again}
-use Rattle.mesa_schema.specs.declared.columns.KeyColumn.{KeyColumn}
-use Rattle.mesa_schema.specs.declared.columns.ValueColumn.{ValueColumn}
-use Rattle.mesa_schema.specs.declared.rows.Row.{Row}
-use Rattle.mesa_schema.specs.declared.views.View.{View}
-use Rattle.mesa_schema.specs.declared.views.ViewError.TheVariants.{NoKey, NoValue}
-use Rattle.mesa_schema.specs.Columns.{Columns, aggs_of, chosen, key_names, kinds_of, value_names}
-use Rattle.mesa_schema.specs.Folded.{folded, grouped, regrouped, rows_of}
+use Rattle.mesa_model.proofs.mesa_key.Keys.{key_again}
+use Rattle.mesa_model.specs.mesa_columns.declared.columns.KeyColumn.{KeyColumn}
+use Rattle.mesa_model.specs.mesa_columns.declared.columns.ValueColumn.{ValueColumn}
+use Rattle.mesa_model.specs.mesa_columns.declared.rows.Row.{Row}
+use Rattle.mesa_model.specs.mesa_columns.declared.views.View.{View}
+use Rattle.mesa_model.specs.mesa_columns.declared.views.ViewError.TheVariants.{NoKey, NoValue}
+use Rattle.mesa_model.specs.mesa_columns.Columns.{Columns, aggs_of, chosen, key_names, kinds_of, value_names}
+use Rattle.mesa_model.specs.mesa_fold.Folded.{folded, grouped, regrouped, rows_of}
 use Rattle.mesa_schema.specs.Lineages.{is_view_of}
 use Rattle.mesa_schema.specs.Recasts.{Recast}
-use Rattle.mesa_schema.specs.Rows.{AreRowsOf, IsRowOf}
+use Rattle.mesa_model.specs.mesa_columns.Rows.{AreRowsOf, IsRowOf}
 use Rattle.mesa_schema.specs.Views.{values_named, view_columns, view_key_places, view_rows, view_value_places}
 use Rattle.mesa_schema.proofs.ChosenAgain.{both, choice_there, places_within}
-use Rattle.mesa_schema.proofs.FilteredFolds.{filtered_folds}
-use Rattle.mesa_schema.proofs.Folds.{folded-folded}
-use Rattle.mesa_schema.proofs.GroupedFolds.{groups_folded}
-use Rattle.mesa_schema.proofs.GroupKeys.{chosen_key, chosen_mapped}
-use Rattle.mesa_schema.proofs.Lists.{same_maps}
+use Rattle.mesa_model.proofs.mesa_fold.FilteredFolds.{filtered_folds}
+use Rattle.mesa_model.proofs.mesa_fold.Folds.{folded-folded}
+use Rattle.mesa_model.proofs.mesa_fold.GroupedFolds.{groups_folded}
+use Rattle.mesa_model.proofs.mesa_fold.GroupKeys.{chosen_key, chosen_mapped}
+use Rattle.mesa_model.proofs.mesa_columns.Lists.{same_maps}
 use Rattle.mesa_schema.proofs.Outlasting.{asks, orderless}
 use Rattle.mesa_schema.proofs.Regrouping.{bytes_of, columns_count, regrouped_columns, rows_form}
 use Rattle.mesa_filter.specs.declared.terms.Term.{Term}

@@ -3,8 +3,8 @@ use Rattle.std.proofs.Common.{◌≡◌, ℕ, ◌+◌, ◌<◌, ◌≤◌, List,
 use Rattle.std.specs.Prelude.{filter, not}
 use Rattle.std.specs.List.{enumerate_from}
 use Rattle.std.proofs.Math.ListN.{drop_of_length-le}
-use Rattle.mesa_schema.specs.declared.columns.ValueColumn.{ValueColumn}
-use Rattle.mesa_schema.specs.Columns.{is_replace}
+use Rattle.mesa_model.specs.mesa_columns.declared.columns.ValueColumn.{ValueColumn}
+use Rattle.mesa_model.specs.mesa_columns.Columns.{is_replace}
 use Rattle.mesa_order.specs.Told.{kept_places}
 
 kept_cons : (n : ℕ) (c : ValueColumn) (columns : List ValueColumn) (b : Bool) → is_replace c ≡ b → kept_places n (c ∷ columns) ≡ cond b (kept_places (n + 1) columns) (n ∷ kept_places (n + 1) columns)

@@ -5,7 +5,7 @@ use Rattle.std.specs.List.{enumerate_from, list_all, range_with_len}
 use Rattle.std.proofs.lemmas.Bool.{cases_eq, eq-eqb, eqb-true}
 use Rattle.std.proofs.lemmas.List.{get_or-set_other, get_or-set_same}
 use Rattle.std.proofs.Math.ListN.{drop_of_length-le}
-use Rattle.mesa_schema.specs.Columns.{places_in}
+use Rattle.mesa_model.specs.mesa_columns.Columns.{places_in}
 use Rattle.mesa_model.specs.Orders.{has_place}
 
 -- a place is marked, or among those that are left

@@ -4,15 +4,15 @@ use Rattle.std.specs.Prelude.{IfOk, IsTrue}
 use Rattle.std.specs.List.{AllByRecursion, list_all}
 use Rattle.std.proofs.lemmas.Bool.{ltb-true}
 use Rattle.std.proofs.lemmas.List.{length-map}
-use Rattle.mesa_schema.specs.declared.columns.KeyColumn.{KeyColumn}
-use Rattle.mesa_schema.specs.declared.columns.ValueColumn.{ValueColumn}
-use Rattle.mesa_schema.specs.declared.views.View.{View}
-use Rattle.mesa_schema.specs.declared.views.ViewError.TheVariants.{NoKey, NoValue}
-use Rattle.mesa_schema.specs.Columns.{Columns, chosen, is_replace, key_names, kinds_of, value_names}
+use Rattle.mesa_model.specs.mesa_columns.declared.columns.KeyColumn.{KeyColumn}
+use Rattle.mesa_model.specs.mesa_columns.declared.columns.ValueColumn.{ValueColumn}
+use Rattle.mesa_model.specs.mesa_columns.declared.views.View.{View}
+use Rattle.mesa_model.specs.mesa_columns.declared.views.ViewError.TheVariants.{NoKey, NoValue}
+use Rattle.mesa_model.specs.mesa_columns.Columns.{Columns, chosen, is_replace, key_names, kinds_of, value_names}
 use Rattle.mesa_schema.specs.Lineages.{is_view_of}
 use Rattle.mesa_schema.specs.Views.{values_named, view_columns, view_key_places, view_value_places}
 use Rattle.mesa_schema.proofs.ChosenAgain.{both, choice_there, places_within}
-use Rattle.mesa_schema.proofs.GroupKeys.{chosen_mapped}
+use Rattle.mesa_model.proofs.mesa_fold.GroupKeys.{chosen_mapped}
 use Rattle.mesa_schema.proofs.Outlasting.{asks}
 use Rattle.mesa_filter.specs.declared.terms.Term.{Term}
 use Rattle.mesa_filter.specs.Among.{Holds}

@@ -3,7 +3,7 @@ use Rattle.std.proofs.Common.{◌≡◌, ℕ, zero, suc, ◌+◌, ◌<◌, ◌�
 use Rattle.std.specs.List.{cons_option, enumerate_from, prefix_len}
 use Rattle.std.proofs.lemmas.List.{length-take-le}
 use Rattle.std.proofs.Math.ListN.{drop_of_length-le}
-use Rattle.mesa_schema.specs.Columns.{place_of, places_in}
+use Rattle.mesa_model.specs.mesa_columns.Columns.{place_of, places_in}
 use Rattle.mesa_filter.specs.declared.terms.Term.{Term}
 use Rattle.mesa_filter.specs.Asked.{places_below}
 use Rattle.mesa_model.specs.Orders.{has_equal, leading}

@@ -1,7 +1,7 @@
 -- The best order among some.
 use Rattle.std.specs.Prelude.{ℕ, List, Some, nat_lt, if◌then◌else◌}
-use Rattle.mesa_schema.specs.declared.views.View.{View}
-use Rattle.mesa_schema.specs.Columns.{Columns}
+use Rattle.mesa_model.specs.mesa_columns.declared.views.View.{View}
+use Rattle.mesa_model.specs.mesa_columns.Columns.{Columns}
 use Rattle.mesa_filter.specs.declared.terms.Term.{Term}
 use Rattle.mesa_model.specs.Orders.{best_score, choice}
 use Rattle.mesa_order.specs.declared.choosing.Best.{Best}

@@ -1,10 +1,10 @@
 -- A query of a table, asked of a further order.
 use Rattle.std.specs.Prelude.{◌≡◌, List, IsTrue}
-use Rattle.mesa_schema.specs.declared.rows.Row.{Row}
-use Rattle.mesa_schema.specs.declared.views.View.{View}
-use Rattle.mesa_schema.specs.Columns.{Columns, kinds_of}
+use Rattle.mesa_model.specs.mesa_columns.declared.rows.Row.{Row}
+use Rattle.mesa_model.specs.mesa_columns.declared.views.View.{View}
+use Rattle.mesa_model.specs.mesa_columns.Columns.{Columns, kinds_of}
 use Rattle.mesa_schema.specs.Lineages.{is_view_of}
-use Rattle.mesa_schema.specs.Rows.{AreRowsOf}
+use Rattle.mesa_model.specs.mesa_columns.Rows.{AreRowsOf}
 use Rattle.mesa_schema.specs.Views.{view_columns, view_key_places, view_rows, view_value_places}
 use Rattle.mesa_filter.specs.Among.{asked_among, query_among}
 use Rattle.mesa_filter.specs.Asked.{Asked}

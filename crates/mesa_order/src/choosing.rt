@@ -1,6 +1,6 @@
 // By which order a query is answered.
 ghost use Rattle.std.specs.Prelude.{◌≡◌, ◌<◌, IfSome, IsTrue, length, map, slice_get, take};
-ghost use Rattle.mesa_schema.specs.declared.views.View.{View as Chosen};
+ghost use Rattle.mesa_model.specs.mesa_columns.declared.views.View.{View as Chosen};
 ghost use Rattle.mesa_schema.specs.Changes.{columns_of};
 ghost use Rattle.mesa_model.specs.Orders.{choice, is_candidate};
 ghost use Rattle.mesa_order.specs.Best.{better_of};

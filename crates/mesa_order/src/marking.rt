@@ -1,7 +1,7 @@
 // Which columns are chosen.
 ghost use Rattle.std.specs.Prelude.{◌≡◌, ◌≤◌, ℕ, false, length, map, slice_index_or};
 ghost use Rattle.std.specs.List.{list_all, range_with_len};
-ghost use Rattle.mesa_schema.specs.Columns.{places_in};
+ghost use Rattle.mesa_model.specs.mesa_columns.Columns.{places_in};
 ghost use Rattle.mesa_model.specs.Orders.{has_place};
 
 use mesa_schema::{Name, Named, place_of};

@@ -1,8 +1,8 @@
 // How well an order serves a query: how many of its leading key columns have a term with `=`.
 ghost use Rattle.std.specs.Prelude.{◌≡◌, map};
 ghost use Rattle.std.specs.List.{list_all};
-ghost use Rattle.mesa_schema.specs.declared.columns.KeyColumn.{KeyColumn as Key};
-ghost use Rattle.mesa_schema.specs.Columns.{places_in};
+ghost use Rattle.mesa_model.specs.mesa_columns.declared.columns.KeyColumn.{KeyColumn as Key};
+ghost use Rattle.mesa_model.specs.mesa_columns.Columns.{places_in};
 ghost use Rattle.mesa_filter.specs.Asked.{places_below};
 ghost use Rattle.mesa_schema.specs.Views.{view_value_places};
 ghost use Rattle.mesa_model.specs.Orders.{has_equal as has_equal_term, has_place, is_candidate as is_candidate_of, is_further_order as is_order, leading, view_score as score_of_view};

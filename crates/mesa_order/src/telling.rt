@@ -1,6 +1,6 @@
 // What is told of how a query would be answered.
 ghost use Rattle.std.specs.Prelude.{◌≡◌, ◌<◌, ◌≤◌, IfOk, IfSome, length};
-ghost use Rattle.mesa_schema.specs.declared.columns.ValueColumn.{ValueColumn as Value};
+ghost use Rattle.mesa_model.specs.mesa_columns.declared.columns.ValueColumn.{ValueColumn as Value};
 ghost use Rattle.mesa_schema.specs.Changes.{columns_of};
 ghost use Rattle.mesa_model.specs.Orders.{choice, values_told};
 ghost use Rattle.mesa_order.specs.Told.{kept_places};

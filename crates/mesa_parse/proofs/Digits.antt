@@ -5,8 +5,8 @@ use Rattle.std.specs.Option.{ok_or}
 use Rattle.std.proofs.Math.Bool.{and-false}
 use Rattle.std.proofs.lemmas.Bool.{lt-leb}
 use Rattle.mesa_list.specs.Checks.{◌>>=◌, ◌>>◌, refuse_unless}
-use Rattle.mesa_schema.specs.Names.{is_digit}
-use Rattle.mesa_schema.specs.Numbers.{digits_from}
+use Rattle.mesa_columns.specs.Names.{is_digit}
+use Rattle.mesa_columns.specs.Numbers.{digits_from}
 use Rattle.mesa_script.specs.declared.script.Reason.{Reason}
 use Rattle.mesa_script.specs.declared.script.Reason.TheVariants as reason
 use Rattle.mesa_script.specs.Records.{is_between}

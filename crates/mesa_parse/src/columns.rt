@@ -7,10 +7,10 @@ ghost use Rattle.mesa_script.specs.Words.{key_words, value_words};
 ghost use Rattle.mesa_parse.specs.Failures.{Tells};
 
 use crate::failed::Failed;
+use mesa_columns::Fields;
 use mesa_key::KeyType;
 use mesa_list::{Items, Parts};
 use mesa_model::{KeyWords, ValueWords};
-use mesa_columns::Fields;
 use mesa_script::Reason;
 use mesa_value::Agg;
 use std::alloc::{AllocError, Global};

@@ -9,8 +9,8 @@ use crate::command::mesa_command;
 use crate::number_in;
 use clap::ArgMatches;
 use clap::error::ErrorKind;
-use mesa_list::Items;
 use mesa_columns::Words;
+use mesa_list::Items;
 use std::alloc::{AllocError, Global};
 
 /// The greatest seed.

@@ -15,11 +15,11 @@ use crate::numbers::{MAX_NUMBER, MAX_PARTS, limit, number_in};
 use crate::records::{RowFields, field, words};
 use crate::versions::version;
 use csv::ByteRecord;
+use mesa_columns::Words;
 use mesa_filter::QueryWords;
 use mesa_model::{
     AlterWords, Command, ExplainWords, RecastWords, TableWords, ViewWords, WorkWords,
 };
-use mesa_columns::Words;
 use mesa_script::Reason;
 use std::alloc::{AllocError, Global};
 

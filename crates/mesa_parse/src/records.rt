@@ -7,8 +7,8 @@ ghost use Rattle.mesa_script.specs.Script.{records_of};
 ghost use Rattle.mesa_parse.specs.Left.{IsBetween, records_left};
 
 use csv::{ByteRecord, Reader, ReaderBuilder};
-use mesa_list::Items;
 use mesa_columns::Words;
+use mesa_list::Items;
 use mesa_script::ScriptError;
 use std::alloc::{AllocError, Global};
 

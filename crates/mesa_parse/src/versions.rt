@@ -1,7 +1,7 @@
 // The words for versions.
 ghost use Rattle.std.specs.Prelude.{◌≡◌, ◌&&◌, IfSome, drop, is_some, nat_lt, length};
 ghost use Rattle.std.specs.List.{list_all};
-ghost use Rattle.mesa_schema.specs.Names.{is_digit};
+ghost use Rattle.mesa_columns.specs.Names.{is_digit};
 ghost use Rattle.mesa_script.specs.Records.{asks_pin as begins_pin};
 ghost use Rattle.mesa_script.specs.Words.{max_number, number_in as number_between, version_of};
 

@@ -2,7 +2,7 @@
 use Rattle.std.proofs.Common.{◌≡◌, ℕ, zero, suc, ◌+◌, ◌-◌, ◌≤◌, List, [], ◌∷◌, ◌++◌, map, take, drop, refl, Bool, true, false, cond, Option, Some, None}
 use Rattle.std.specs.Prelude.{◌==◌, filter, is_some}
 use Rattle.std.specs.List.{AllByRecursion}
-use Rattle.mesa_schema.proofs.Lists.{all_found}
+use Rattle.mesa_validate.proofs.mesa_columns.Lists.{all_found}
 use Rattle.mesa_span.specs.Plan.{longest}
 use Rattle.mesa_validate.specs.mesa_store_spec.Catalog.{Delta, Ending, TableMeta, end_in, start_in}
 use Rattle.mesa_validate.specs.mesa_store_spec.Fitting.{base_deltas, delta_in, deltas_of}

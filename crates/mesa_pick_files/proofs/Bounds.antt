@@ -3,19 +3,19 @@ use Rattle.std.proofs.Common.{◌≡◌, ℕ, ◌+◌, ◌<◌, ◌≤◌, List,
 use Rattle.std.specs.Prelude.{flat_map, nat_lt, slice_get, ◌==◌}
 use Rattle.std.specs.List.{AllByRecursion, cons_option, list_all}
 use Rattle.std.proofs.lemmas.List.{append-nil, length-map, map-append}
-use Rattle.mesa_catalog_table.specs.mesa_value.declared.Agg.{Agg}
-use Rattle.mesa_catalog_table.specs.mesa_value.declared.Agg.TheVariants.{Sum}
+use Rattle.mesa_query.specs.mesa_value.declared.Agg.{Agg}
+use Rattle.mesa_query.specs.mesa_value.declared.Agg.TheVariants.{Sum}
 use Rattle.mesa_schema.specs.Changes.{Lineage, columns_of, epoch_of, lifted}
-use Rattle.mesa_list.specs.Bytes.{same_bytes}
-use Rattle.mesa_schema.specs.Columns.{Columns, aggs_of, chosen, place_of, places_in, value_names}
-use Rattle.mesa_schema.specs.Folded.{folded, regrouped, rows_of}
-use Rattle.mesa_schema.specs.Laws.{AreFull}
-use Rattle.mesa_schema.specs.Rows.{AreRowsOf}
+use Rattle.mesa_validate.specs.mesa_list.Bytes.{same_bytes}
+use Rattle.mesa_validate.specs.mesa_columns.Columns.{Columns, aggs_of, chosen, place_of, places_in, value_names}
+use Rattle.mesa_open_files.specs.mesa_fold.Folded.{folded, regrouped, rows_of}
+use Rattle.mesa_open_files.specs.mesa_fold.Laws.{AreFull}
+use Rattle.mesa_validate.specs.mesa_columns.Rows.{AreRowsOf}
 use Rattle.mesa_schema.specs.Views.{view_columns, view_key_places, view_rows, view_value_places}
-use Rattle.mesa_schema.specs.declared.columns.ValueColumn.{ValueColumn}
-use Rattle.mesa_schema.specs.declared.rows.Row.{Row}
-use Rattle.mesa_schema.specs.declared.views.View.{View}
-use Rattle.mesa_schema.proofs.Lists.{all_found}
+use Rattle.mesa_validate.specs.mesa_columns.declared.columns.ValueColumn.{ValueColumn}
+use Rattle.mesa_validate.specs.mesa_columns.declared.rows.Row.{Row}
+use Rattle.mesa_validate.specs.mesa_columns.declared.views.View.{View}
+use Rattle.mesa_validate.proofs.mesa_columns.Lists.{all_found}
 use Rattle.mesa_validate.proofs.mesa_batch.NameNumbers.{position-within}
 use Rattle.mesa_validate.specs.mesa_batch.Totals.{abs_total, sum_bound}
 use Rattle.mesa_validate.proofs.mesa_batch.Merged.{folds_totals}

@@ -18,10 +18,10 @@ use Rattle.mesa_validate.proofs.Answering.{columns_there}
 use Rattle.mesa_validate.specs.Found.{columns_at, relation_seen}
 use Rattle.mesa_validate.specs.Seen.{HasCatalog, known_in, known_of}
 use Rattle.mesa_schema.specs.Changes.{Lineage, columns_of}
-use Rattle.mesa_schema.specs.Columns.{Columns}
+use Rattle.mesa_validate.specs.mesa_columns.Columns.{Columns}
 use Rattle.mesa_schema.specs.Views.{view_columns, view_rows}
-use Rattle.mesa_schema.specs.declared.rows.Row.{Row}
-use Rattle.mesa_schema.specs.declared.views.View.{View}
+use Rattle.mesa_validate.specs.mesa_columns.declared.rows.Row.{Row}
+use Rattle.mesa_validate.specs.mesa_columns.declared.views.View.{View}
 use Rattle.mesa_catalog_table.specs.declared.relation.Relation.{Relation as Place}
 use Rattle.mesa_open_files.specs.Pins.{view_at}
 

@@ -2,11 +2,11 @@
 use Rattle.std.proofs.Common.{◌≡◌, ℕ, ◌+◌, ◌-◌, ◌≤◌, [], ◌∷◌, ◌++◌, map, take, drop, refl, sym, ap, ◌∙◌, arith, Bool, true, false, Option, Some, None}
 use Rattle.std.specs.Prelude.{◌==◌}
 use Rattle.std.proofs.lemmas.List.{map-append}
-use Rattle.mesa_schema.specs.Columns.{aggs_of}
+use Rattle.mesa_validate.specs.mesa_columns.Columns.{aggs_of}
 use Rattle.mesa_schema.specs.Changes.{columns_of}
-use Rattle.mesa_schema.specs.Folded.{folded}
-use Rattle.mesa_schema.proofs.Lists.{all_found}
-use Rattle.mesa_schema.proofs.Refolds.{refolded}
+use Rattle.mesa_open_files.specs.mesa_fold.Folded.{folded}
+use Rattle.mesa_validate.proofs.mesa_columns.Lists.{all_found}
+use Rattle.mesa_query.proofs.mesa_fold.Refolds.{refolded}
 use Rattle.mesa_validate.proofs.mesa_catalog_records.Loads.{found_passes}
 use Rattle.mesa_span.specs.Plan.{longest}
 use Rattle.mesa_span.proofs.Longest.{longest_is}

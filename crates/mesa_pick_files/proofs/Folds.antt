@@ -2,22 +2,22 @@
 use Rattle.std.proofs.Common.{◌≡◌, ℕ, List, [], ◌∷◌, ◌++◌, map, refl, sym, ap, ◌∙◌, subst, true, false, cond, Option, Some, None, Result, Ok, Err}
 use Rattle.std.specs.Prelude.{◌==◌, find, flat_map, is_ok, slice_get}
 use Rattle.std.specs.List.{AllByRecursion}
-use Rattle.mesa_catalog_table.specs.mesa_value.Agg.{IsOrderless}
-use Rattle.mesa_catalog_table.specs.mesa_value.declared.Agg.{Agg}
-use Rattle.mesa_catalog_table.specs.mesa_value.declared.Agg.TheVariants.{Sum, Min, Max, Replace}
+use Rattle.mesa_query.specs.mesa_value.Agg.{IsOrderless}
+use Rattle.mesa_query.specs.mesa_value.declared.Agg.{Agg}
+use Rattle.mesa_query.specs.mesa_value.declared.Agg.TheVariants.{Sum, Min, Max, Replace}
 use Rattle.mesa_schema.specs.Changes.{Lineage, columns_of, epoch_of, lifted}
-use Rattle.mesa_schema.specs.Columns.{Columns, aggs_of, chosen, is_replace, key_names, value_names}
-use Rattle.mesa_schema.specs.Folded.{folded, folded_at, keys_of, rows_of}
+use Rattle.mesa_validate.specs.mesa_columns.Columns.{Columns, aggs_of, chosen, is_replace, key_names, value_names}
+use Rattle.mesa_open_files.specs.mesa_fold.Folded.{folded, folded_at, keys_of, rows_of}
 use Rattle.mesa_schema.specs.Lineages.{is_view_of}
-use Rattle.mesa_schema.specs.Rows.{AreRowsOf}
+use Rattle.mesa_validate.specs.mesa_columns.Rows.{AreRowsOf}
 use Rattle.mesa_schema.specs.Views.{choice_checked, values_named, view_columns, view_key_places, view_rows, view_value_places}
-use Rattle.mesa_schema.specs.declared.columns.ValueColumn.{ValueColumn}
-use Rattle.mesa_schema.specs.declared.rows.Row.{Row}
-use Rattle.mesa_schema.specs.declared.views.View.{View}
-use Rattle.mesa_schema.specs.declared.views.ViewError.{ViewError}
-use Rattle.mesa_schema.specs.declared.views.ViewError.TheVariants as no
-use Rattle.mesa_schema.proofs.GroupedFolds.{groups_folded}
-use Rattle.mesa_schema.proofs.Lists.{all_found}
+use Rattle.mesa_validate.specs.mesa_columns.declared.columns.ValueColumn.{ValueColumn}
+use Rattle.mesa_validate.specs.mesa_columns.declared.rows.Row.{Row}
+use Rattle.mesa_validate.specs.mesa_columns.declared.views.View.{View}
+use Rattle.mesa_validate.specs.mesa_columns.declared.views.ViewError.{ViewError}
+use Rattle.mesa_validate.specs.mesa_columns.declared.views.ViewError.TheVariants as no
+use Rattle.mesa_query.proofs.mesa_fold.GroupedFolds.{groups_folded}
+use Rattle.mesa_validate.proofs.mesa_columns.Lists.{all_found}
 use Rattle.mesa_schema.proofs.Passing.{passed_first}
 use Rattle.mesa_query.proofs.mesa_answer.Picked.{chosen-map}
 use Rattle.mesa_validate.proofs.mesa_catalog_records.Loads.{found_passes}

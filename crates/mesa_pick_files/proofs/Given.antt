@@ -2,12 +2,12 @@
 use Rattle.std.proofs.Common.{◌≡◌, ℕ, List, [], ◌∷◌, ◌++◌, map, length, refl, sym, ap, ◌∙◌, subst, Option, Some, None}
 use Rattle.std.specs.Prelude.{◌==◌, flat_map, slice_get}
 use Rattle.std.specs.List.{AllByRecursion}
-use Rattle.mesa_catalog_table.specs.mesa_key.Order.{short_key}
+use Rattle.mesa_query.specs.mesa_key.Order.{short_key}
 use Rattle.mesa_schema.specs.Changes.{Lineage, columns_at, columns_of, epoch_of, lifted}
-use Rattle.mesa_schema.specs.Columns.{Columns}
-use Rattle.mesa_schema.specs.declared.rows.Row.{Row}
-use Rattle.mesa_schema.specs.declared.views.View.{View}
-use Rattle.mesa_schema.proofs.Lists.{all_found}
+use Rattle.mesa_validate.specs.mesa_columns.Columns.{Columns}
+use Rattle.mesa_validate.specs.mesa_columns.declared.rows.Row.{Row}
+use Rattle.mesa_validate.specs.mesa_columns.declared.views.View.{View}
+use Rattle.mesa_validate.proofs.mesa_columns.Lists.{all_found}
 use Rattle.mesa_validate.proofs.mesa_catalog_records.Loads.{found_passes}
 use Rattle.mesa_query.specs.mesa_block.Layout.{Layout}
 use Rattle.mesa_delta.specs.File.{IsFile, file_bytes}

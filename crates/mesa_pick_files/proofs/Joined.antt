@@ -7,9 +7,9 @@ use Rattle.mesa_delta.specs.Reading.{IsTailDamage}
 use Rattle.mesa_delta.specs.Summary.{file_layout}
 use Rattle.std.specs.List.{AllByRecursion}
 use Rattle.mesa_file.specs.declared.damage.Damage.{Damage}
-use Rattle.mesa_schema.specs.Columns.{Columns}
+use Rattle.mesa_validate.specs.mesa_columns.Columns.{Columns}
 use Rattle.mesa_schema.specs.Changes.{Lineage}
-use Rattle.mesa_schema.specs.declared.views.View.{View}
+use Rattle.mesa_validate.specs.mesa_columns.declared.views.View.{View}
 use Rattle.mesa_disk.specs.Image.{Image}
 use Rattle.mesa_delta.specs.declared.input.Input.{Input}
 use Rattle.mesa_record.specs.declared.record.Files.{Files}

@@ -1,4 +1,5 @@
 pub use Rattle.mesa_validate.proofs.mesa_catalog_records as mesa_catalog_records
+pub use Rattle.mesa_query.proofs.mesa_fold as mesa_fold
 pub use Rattle.mesa_schema.proofs as mesa_schema
 pub use Rattle.mesa_span.proofs as mesa_span
 pub mod Parted

@@ -9,7 +9,7 @@ use Rattle.mesa_disk.specs.Image.{Image}
 use Rattle.mesa_file.specs.declared.damage.Damage.{Damage}
 use Rattle.mesa_validate.specs.mesa_store_spec.Catalog.{Delta}
 use Rattle.mesa_schema.specs.Changes.{Lineage}
-use Rattle.mesa_schema.specs.declared.views.View.{View}
+use Rattle.mesa_validate.specs.mesa_columns.declared.views.View.{View}
 use Rattle.mesa_pick_files.specs.Read.{own_file, view_read}
 use Rattle.mesa_pick_files.specs.Files.{Want, own_in, own_lineage, view_wanted}
 use Rattle.mesa_open_files.specs.Opening.{HaveOpened}

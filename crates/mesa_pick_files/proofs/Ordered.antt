@@ -1,12 +1,12 @@
 -- What the files of a query tell by the order that is chosen for it.
 use Rattle.std.proofs.Common.{◌≡◌, ◌∙◌, ℕ, List, true, refl, sym, subst, IsTrue, Option, Some}
 use Rattle.std.specs.List.{list_all}
-use Rattle.mesa_schema.specs.declared.rows.Row.{Row}
-use Rattle.mesa_schema.specs.declared.views.View.{View}
+use Rattle.mesa_validate.specs.mesa_columns.declared.rows.Row.{Row}
+use Rattle.mesa_validate.specs.mesa_columns.declared.views.View.{View}
 use Rattle.mesa_schema.specs.Changes.{Lineage, columns_of}
-use Rattle.mesa_schema.specs.Columns.{Columns}
+use Rattle.mesa_validate.specs.mesa_columns.Columns.{Columns}
 use Rattle.mesa_schema.specs.Lineages.{is_view_of}
-use Rattle.mesa_schema.specs.Rows.{AreRowsOf}
+use Rattle.mesa_validate.specs.mesa_columns.Rows.{AreRowsOf}
 use Rattle.mesa_schema.specs.Views.{view_key_places}
 use Rattle.mesa_validate.specs.mesa_filter.Filter.{are_within}
 use Rattle.mesa_validate.specs.mesa_filter.Query.{IsQueryOf, group_kinds}

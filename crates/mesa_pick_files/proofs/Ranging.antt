@@ -4,7 +4,7 @@ use Rattle.std.specs.Prelude.{Result, Ok, Err, IfOk, IfSome, flat_map, is_some, 
 use Rattle.std.specs.List.{AllByRecursion}
 use Rattle.std.proofs.lemmas.List.{length-append, take_all, take_more}
 use Rattle.mesa_schema.specs.Changes.{Lineage}
-use Rattle.mesa_schema.proofs.Lists.{all_append, all_so}
+use Rattle.mesa_validate.proofs.mesa_columns.Lists.{all_append, all_so}
 use Rattle.mesa_disk.specs.Image.{Image}
 use Rattle.mesa_file.specs.declared.damage.Damage.{Damage}
 use Rattle.mesa_record.specs.declared.record.Files.{Files}

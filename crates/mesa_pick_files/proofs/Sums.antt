@@ -4,16 +4,16 @@ use Rattle.std.specs.Prelude.{nat_abs, pos, slice_get, slice_index_or, ◌==◌}
 use Rattle.std.specs.List.{AllByRecursion}
 use Rattle.std.proofs.lemmas.List.{length-map, take-append-drop}
 use Rattle.std.proofs.lemmas.List.Sums.{sum_by-append}
-use Rattle.mesa_catalog_table.specs.mesa_value.declared.Agg.{Agg}
-use Rattle.mesa_catalog_table.specs.mesa_value.declared.Agg.TheVariants.{Sum, Min, Max, Replace}
+use Rattle.mesa_query.specs.mesa_value.declared.Agg.{Agg}
+use Rattle.mesa_query.specs.mesa_value.declared.Agg.TheVariants.{Sum, Min, Max, Replace}
 use Rattle.mesa_schema.specs.Changes.{Lineage, columns_of}
-use Rattle.mesa_schema.specs.Columns.{Columns, aggs_of}
-use Rattle.mesa_schema.specs.Folded.{rows_of}
-use Rattle.mesa_schema.specs.Laws.{AreFull}
-use Rattle.mesa_schema.specs.Rows.{AreRowsOf, IsRowOf}
-use Rattle.mesa_schema.specs.declared.columns.ValueColumn.{ValueColumn}
-use Rattle.mesa_schema.specs.declared.rows.Row.{Row}
-use Rattle.mesa_schema.proofs.Lists.{all_found, all_so}
+use Rattle.mesa_validate.specs.mesa_columns.Columns.{Columns, aggs_of}
+use Rattle.mesa_open_files.specs.mesa_fold.Folded.{rows_of}
+use Rattle.mesa_open_files.specs.mesa_fold.Laws.{AreFull}
+use Rattle.mesa_validate.specs.mesa_columns.Rows.{AreRowsOf, IsRowOf}
+use Rattle.mesa_validate.specs.mesa_columns.declared.columns.ValueColumn.{ValueColumn}
+use Rattle.mesa_validate.specs.mesa_columns.declared.rows.Row.{Row}
+use Rattle.mesa_validate.proofs.mesa_columns.Lists.{all_found, all_so}
 use Rattle.mesa_validate.specs.mesa_batch.Totals.{AreAtMost, abs_total, sum_bound, sum_places}
 use Rattle.mesa_validate.proofs.mesa_batch.Merged.{folds_totals}
 use Rattle.mesa_span.specs.Plan.{longest}

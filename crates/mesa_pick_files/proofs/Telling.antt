@@ -3,16 +3,16 @@ use Rattle.std.proofs.Common.{◌≡◌, ℕ, zero, suc, ◌<◌, List, [], ◌�
 use Rattle.std.specs.Prelude.{slice_get}
 use Rattle.std.specs.List.{AllByRecursion, list_all}
 use Rattle.mesa_schema.specs.Changes.{Lineage, columns_of}
-use Rattle.mesa_schema.specs.Columns.{Columns, aggs_of}
-use Rattle.mesa_schema.specs.Folded.{folded, rows_of}
+use Rattle.mesa_validate.specs.mesa_columns.Columns.{Columns, aggs_of}
+use Rattle.mesa_open_files.specs.mesa_fold.Folded.{folded, rows_of}
 use Rattle.mesa_schema.specs.Lineages.{is_view_of}
-use Rattle.mesa_schema.specs.Rows.{AreRowsOf}
+use Rattle.mesa_validate.specs.mesa_columns.Rows.{AreRowsOf}
 use Rattle.mesa_schema.specs.Views.{view_key_places, view_rows, view_value_places}
-use Rattle.mesa_schema.specs.declared.rows.Row.{Row}
-use Rattle.mesa_schema.specs.declared.views.View.{View}
-use Rattle.mesa_schema.proofs.Forms.{folded_form}
-use Rattle.mesa_schema.proofs.GroupKeys.{groups_form}
-use Rattle.mesa_schema.proofs.Lists.{all_both}
+use Rattle.mesa_validate.specs.mesa_columns.declared.rows.Row.{Row}
+use Rattle.mesa_validate.specs.mesa_columns.declared.views.View.{View}
+use Rattle.mesa_query.proofs.mesa_fold.Forms.{folded_form}
+use Rattle.mesa_query.proofs.mesa_fold.GroupKeys.{groups_form}
+use Rattle.mesa_validate.proofs.mesa_columns.Lists.{all_both}
 use Rattle.mesa_validate.specs.mesa_filter.Query.{BuiltQuery, IsQueryOf, group_kinds}
 use Rattle.mesa_query.specs.mesa_answer.Answering.{KeepsSums}
 use Rattle.mesa_validate.specs.mesa_model.Page.{page_of}

@@ -5,10 +5,10 @@ use Rattle.std.specs.Option.{option_or}
 use Rattle.std.proofs.lemmas.List.{length-map}
 use Rattle.std.proofs.lemmas.Option.{slice_get-get_or, slice_get_within}
 use Rattle.mesa_validate.proofs.mesa_batch.NameNumbers.{position-within}
-use Rattle.mesa_list.specs.Bytes.{same_bytes}
+use Rattle.mesa_validate.specs.mesa_list.Bytes.{same_bytes}
 use Rattle.mesa_schema.specs.Changes.{Lineage}
-use Rattle.mesa_schema.specs.Columns.{place_of}
-use Rattle.mesa_schema.specs.declared.views.View.{View}
+use Rattle.mesa_validate.specs.mesa_columns.Columns.{place_of}
+use Rattle.mesa_validate.specs.mesa_columns.declared.views.View.{View}
 use Rattle.mesa_validate.specs.mesa_catalog_records.Names.{relation_from, relation_of}
 use Rattle.mesa_validate.specs.mesa_store_spec.Catalog.{Catalog, TableMeta, no_meta, meta_at}
 use Rattle.mesa_pick_files.proofs.Reading.{IsThere}

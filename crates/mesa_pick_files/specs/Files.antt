@@ -1,7 +1,7 @@
 -- The files of deltas that are to be opened.
 use Rattle.std.specs.Prelude.{◌≡◌, ℕ, ◌≤◌, map, ◌==◌, List, [], ◌∷◌, find, Bool, true, false, Option, Some, None}
 use Rattle.mesa_schema.specs.Changes.{Lineage, columns_of, epoch_of}
-use Rattle.mesa_schema.specs.declared.views.View.{View}
+use Rattle.mesa_validate.specs.mesa_columns.declared.views.View.{View}
 use Rattle.mesa_schema.specs.Views.{view_columns}
 use Rattle.mesa_file.specs.declared.file_ref.FileRef.{FileRef}
 use Rattle.mesa_record.specs.declared.record.Files.{Files}

@@ -2,7 +2,7 @@
 use Rattle.std.specs.Prelude.{◌≡◌, ◌⊎◌, ℕ, List, [], ◌∷◌, map, flat_map, true, Option, None, Some, slice_get}
 use Rattle.mesa_disk.specs.Image.{Image}
 use Rattle.mesa_schema.specs.Changes.{Lineage, columns_at}
-use Rattle.mesa_schema.specs.declared.views.View.{View}
+use Rattle.mesa_validate.specs.mesa_columns.declared.views.View.{View}
 use Rattle.mesa_validate.specs.mesa_store_spec.Catalog.{Delta, TableMeta}
 use Rattle.mesa_validate.specs.mesa_store_spec.Planned.{planned}
 use Rattle.mesa_pick_files.specs.Files.{Seen, Want, own_in, own_lineage, table_wanted, view_wanted, want_in, want_of}

@@ -1,9 +1,9 @@
 -- What the files of a query tell of its answer.
 use Rattle.std.specs.Prelude.{◌≡◌, ℕ, List, [], ◌∷◌, map, Bool, Option, ⊤}
-use Rattle.mesa_schema.specs.declared.rows.Row.{Row}
-use Rattle.mesa_schema.specs.Columns.{Columns, aggs_of}
-use Rattle.mesa_schema.specs.Rows.{AreRowsOf}
-use Rattle.mesa_schema.specs.Folded.{folded, rows_of}
+use Rattle.mesa_validate.specs.mesa_columns.declared.rows.Row.{Row}
+use Rattle.mesa_validate.specs.mesa_columns.Columns.{Columns, aggs_of}
+use Rattle.mesa_validate.specs.mesa_columns.Rows.{AreRowsOf}
+use Rattle.mesa_open_files.specs.mesa_fold.Folded.{folded, rows_of}
 use Rattle.mesa_query.specs.mesa_answer.Answering.{KeepsSums}
 use Rattle.mesa_validate.specs.mesa_filter.Query.{BuiltQuery, group_kinds}
 use Rattle.mesa_query.specs.mesa_merge.Inputs.{AreTold, Known, knowns_of, lifted_in}

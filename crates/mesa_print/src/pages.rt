@@ -3,16 +3,16 @@ ghost use Rattle.std.specs.Prelude.{◌≡◌, ◌++◌, [], ◌∷◌, IfOk, Is
 ghost use Rattle.std.specs.List.{AllByRecursion, flat_map};
 ghost use Rattle.mesa_filter.specs.Hex.{hex_of};
 ghost use Rattle.mesa_key.specs.Spelling.{is_spelling};
-ghost use Rattle.mesa_schema.specs.declared.rows.Row.{Row as AnyRow};
+ghost use Rattle.mesa_columns.specs.declared.rows.Row.{Row as AnyRow};
 ghost use Rattle.mesa_script.specs.Rows.{rendered, row_line};
 
 use crate::rows::set_fields;
 use crate::writing::{into_lines, row_writer, write_row};
 use csv::ByteRecord;
+use mesa_columns::Row;
 use mesa_key::KeyType;
 use mesa_list::Items;
 use mesa_model::Page;
-use mesa_columns::Row;
 use mesa_script::Rendered;
 use std::alloc::{AllocError, Global};
 

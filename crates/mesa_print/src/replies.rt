@@ -4,8 +4,8 @@ ghost use Rattle.mesa_script.specs.Replies.{expired_word, reply_text, rows_text}
 ghost use Rattle.mesa_print.specs.Lines.{Puts};
 
 use crate::line::Line;
-use mesa_model::Reply;
 use mesa_columns::Name;
+use mesa_model::Reply;
 
 impl Line<'_> {
     // Puts the head of a query's answer.

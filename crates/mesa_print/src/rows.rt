@@ -7,8 +7,8 @@ ghost use Rattle.mesa_script.specs.Rows.{row_fields, value_text};
 
 use csv::ByteRecord;
 use itoa::Buffer;
-use mesa_key::{Amount, Column, ColumnValue, KeyColumns, KeyType};
 use mesa_columns::Row;
+use mesa_key::{Amount, Column, ColumnValue, KeyColumns, KeyType};
 use std::alloc::AllocError;
 
 // A number as a field more.

@@ -6,13 +6,13 @@ use Rattle.std.proofs.Math.Seq.{take-nil}
 use Rattle.std.proofs.lemmas.Bool.{le-ltb}
 use Rattle.std.proofs.lemmas.List.Elements.{filter-append}
 use Rattle.std.proofs.lemmas.List.Filters.{sum_by-filter_both}
-use Rattle.mesa_view.specs.mesa_value.Agg.{sum_bound}
+use Rattle.mesa_open_files.specs.mesa_value.Agg.{sum_bound}
 use Rattle.mesa_view.specs.mesa_key.Spelling.{key_of}
-use Rattle.mesa_schema.specs.declared.rows.Row.{Row}
-use Rattle.mesa_schema.specs.Columns.{Columns, aggs_of, kinds_of}
-use Rattle.mesa_schema.specs.Folded.{folded, grouped, rows_of}
-use Rattle.mesa_schema.specs.Rows.{AreRowsOf}
-use Rattle.mesa_schema.proofs.FilteredFolds.{filtered_folds}
+use Rattle.mesa_open_files.specs.mesa_columns.declared.rows.Row.{Row}
+use Rattle.mesa_open_files.specs.mesa_columns.Columns.{Columns, aggs_of, kinds_of}
+use Rattle.mesa_open_files.specs.mesa_fold.Folded.{folded, grouped, rows_of}
+use Rattle.mesa_open_files.specs.mesa_columns.Rows.{AreRowsOf}
+use Rattle.mesa_merge.proofs.mesa_fold.FilteredFolds.{filtered_folds}
 use Rattle.mesa_filter.specs.declared.terms.Term.{Term}
 use Rattle.mesa_filter.specs.Filter.{filtered, meets}
 use Rattle.mesa_filter.specs.Query.{BuiltQuery, IsQueryOf}

@@ -8,10 +8,10 @@ use Rattle.mesa_delta.specs.declared.error.FileError.{FileError}
 use Rattle.mesa_delta.specs.declared.error.FileError.TheVariants as file_error
 use Rattle.mesa_model.specs.declared.replies.Page.{Page}
 use Rattle.mesa_file.specs.declared.damage.Damage.{Damage}
-use Rattle.mesa_schema.specs.declared.rows.Row.{Row}
-use Rattle.mesa_schema.specs.Columns.{Columns}
-use Rattle.mesa_schema.specs.Folded.{rows_of}
-use Rattle.mesa_schema.specs.Rows.{AreRowsOf}
+use Rattle.mesa_open_files.specs.mesa_columns.declared.rows.Row.{Row}
+use Rattle.mesa_open_files.specs.mesa_columns.Columns.{Columns}
+use Rattle.mesa_open_files.specs.mesa_fold.Folded.{rows_of}
+use Rattle.mesa_open_files.specs.mesa_columns.Rows.{AreRowsOf}
 use Rattle.mesa_query.specs.Files.{IsDamageIn, inputs_in}
 use Rattle.mesa_query.specs.Relation.{page_over, parts_pinned, parts_ungrouped}
 use Rattle.mesa_query.specs.Sums.{IsSumIn}

@@ -6,14 +6,14 @@ use Rattle.std.proofs.lemmas.List.{map-append, take-append-drop}
 use Rattle.std.proofs.lemmas.List.Elements.{filter-append}
 use Rattle.mesa_view.specs.mesa_key.declared.KeyType.{KeyType}
 use Rattle.mesa_view.specs.mesa_key.Spelling.{is_spelling, key_of}
-use Rattle.mesa_schema.specs.declared.rows.Row.{Row}
-use Rattle.mesa_schema.specs.declared.views.View.{View}
-use Rattle.mesa_schema.specs.Columns.{Columns, kinds_of}
+use Rattle.mesa_open_files.specs.mesa_columns.declared.rows.Row.{Row}
+use Rattle.mesa_open_files.specs.mesa_columns.declared.views.View.{View}
+use Rattle.mesa_open_files.specs.mesa_columns.Columns.{Columns, kinds_of}
 use Rattle.mesa_schema.specs.Changes.{columns_of}
-use Rattle.mesa_schema.specs.Folded.{rows_of}
-use Rattle.mesa_schema.specs.Rows.{AreRowsOf, IsRowOf}
+use Rattle.mesa_open_files.specs.mesa_fold.Folded.{rows_of}
+use Rattle.mesa_open_files.specs.mesa_columns.Rows.{AreRowsOf, IsRowOf}
 use Rattle.mesa_schema.specs.Views.{view_columns, view_key_places, view_value_places}
-use Rattle.mesa_schema.proofs.Folds.{rows_of-append}
+use Rattle.mesa_merge.proofs.mesa_fold.Folds.{rows_of-append}
 use Rattle.mesa_filter.specs.declared.terms.Term.{Term}
 use Rattle.mesa_filter.specs.Filter.{KeyFilter, filtered, meets}
 use Rattle.mesa_block.specs.Layout.{Layout}
@@ -36,7 +36,7 @@ use Rattle.mesa_answer.proofs.Leaving.{leaves_before, leaves_behind}
 use Rattle.mesa_answer.specs.Regrouping.{PlacesSeen, places_seen, row_under}
 use Rattle.mesa_answer.proofs.Forms.{row_spells}
 use Rattle.mesa_answer.proofs.Passing.{one_more_row}
-use Rattle.mesa_schema.proofs.GroupKeys.{regrouped_form}
+use Rattle.mesa_merge.proofs.mesa_fold.GroupKeys.{regrouped_form}
 use Rattle.mesa_view.proofs.Blocks.{every_passes, given_all, given_matching}
 use Rattle.mesa_view.proofs.Sums.{sums_front}
 use Rattle.mesa_query.specs.Relation.{under_view}

@@ -10,9 +10,9 @@ use Rattle.mesa_delta.specs.declared.input.Input.{Input}
 use Rattle.mesa_filter.specs.Filter.{filtered}
 use Rattle.mesa_filter.specs.declared.terms.Term.{Term}
 use Rattle.mesa_file.specs.declared.damage.Damage.{Damage}
-use Rattle.mesa_schema.specs.declared.rows.Row.{Row}
-use Rattle.mesa_schema.specs.Columns.{Columns}
-use Rattle.mesa_schema.specs.Folded.{rows_of}
+use Rattle.mesa_open_files.specs.mesa_columns.declared.rows.Row.{Row}
+use Rattle.mesa_open_files.specs.mesa_columns.Columns.{Columns}
+use Rattle.mesa_open_files.specs.mesa_fold.Folded.{rows_of}
 use Rattle.mesa_query.specs.Files.{AreMoved, IsDamageIn, inputs_in, owns_in}
 use Rattle.mesa_query.specs.Relation.{parts_pinned, parts_ungrouped, rows_ungrouped}
 use Rattle.mesa_merge.specs.Faults.{faults_of}

@@ -5,7 +5,7 @@ use Rattle.mesa_open_files.specs.mesa_io.Causes.{Rose}
 use Rattle.mesa_file.specs.declared.damage.Damage.{Damage}
 use Rattle.mesa_file.specs.declared.damage.Seen.{Seen}
 use Rattle.mesa_file.specs.declared.damage.Seen.TheVariants as seen
-use Rattle.mesa_schema.specs.declared.rows.Row.{Row}
+use Rattle.mesa_open_files.specs.mesa_columns.declared.rows.Row.{Row}
 use Rattle.mesa_filter.specs.declared.terms.Term.{Term}
 use Rattle.mesa_answer.specs.Gathering.{Wanted}
 use Rattle.mesa_delta.specs.Damages.{IsWrongLength, IsPieceDamage}

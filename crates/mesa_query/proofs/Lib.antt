@@ -1,5 +1,6 @@
 pub use Rattle.mesa_answer.proofs as mesa_answer
 pub use Rattle.mesa_filter.proofs as mesa_filter
+pub use Rattle.mesa_merge.proofs.mesa_fold as mesa_fold
 pub use Rattle.mesa_merge.proofs as mesa_merge
 pub mod Blocks
 pub mod Ungrouped

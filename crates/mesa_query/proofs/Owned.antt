@@ -2,10 +2,10 @@
 use Rattle.std.proofs.Common.{◌≡◌, ℕ, List, [], ◌∷◌, ◌++◌, refl, sym, ◌∙◌, ap, subst, true, false}
 use Rattle.std.specs.List.{AllByRecursion}
 use Rattle.std.specs.Prelude.{Bool, Option, None, Some}
-use Rattle.mesa_schema.specs.declared.rows.Row.{Row}
-use Rattle.mesa_schema.specs.declared.views.View.{View}
+use Rattle.mesa_open_files.specs.mesa_columns.declared.rows.Row.{Row}
+use Rattle.mesa_open_files.specs.mesa_columns.declared.views.View.{View}
 use Rattle.mesa_schema.specs.Changes.{Lineage, columns_of}
-use Rattle.mesa_schema.specs.Columns.{Columns}
+use Rattle.mesa_open_files.specs.mesa_columns.Columns.{Columns}
 use Rattle.mesa_schema.specs.Views.{view_columns}
 use Rattle.mesa_filter.specs.declared.terms.Term.{Term}
 use Rattle.mesa_filter.specs.Filter.{filtered}

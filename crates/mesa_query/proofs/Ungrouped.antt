@@ -1,14 +1,14 @@
 -- Rows of a table fold under a view's keys as their groups do.
 use Rattle.std.proofs.Common.{◌≡◌, ℕ, List, [], ◌∷◌, ◌++◌, Bool, true, false, refl, sym, ◌∙◌, ap, subst, append_assoc, Option, Some, None}
-use Rattle.mesa_view.specs.mesa_value.declared.Agg.{Agg}
-use Rattle.mesa_schema.specs.declared.columns.ValueColumn.{ValueColumn}
-use Rattle.mesa_schema.specs.declared.rows.Row.{Row}
-use Rattle.mesa_schema.specs.declared.views.View.{View}
+use Rattle.mesa_open_files.specs.mesa_value.declared.Agg.{Agg}
+use Rattle.mesa_open_files.specs.mesa_columns.declared.columns.ValueColumn.{ValueColumn}
+use Rattle.mesa_open_files.specs.mesa_columns.declared.rows.Row.{Row}
+use Rattle.mesa_open_files.specs.mesa_columns.declared.views.View.{View}
 use Rattle.mesa_schema.specs.Changes.{Lineage, columns_of}
-use Rattle.mesa_schema.specs.Columns.{Columns, aggs_of, chosen}
-use Rattle.mesa_schema.specs.Folded.{folded}
+use Rattle.mesa_open_files.specs.mesa_columns.Columns.{Columns, aggs_of, chosen}
+use Rattle.mesa_open_files.specs.mesa_fold.Folded.{folded}
 use Rattle.mesa_schema.specs.Views.{view_columns, view_rows, view_value_places}
-use Rattle.mesa_schema.proofs.Refolds.{refolded}
+use Rattle.mesa_merge.proofs.mesa_fold.Refolds.{refolded}
 use Rattle.mesa_answer.proofs.Picked.{chosen-map}
 use Rattle.std.specs.List.{AllByRecursion}
 use Rattle.mesa_open_files.specs.Inputs.{lifted_in, lineage_of}

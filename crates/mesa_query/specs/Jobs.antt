@@ -1,8 +1,8 @@
 -- Blocks that are dealt out to jobs, each with groups of its own.
 use Rattle.std.specs.Prelude.{◌≡◌, ◌≤◌, List, ◌++◌, length, map, take, true}
 use Rattle.std.specs.List.{AllByRecursion}
-use Rattle.mesa_schema.specs.declared.rows.Row.{Row}
-use Rattle.mesa_schema.specs.Columns.{kinds_of}
+use Rattle.mesa_open_files.specs.mesa_columns.declared.rows.Row.{Row}
+use Rattle.mesa_open_files.specs.mesa_columns.Columns.{kinds_of}
 use Rattle.mesa_filter.specs.Filter.{KeyFilter}
 use Rattle.mesa_delta.specs.Ahead.{AreAhead}
 use Rattle.mesa_merge.specs.Inputs.{AreAlike, AreTold, Known, tolds_of}

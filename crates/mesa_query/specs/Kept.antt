@@ -2,7 +2,7 @@
 use Rattle.std.specs.Prelude.{◌≡◌, ◌≤◌, ℕ, List, Option, Vec, vec_len, vec_capacity}
 use Rattle.std.specs.declared.alloc.Global.{Global}
 use Rattle.mesa_cache.specs.Reading.{Reading}
-use Rattle.mesa_schema.specs.Columns.{Columns}
+use Rattle.mesa_open_files.specs.mesa_columns.Columns.{Columns}
 use Rattle.mesa_open_files.specs.Pins.{IsPinned}
 use Rattle.mesa_open_files.specs.declared.querying.Pinned.{Pinned}
 use Rattle.mesa_open_files.specs.declared.querying.PinnedInput.{PinnedInput}

@@ -1,10 +1,10 @@
 -- The rows of files as rows of the queried relation.
 use Rattle.std.specs.Prelude.{ℕ, List, [], ◌∷◌, map, Bool, true, false, Option, None, Some}
-use Rattle.mesa_schema.specs.declared.rows.Row.{Row}
-use Rattle.mesa_schema.specs.declared.views.View.{View}
-use Rattle.mesa_schema.specs.Columns.{Columns, aggs_of}
+use Rattle.mesa_open_files.specs.mesa_columns.declared.rows.Row.{Row}
+use Rattle.mesa_open_files.specs.mesa_columns.declared.views.View.{View}
+use Rattle.mesa_open_files.specs.mesa_columns.Columns.{Columns, aggs_of}
 use Rattle.mesa_schema.specs.Changes.{Lineage, columns_of}
-use Rattle.mesa_schema.specs.Folded.{folded, regrouped}
+use Rattle.mesa_open_files.specs.mesa_fold.Folded.{folded, regrouped}
 use Rattle.mesa_schema.specs.Views.{view_key_places, view_value_places}
 use Rattle.mesa_filter.specs.Query.{BuiltQuery}
 use Rattle.mesa_model.specs.declared.replies.Page.{Page}

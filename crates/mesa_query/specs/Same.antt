@@ -1,7 +1,7 @@
 -- A pinned query that is the same, however much of its files was read.
 use Rattle.std.specs.Prelude.{◌≡◌, ℕ, List, map, Option}
 use Rattle.std.specs.List.{AllByRecursion}
-use Rattle.mesa_schema.specs.Columns.{Columns}
+use Rattle.mesa_open_files.specs.mesa_columns.Columns.{Columns}
 use Rattle.mesa_query.specs.Files.{inputs_in, owns_in}
 use Rattle.mesa_merge.specs.Inputs.{knowns_of}
 use Rattle.mesa_scan.specs.Cursors.{IsInput, reader_in}

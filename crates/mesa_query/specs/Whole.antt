@@ -1,8 +1,8 @@
 -- The whole answer to a query.
 use Rattle.std.specs.Prelude.{◌-◌, ◌^◌, List, false, None}
-use Rattle.mesa_schema.specs.declared.rows.Row.{Row}
-use Rattle.mesa_schema.specs.Columns.{Columns, aggs_of}
-use Rattle.mesa_schema.specs.Folded.{folded}
+use Rattle.mesa_open_files.specs.mesa_columns.declared.rows.Row.{Row}
+use Rattle.mesa_open_files.specs.mesa_columns.Columns.{Columns, aggs_of}
+use Rattle.mesa_open_files.specs.mesa_fold.Folded.{folded}
 use Rattle.mesa_filter.specs.Query.{BuiltQuery}
 use Rattle.mesa_model.specs.Query.{answer_rows}
 use Rattle.mesa_answer.specs.Gathering.{Wanted}

@@ -1,9 +1,9 @@
 // Pinned files put into the groups of a query by a few threads.
 ghost use Rattle.std.specs.Prelude.{◌≡◌, ◌<◌, ◌≤◌, ◌+◌, ℕ, List, [], flat_map, length, map, slice_index_or, false, true, IfErr, IfOk, IfSome};
 ghost use Rattle.std.specs.List.{AllByRecursion};
-ghost use Rattle.mesa_schema.specs.declared.rows.Row.{Row as AnyRow};
-ghost use Rattle.mesa_schema.specs.Columns.{kinds_of};
-ghost use Rattle.mesa_schema.specs.Folded.{rows_of};
+ghost use Rattle.mesa_open_files.specs.mesa_columns.declared.rows.Row.{Row as AnyRow};
+ghost use Rattle.mesa_open_files.specs.mesa_columns.Columns.{kinds_of};
+ghost use Rattle.mesa_open_files.specs.mesa_fold.Folded.{rows_of};
 ghost use Rattle.mesa_filter.specs.Filter.{KeyFilter, filtered};
 ghost use Rattle.mesa_delta.specs.declared.error.FileError.TheVariants as file_error;
 ghost use Rattle.mesa_merge.specs.Faults.{HaveFaultCause, faults_of};

@@ -1,9 +1,9 @@
 // Blocks that are dealt out to jobs, and what a job does with its own.
 ghost use Rattle.std.specs.Prelude.{◌≡◌, ◌++◌, [], List, map, flat_map, true, IfOk, OnOk};
 ghost use Rattle.std.specs.List.{AllByRecursion};
-ghost use Rattle.mesa_schema.specs.declared.rows.Row.{Row as AnyRow};
-ghost use Rattle.mesa_schema.specs.Columns.{kinds_of};
-ghost use Rattle.mesa_schema.specs.Rows.{AreRowsOf};
+ghost use Rattle.mesa_open_files.specs.mesa_columns.declared.rows.Row.{Row as AnyRow};
+ghost use Rattle.mesa_open_files.specs.mesa_columns.Columns.{kinds_of};
+ghost use Rattle.mesa_open_files.specs.mesa_columns.Rows.{AreRowsOf};
 ghost use Rattle.mesa_filter.specs.Filter.{KeyFilter};
 ghost use Rattle.mesa_delta.specs.Ahead.{AreAhead};
 ghost use Rattle.mesa_merge.specs.Inputs.{AreAlike, AreTold, Known as AnyKnown, tolds_of};

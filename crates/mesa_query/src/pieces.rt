@@ -1,9 +1,9 @@
 // Which blocks of which files are read for a query.
 ghost use Rattle.std.specs.Prelude.{◌≡◌, ◌++◌, List, true, IfOk, OnOk};
 ghost use Rattle.std.specs.List.{AllByRecursion};
-ghost use Rattle.mesa_schema.specs.declared.rows.Row.{Row as AnyRow};
-ghost use Rattle.mesa_schema.specs.Columns.{Columns, kinds_of};
-ghost use Rattle.mesa_schema.specs.Folded.{rows_of};
+ghost use Rattle.mesa_open_files.specs.mesa_columns.declared.rows.Row.{Row as AnyRow};
+ghost use Rattle.mesa_open_files.specs.mesa_columns.Columns.{Columns, kinds_of};
+ghost use Rattle.mesa_open_files.specs.mesa_fold.Folded.{rows_of};
 ghost use Rattle.mesa_filter.specs.Filter.{filtered};
 ghost use Rattle.mesa_merge.specs.Inputs.{AreTold, known_of, knowns_of};
 ghost use Rattle.mesa_scan.specs.Cursors.{IsInput};

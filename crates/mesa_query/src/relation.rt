@@ -1,7 +1,7 @@
 // The columns of the queried relation.
 ghost use Rattle.std.specs.Prelude.{◌≡◌, ℕ, IfOk, Option, List};
 ghost use Rattle.mesa_schema.specs.Changes.{columns_of};
-ghost use Rattle.mesa_schema.specs.Columns.{Columns};
+ghost use Rattle.mesa_open_files.specs.mesa_columns.Columns.{Columns};
 ghost use Rattle.mesa_open_files.specs.Inputs.{lineage_of};
 ghost use Rattle.mesa_open_files.specs.Pins.{IsOfRelation};
 

@@ -45,7 +45,7 @@ use Rattle.mesa_pick_files.proofs.Ordered.{IsAllowed, read_rows, read_view}
 use Rattle.mesa_pick_files.proofs.Reading.{columns_read}
 use Rattle.mesa_pick_files.proofs.Telling.{content_form, content_read, pinned_tells, meta_given}
 use Rattle.mesa_validate.proofs.ReadBy.{read_limit, read_prefix, read_resume, read_version}
-use Rattle.mesa_schema.specs.Columns.{Columns}
+use Rattle.mesa_columns.specs.Columns.{Columns}
 use Rattle.mesa_pick_files.proofs.Unsound.{seen_sound}
 use Rattle.mesa_pick_files.specs.Read.{relation_read}
 use Rattle.mesa_pick_files.proofs.Among.{all_planned}

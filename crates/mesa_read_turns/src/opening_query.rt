@@ -6,7 +6,7 @@ ghost use Rattle.mesa_engine.specs.mesa_history_spec.Turns.{IsDue};
 ghost use Rattle.mesa_model.specs.declared.commands.Command.TheVariants as command;
 ghost use Rattle.mesa_model.specs.declared.entries.Kind.TheVariants as kind;
 ghost use Rattle.mesa_pick_files.specs.Told.{Tells};
-ghost use Rattle.mesa_schema.specs.Columns.{Columns};
+ghost use Rattle.mesa_columns.specs.Columns.{Columns};
 ghost use Rattle.mesa_engine.specs.mesa_history_spec.Rows.{no_rows};
 ghost use Rattle.mesa_open_files.specs.Pins.{IsPinned};
 ghost use Rattle.mesa_engine.specs.mesa_invariant_spec.Queries.{IsOpen};

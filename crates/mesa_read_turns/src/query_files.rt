@@ -16,7 +16,7 @@ ghost use Rattle.mesa_validate.specs.Found.{columns_at};
 ghost use Rattle.mesa_engine.specs.mesa_store_spec.Shape.{IsCatalog};
 ghost use Rattle.mesa_engine.specs.EngineState.{books_of};
 ghost use Rattle.mesa_engine.specs.Failure.{cause_in};
-ghost use Rattle.mesa_schema.specs.Columns.{Columns};
+ghost use Rattle.mesa_columns.specs.Columns.{Columns};
 ghost use Rattle.mesa_engine.specs.mesa_history_spec.Rows.{no_rows};
 ghost use Rattle.mesa_open_files.specs.Opening.{Counted, is_read_fault};
 ghost use Rattle.mesa_open_files.specs.Pins.{IsPinned};

@@ -5,8 +5,8 @@ ghost use Rattle.mesa_script.specs.Rows.{body_of, order_line, span_lines as line
 ghost use Rattle.mesa_engine.specs.mesa_invariant_spec.Changes.{is_plain};
 
 use itoa::Buffer;
-use mesa_model::Reply;
 use mesa_columns::Name;
+use mesa_model::Reply;
 use std::alloc::{AllocError, Global};
 
 /// What stands behind the head line of a reply that is no page: a plan's ranges, one a line, and by which relation a query would be answered, where that was asked.

@@ -3,7 +3,7 @@ use Rattle.std.proofs.Common.{◌≡◌, ℕ, refl, sym, ◌∙◌, ap, Result, 
 use Rattle.std.specs.Prelude.{◌≢◌}
 use Rattle.std.proofs.lemmas.Bool.{eq-eqb, ne_eqb}
 use Rattle.mesa_list.specs.Checks.{◌>>◌, refuse_unless, refused_as}
-use Rattle.mesa_engine.specs.mesa_binding.Told.{recast_failure}
+use Rattle.mesa_work_turns.specs.mesa_binding.Told.{recast_failure}
 use Rattle.mesa_work_turns.specs.mesa_history_spec.Machine.{Claim, claim_checked, still_checked}
 use Rattle.mesa_model.specs.Refusals.{recast_refusal}
 use Rattle.mesa_model.specs.Warehouse.{table_at}

@@ -6,7 +6,7 @@ use Rattle.mesa_io.specs.Causes.{last}
 use Rattle.mesa_disk.specs.Story.{Story, Unmoved}
 use Rattle.mesa_work_turns.specs.mesa_history_spec.Sources.{Source, Written}
 use Rattle.mesa_work_turns.specs.mesa_schema.Changes.{Lineage, columns_of, epoch_of}
-use Rattle.mesa_work_turns.specs.mesa_schema.Columns.{Columns}
+use Rattle.mesa_work_turns.specs.mesa_columns.Columns.{Columns}
 use Rattle.mesa_work_turns.specs.mesa_schema.Recasts.{Recast}
 use Rattle.mesa_work_turns.specs.mesa_history_spec.Rows.{Rows}
 use Rattle.mesa_open_files.specs.Inputs.{AreInputsTo, IsMergeOf}

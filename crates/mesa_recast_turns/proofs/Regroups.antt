@@ -2,7 +2,7 @@
 use Rattle.std.proofs.Common.{◌≡◌, ◌∙◌, ℕ, ◌+◌, ◌<◌, ◌^◌, List, [], ◌∷◌, ◌++◌, map, length, Bool, true, false, ◌||◌, refl, sym, ap, subst, arith, Option, None, Some, Ok, IsTrue}
 use Rattle.std.specs.List.{AllByRecursion}
 use Rattle.mesa_work_turns.specs.mesa_key.Spelling.{AreBytes}
-use Rattle.mesa_work_turns.proofs.mesa_schema.Lists.{map_at}
+use Rattle.mesa_engine.proofs.mesa_columns.Lists.{map_at}
 use Rattle.mesa_disk.specs.Files.{AreGone, files_of}
 use Rattle.mesa_disk.specs.Image.{Image}
 use Rattle.mesa_disk.specs.Story.{Spans, Steps, Story}

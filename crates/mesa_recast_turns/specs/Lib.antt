@@ -1,4 +1,5 @@
 pub use Rattle.mesa_pick_files.specs.mesa_answer as mesa_answer
+pub use Rattle.mesa_work_turns.specs.mesa_columns as mesa_columns
 pub use Rattle.mesa_work_turns.specs.mesa_compact as mesa_compact
 pub use Rattle.mesa_work_turns.specs.mesa_copy as mesa_copy
 pub use Rattle.mesa_work_turns.specs.mesa_file_records as mesa_file_records

@@ -6,8 +6,8 @@ use Rattle.mesa_engine.specs.EngineState.{EngineState}
 use Rattle.mesa_engine.specs.Turned.{leased_state}
 use Rattle.mesa_work_turns.specs.mesa_invariant_spec.Books.{Books}
 use Rattle.mesa_work_turns.specs.mesa_invariant_spec.Causes.{Cause, NoMemory, Replies}
-use Rattle.mesa_engine.specs.mesa_binding.declared.failure.Failure.{Failure}
-use Rattle.mesa_engine.specs.mesa_binding.declared.failure.Failure.TheVariants as asked
+use Rattle.mesa_work_turns.specs.mesa_binding.declared.failure.Failure.{Failure}
+use Rattle.mesa_work_turns.specs.mesa_binding.declared.failure.Failure.TheVariants as asked
 use Rattle.mesa_model.specs.Warehouse.{table_at}
 use Rattle.mesa_model.specs.declared.replies.Reply.TheVariants as reply
 use Rattle.mesa_work_turns.specs.mesa_schema.Recasts.{Recast}

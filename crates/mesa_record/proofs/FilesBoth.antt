@@ -1,7 +1,7 @@
 -- The files of deltas, and the parts of batches, both ways.
 use Rattle.std.proofs.Common.{◌≡◌, [], ◌∷◌, ℕ, ◌+◌, ◌<◌, ◌^◌, List, ◌++◌, length, refl, sym, ap, subst, ◌∙◌, append_assoc, Bool, true, false, Ok, Option, Some, None}
 use Rattle.std.specs.Prelude.{IsTrue, ◌&&◌, flat_map, map, nat_le}
-use Rattle.mesa_list.proofs.Whole.{both}
+use Rattle.mesa_record_fields.proofs.mesa_list.Whole.{both}
 use Rattle.std.specs.List.{AllByRecursion, list_all}
 use Rattle.mesa_record_fields.specs.declared.edition.Edition.{Edition}
 use Rattle.mesa_record.specs.declared.record.ViewRef.{ViewRef}

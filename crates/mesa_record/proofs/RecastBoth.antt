@@ -2,7 +2,7 @@
 use Rattle.std.proofs.Common.{◌≡◌, ℕ, List, ◌++◌, length, refl, ap, subst, ◌∙◌, append_assoc, Bool, true, false, Ok, Option, Some, None}
 use Rattle.std.specs.Prelude.{IsTrue, ◌&&◌}
 use Rattle.std.specs.List.{list_all}
-use Rattle.mesa_list.proofs.Whole.{both}
+use Rattle.mesa_record_fields.proofs.mesa_list.Whole.{both}
 use Rattle.mesa_record_fields.specs.declared.edition.Edition.TheVariants.{Fourth}
 use Rattle.mesa_record.specs.declared.recasting.RecastBase.{RecastBase}
 use Rattle.mesa_record.specs.declared.recasting.Recasting.{Recasting}

@@ -3,10 +3,10 @@ use Rattle.std.proofs.Common.{◌≡◌, inl, inr, ℕ, ◌+◌, ◌<◌, ◌^�
 use Rattle.std.specs.Prelude.{IsTrue, ◌&&◌, ◌==◌, flat_map, if◌then◌else◌, map, nat_le, nat_lt}
 use Rattle.std.specs.List.{AllByRecursion, list_all}
 use Rattle.std.proofs.lemmas.Bool.{eqb-true, ltb-true, lt-ltb}
-use Rattle.mesa_list.proofs.Whole.{both}
+use Rattle.mesa_record_fields.proofs.mesa_list.Whole.{both}
 use Rattle.mesa_record_fields.specs.mesa_key.Spelling.{AreBytes}
-use Rattle.mesa_schema.specs.declared.columns.KeyColumn.{KeyColumn}
-use Rattle.mesa_schema.specs.declared.columns.ValueColumn.{ValueColumn}
+use Rattle.mesa_record_fields.specs.mesa_columns.declared.columns.KeyColumn.{KeyColumn}
+use Rattle.mesa_record_fields.specs.mesa_columns.declared.columns.ValueColumn.{ValueColumn}
 use Rattle.mesa_record_fields.specs.declared.edition.Edition.{Edition}
 use Rattle.mesa_record_fields.specs.declared.edition.Edition.TheVariants.{First, Second, Third, Fourth}
 use Rattle.mesa_record_fields.specs.declared.error.RecordError.{RecordError}

@@ -3,9 +3,9 @@ use Rattle.std.proofs.Common.{◌≡◌, ℕ, ◌+◌, ◌<◌, ◌^◌, List, [
 use Rattle.std.specs.Prelude.{IsTrue, ◌&&◌, flat_map, nat_le, nat_lt}
 use Rattle.std.specs.List.{AllByRecursion, list_all}
 use Rattle.std.proofs.lemmas.Bool.{ltb-true, lt-ltb}
-use Rattle.mesa_list.proofs.Whole.{both}
-use Rattle.mesa_schema.specs.declared.changes.Change.{Change}
-use Rattle.mesa_schema.specs.declared.views.View.{View}
+use Rattle.mesa_record_fields.proofs.mesa_list.Whole.{both}
+use Rattle.mesa_record_fields.specs.mesa_columns.declared.changes.Change.{Change}
+use Rattle.mesa_record_fields.specs.mesa_columns.declared.views.View.{View}
 use Rattle.mesa_record_fields.specs.declared.edition.Edition.{Edition}
 use Rattle.mesa_record_fields.specs.declared.edition.Edition.TheVariants.{First, Second, Third, Fourth}
 use Rattle.mesa_record.specs.declared.checkpoint.CheckpointRange.{CheckpointRange}

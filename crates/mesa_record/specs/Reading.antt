@@ -1,8 +1,8 @@
 -- Reading a record: its fields from the left, each first for being whole and then for its meaning.
 use Rattle.std.specs.Prelude.{ℕ, List, length, Bool, true, false, ◌==◌, nat_le, if◌then◌else◌, Option, None, Some, Result, Ok, Err}
-use Rattle.mesa_list.specs.Checks.{◌>>=◌}
+use Rattle.mesa_record_fields.specs.mesa_list.Checks.{◌>>=◌}
 use Rattle.mesa_record_fields.specs.mesa_key.declared.KeyType.TheVariants as kind
-use Rattle.mesa_schema.specs.declared.views.View.{View}
+use Rattle.mesa_record_fields.specs.mesa_columns.declared.views.View.{View}
 use Rattle.mesa_record_fields.specs.declared.edition.Edition.{Edition}
 use Rattle.mesa_record_fields.specs.declared.edition.Edition.TheVariants.{First, Second, Third, Fourth}
 use Rattle.mesa_record_fields.specs.declared.error.RecordError.{RecordError}

@@ -1,9 +1,9 @@
 -- Which records there are.
 use Rattle.std.specs.Prelude.{◌≡◌, ℕ, ◌^◌, ◌<◌, List, length, map, IsTrue, Bool, true, ◌&&◌, nat_le, nat_lt, Option, None, Some}
 use Rattle.std.specs.List.{AllByRecursion, list_all}
-use Rattle.mesa_schema.specs.declared.columns.KeyColumn.{KeyColumn}
-use Rattle.mesa_schema.specs.declared.columns.ValueColumn.{ValueColumn}
-use Rattle.mesa_schema.specs.declared.views.View.{View}
+use Rattle.mesa_record_fields.specs.mesa_columns.declared.columns.KeyColumn.{KeyColumn}
+use Rattle.mesa_record_fields.specs.mesa_columns.declared.columns.ValueColumn.{ValueColumn}
+use Rattle.mesa_record_fields.specs.mesa_columns.declared.views.View.{View}
 use Rattle.mesa_record_fields.specs.declared.edition.Edition.{Edition}
 use Rattle.mesa_record_fields.specs.declared.edition.Edition.TheVariants.{First, Second, Third, Fourth}
 use Rattle.mesa_record.specs.declared.record.Record.{Record}

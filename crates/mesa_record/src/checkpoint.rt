@@ -3,8 +3,7 @@ ghost use Rattle.std.specs.Prelude.{◌≡◌};
 ghost use Rattle.mesa_record.specs.Reading.{stated_of};
 
 use crate::Files;
-use mesa_list::Items;
-use mesa_columns::{Change, KeyColumn, Name, Totals, ValueColumn, View};
+use mesa_record_fields::{Change, Items, KeyColumn, Name, Totals, ValueColumn, View};
 
 /// A base or a cumulative. It has no files where it has no rows.
 #[derive(Drop)]

@@ -8,8 +8,7 @@ use crate::{
     Checkpoint, CheckpointRange, CheckpointSingle, CheckpointTable, Files, Part, RecastBase,
     Recasting, Record, ViewRef,
 };
-use mesa_list::{Items, TryCopy};
-use mesa_columns::{KeyColumn, Name, ValueColumn};
+use mesa_record_fields::{Items, KeyColumn, Name, TryCopy, ValueColumn};
 use std::alloc::AllocError;
 
 impl TryCopy for ViewRef {

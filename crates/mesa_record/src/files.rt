@@ -8,9 +8,8 @@ ghost use Rattle.mesa_record.specs.Rules.{AreTypedFiles, IsTypedFiles, IsTypedPa
 ghost use Rattle.mesa_record.specs.Spelling.{files, files_if_any, part, view_ref};
 
 use crate::{Files, Part, ViewRef};
-use mesa_list::Items;
 use mesa_record_fields::{
-    Cursor, Edition, Numbered, RecordError, put_half, put_word, read_file, read_rising,
+    Cursor, Edition, Items, Numbered, RecordError, put_half, put_word, read_file, read_rising,
     read_totals, write_counted, write_file, write_rising,
 };
 use std::alloc::{AllocError, Global};

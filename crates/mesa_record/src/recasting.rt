@@ -8,11 +8,9 @@ ghost use Rattle.mesa_record.specs.Spelling.{recast_base_if_any, recast_columns,
 use crate::files::{read_files_if_any, write_files_if_any};
 use crate::stated::{read_long, write_long};
 use crate::{CheckpointSingle, Files};
-use mesa_list::Items;
 use mesa_record_fields::{
-    Cursor, Edition, RecordError, put_half, put_word, read_names, write_counted,
+    Cursor, Edition, Items, Name, RecordError, put_half, put_word, read_names, write_counted,
 };
-use mesa_columns::Name;
 use std::alloc::{AllocError, Global};
 
 /// The base that a recast leaves. It has no files where it has no rows.

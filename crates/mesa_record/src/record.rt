@@ -4,9 +4,7 @@ ghost use Rattle.mesa_record.specs.declared.checkpoint.Checkpoint.{Checkpoint as
 ghost use Rattle.mesa_record.specs.declared.record.Record.TheVariants as record_of;
 
 use crate::{Checkpoint, Recasting};
-use mesa_file::FileRef;
-use mesa_list::Items;
-use mesa_columns::{Change, KeyColumn, Name, Totals, ValueColumn};
+use mesa_record_fields::{Change, FileRef, Items, KeyColumn, Name, Totals, ValueColumn};
 
 /// A view's file of a delta. A table's views are numbered from 0 in the order in which they were made.
 #[derive(Drop)]

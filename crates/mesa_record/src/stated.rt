@@ -12,12 +12,10 @@ ghost use Rattle.mesa_record.specs.Spelling.{base_if_any, checkpoint_fields, sta
 use crate::checkpoint::{StatedColumns, StatedDeltas, table_of};
 use crate::files::{read_files, read_files_if_any, write_files, write_files_if_any};
 use crate::{Checkpoint, CheckpointRange, CheckpointSingle, CheckpointTable};
-use mesa_list::Items;
 use mesa_record_fields::{
-    Cursor, Edition, Field, RecordError, put_half, put_word, read_change, read_key_columns,
-    read_names, read_totals, read_value_columns, write_change, write_counted,
+    Change, Cursor, Edition, Field, Items, RecordError, View, put_half, put_word, read_change,
+    read_key_columns, read_names, read_totals, read_value_columns, write_change, write_counted,
 };
-use mesa_columns::{Change, View};
 use std::alloc::{AllocError, Global};
 
 /// A field that stands in a checkpoint's lists.

@@ -13,9 +13,9 @@ use crate::recasting::write_recasting;
 use crate::stated::write_checkpoint;
 use crate::{Part, Record, reads_records};
 use mesa_record_fields::{
-    Edition, Field, put_half, put_word, write_change, write_counted, write_rising,
+    Change, Edition, Field, KeyColumn, Name, ValueColumn, put_half, put_word, write_change,
+    write_counted, write_rising,
 };
-use mesa_columns::{Change, KeyColumn, Name, ValueColumn};
 use std::alloc::{AllocError, Global};
 
 /// The bytes of a record.

@@ -3,9 +3,9 @@ use Rattle.std.proofs.Common.{◌≡◌, ℕ, zero, suc, ◌+◌, ◌<◌, List,
 use Rattle.std.specs.Prelude.{flat_map, take, drop}
 use Rattle.std.specs.List.{AllByRecursion}
 use Rattle.std.proofs.lemmas.List.Concat.{flat_map-cons}
-use Rattle.mesa_list.specs.Checks.{◌>>=◌}
-use Rattle.mesa_list.proofs.Whole.{are_bytes, each_cut}
-pub use Rattle.mesa_list.proofs.Whole.{IsByte, all_bytes}
+use Rattle.mesa_columns.specs.mesa_list.Checks.{◌>>=◌}
+use Rattle.mesa_file.proofs.mesa_list.Whole.{are_bytes, each_cut}
+pub use Rattle.mesa_file.proofs.mesa_list.Whole.{IsByte, all_bytes}
 use Rattle.mesa_record_fields.specs.Reading.{Left, Read, rising}
 
 -- what is left at a place

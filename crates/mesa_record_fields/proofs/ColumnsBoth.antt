@@ -3,22 +3,22 @@ use Rattle.std.proofs.Common.{◌≡◌, ◌⊎◌, inl, inr, ℕ, ◌+◌, ◌<
 use Rattle.std.specs.Prelude.{IsTrue, ◌==◌, flat_map, if◌then◌else◌}
 use Rattle.std.specs.List.{AllByRecursion}
 use Rattle.std.proofs.lemmas.Bool.{eqb-true}
-use Rattle.mesa_list.specs.Checks.{◌>>=◌}
-use Rattle.mesa_value.specs.declared.Agg.{Agg}
-use Rattle.mesa_value.specs.declared.Agg.TheVariants as agg
-use Rattle.mesa_value.specs.Agg.{IsNarrow}
-use Rattle.mesa_key.specs.declared.KeyType.{KeyType}
-use Rattle.mesa_key.specs.declared.KeyType.TheVariants as kind
-use Rattle.mesa_key.specs.declared.KeyValue.{KeyValue}
-use Rattle.mesa_key.specs.declared.KeyValue.TheVariants as value
-use Rattle.mesa_key.specs.Text.{is_key_text}
-use Rattle.mesa_schema.specs.declared.columns.KeyColumn.{KeyColumn}
-use Rattle.mesa_schema.specs.declared.columns.ValueColumn.{ValueColumn}
-use Rattle.mesa_schema.specs.declared.changes.Change.{Change}
-use Rattle.mesa_schema.specs.declared.changes.Change.TheVariants.{AddValue, DropValue, AddKey}
-use Rattle.mesa_schema.specs.Changes.{is_of_kind}
-use Rattle.mesa_schema.specs.Names.{is_name}
-use Rattle.mesa_schema.specs.Codes.{agg_byte, agg_of, kind_byte, kind_of}
+use Rattle.mesa_columns.specs.mesa_list.Checks.{◌>>=◌}
+use Rattle.mesa_columns.specs.mesa_value.declared.Agg.{Agg}
+use Rattle.mesa_columns.specs.mesa_value.declared.Agg.TheVariants as agg
+use Rattle.mesa_columns.specs.mesa_value.Agg.{IsNarrow}
+use Rattle.mesa_file.specs.mesa_key.declared.KeyType.{KeyType}
+use Rattle.mesa_file.specs.mesa_key.declared.KeyType.TheVariants as kind
+use Rattle.mesa_file.specs.mesa_key.declared.KeyValue.{KeyValue}
+use Rattle.mesa_file.specs.mesa_key.declared.KeyValue.TheVariants as value
+use Rattle.mesa_file.specs.mesa_key.Text.{is_key_text}
+use Rattle.mesa_columns.specs.declared.columns.KeyColumn.{KeyColumn}
+use Rattle.mesa_columns.specs.declared.columns.ValueColumn.{ValueColumn}
+use Rattle.mesa_columns.specs.declared.changes.Change.{Change}
+use Rattle.mesa_columns.specs.declared.changes.Change.TheVariants.{AddValue, DropValue, AddKey}
+use Rattle.mesa_columns.specs.Changes.{is_of_kind}
+use Rattle.mesa_columns.specs.Names.{is_name}
+use Rattle.mesa_columns.specs.Codes.{agg_byte, agg_of, kind_byte, kind_of}
 use Rattle.mesa_record_fields.specs.Reading.{Left, Read, add_key_at, add_value_at, amount_at, byte_at, change_at, drop_value_at, flag_of, key_column_at, key_columns_at, key_default_at, many, meaning, name_at, names_at, ruled, text_at, value_column_at, value_columns_at}
 use Rattle.mesa_record_fields.specs.Rules.{IsKeyValue, IsNamed, IsTypedChange, is_change, is_count_of_columns}
 use Rattle.mesa_record_fields.specs.Spelling.{amount, change, counted, flag, key_column, key_default, text, value_column}

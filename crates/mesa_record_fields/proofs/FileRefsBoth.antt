@@ -2,14 +2,14 @@
 use Rattle.std.proofs.Common.{◌≡◌, inl, inr, arith, [], ◌∷◌, ℕ, ◌+◌, ◌<◌, ◌^◌, List, ◌++◌, length, refl, sym, ap, subst, ◌∙◌, append_assoc, Bool, true, false, Ok, Some}
 use Rattle.std.specs.Prelude.{IsTrue, ◌&&◌, nat_le}
 use Rattle.std.proofs.lemmas.Bool.{ltb-true, lt-ltb}
-use Rattle.mesa_list.specs.Checks.{◌>>=◌}
-use Rattle.mesa_list.proofs.Whole.{both}
+use Rattle.mesa_columns.specs.mesa_list.Checks.{◌>>=◌}
+use Rattle.mesa_file.proofs.mesa_list.Whole.{both}
 use Rattle.std.specs.Prelude.{ℤ, ◌==◌}
 use Rattle.std.specs.List.{AllByRecursion}
 use Rattle.std.proofs.lemmas.Bool.{eqb-true}
-use Rattle.mesa_value.specs.Agg.{IsAmount}
-use Rattle.mesa_key.specs.declared.Format.{Format}
-use Rattle.mesa_key.specs.declared.Format.TheVariants as format
+use Rattle.mesa_columns.specs.mesa_value.Agg.{IsAmount}
+use Rattle.mesa_file.specs.mesa_key.declared.Format.{Format}
+use Rattle.mesa_file.specs.mesa_key.declared.Format.TheVariants as format
 use Rattle.mesa_record_fields.specs.declared.edition.Edition.{Edition}
 use Rattle.mesa_record_fields.specs.declared.edition.Edition.TheVariants.{First, Second, Third, Fourth}
 use Rattle.mesa_file.specs.declared.file_ref.FileRef.{FileRef}

@@ -5,7 +5,7 @@ use Rattle.std.specs.List.{AllByRecursion, list_all}
 use Rattle.std.proofs.Math.Seq.{drop-cons, drop-length, take-length}
 use Rattle.std.proofs.lemmas.List.{take_more}
 use Rattle.std.proofs.lemmas.List.Concat.{flat_map-cons}
-use Rattle.mesa_list.proofs.Whole.{both, each_push}
+use Rattle.mesa_file.proofs.mesa_list.Whole.{both, each_push}
 
 -- the bytes so far and those of the fields that are left are those of all
 pub record Written {A : Type 0} (spelling : A → List ℕ) (Is : A → Type 0) (fields : List A) (index : ℕ) (before now : List ℕ) : Type 0 where

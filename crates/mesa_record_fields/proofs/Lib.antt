@@ -1,3 +1,4 @@
+pub use Rattle.mesa_file.proofs.mesa_list as mesa_list
 pub mod Series
 pub mod InTurn
 pub mod Both

@@ -8,8 +8,8 @@ use Rattle.std.proofs.lemmas.Bool.{le-ltb, ltb-false}
 use Rattle.std.proofs.lemmas.Int.{of_z-to_z, to_z-of_z}
 use Rattle.std.proofs.lemmas.List.{length-append, length-take-le, take-append-drop}
 use Rattle.std.proofs.lemmas.Nat.{be_bytes_2, be_bytes_4, be_bytes_8, from_be_bytes-to_be_bytes_2, from_be_bytes-to_be_bytes_4, from_be_bytes-to_be_bytes_8}
-use Rattle.mesa_list.proofs.WideBytes.{be_bytes_16, from_be_bytes-to_be_bytes_16}
-use Rattle.mesa_value.specs.Agg.{IsAmount, IsNarrow}
+use Rattle.mesa_file.proofs.mesa_list.WideBytes.{be_bytes_16, from_be_bytes-to_be_bytes_16}
+use Rattle.mesa_columns.specs.mesa_value.Agg.{IsAmount, IsNarrow}
 use Rattle.mesa_record_fields.specs.declared.edition.Edition.{Edition}
 use Rattle.mesa_record_fields.specs.declared.edition.Edition.TheVariants.{First, Second, Third, Fourth}
 use Rattle.mesa_record_fields.specs.declared.error.RecordError.TheVariants as fault

@@ -1,6 +1,6 @@
 -- Fields that are read one after the other.
 use Rattle.std.proofs.Common.{◌≡◌, ◌≢◌, ℕ, suc, ◌+◌, List, [], ◌∷◌, ◌++◌, refl, sym, ap, ◌∙◌, append_assoc, append-nil, Ok, Err}
-use Rattle.mesa_list.specs.Checks.{◌>>=◌}
+use Rattle.mesa_columns.specs.mesa_list.Checks.{◌>>=◌}
 use Rattle.mesa_record_fields.specs.declared.error.RecordError.{RecordError}
 use Rattle.mesa_record_fields.specs.declared.error.RecordError.TheVariants as fault
 use Rattle.mesa_record_fields.specs.Reading.{Left, Read, rising, with_front}

@@ -1,20 +1,20 @@
 -- Reading the fields of a record from the left, each first for being whole and then for its meaning.
 use Rattle.std.specs.Prelude.{◌≡◌, ◌≢◌, ℕ, zero, suc, ◌+◌, ℤ, List, [], ◌∷◌, ◌++◌, length, take, drop, get_or, Bool, true, false, ◌==◌, nat_le, nat_lt, if◌then◌else◌, Option, None, Some, Result, Ok, Err}
 use Rattle.std.specs.Int.{w16, w32, w64, w128, from_be_bytes, cast_signed}
-use Rattle.mesa_list.specs.Checks.{◌>>=◌}
-use Rattle.mesa_key.specs.declared.Format.{Format}
-use Rattle.mesa_key.specs.declared.Format.TheVariants as format
-use Rattle.mesa_key.specs.declared.KeyType.{KeyType}
-use Rattle.mesa_key.specs.declared.KeyType.TheVariants as kind
-use Rattle.mesa_key.specs.declared.KeyValue.{KeyValue}
-use Rattle.mesa_key.specs.declared.KeyValue.TheVariants as value
-use Rattle.mesa_key.specs.Text.{is_key_text}
-use Rattle.mesa_schema.specs.declared.columns.KeyColumn.{KeyColumn}
-use Rattle.mesa_schema.specs.declared.columns.ValueColumn.{ValueColumn}
-use Rattle.mesa_schema.specs.Codes.{agg_of, kind_of}
-use Rattle.mesa_schema.specs.declared.changes.Change.{Change}
-use Rattle.mesa_schema.specs.declared.changes.Change.TheVariants.{AddValue, DropValue, AddKey}
-use Rattle.mesa_schema.specs.Names.{is_name}
+use Rattle.mesa_columns.specs.mesa_list.Checks.{◌>>=◌}
+use Rattle.mesa_file.specs.mesa_key.declared.Format.{Format}
+use Rattle.mesa_file.specs.mesa_key.declared.Format.TheVariants as format
+use Rattle.mesa_file.specs.mesa_key.declared.KeyType.{KeyType}
+use Rattle.mesa_file.specs.mesa_key.declared.KeyType.TheVariants as kind
+use Rattle.mesa_file.specs.mesa_key.declared.KeyValue.{KeyValue}
+use Rattle.mesa_file.specs.mesa_key.declared.KeyValue.TheVariants as value
+use Rattle.mesa_file.specs.mesa_key.Text.{is_key_text}
+use Rattle.mesa_columns.specs.declared.columns.KeyColumn.{KeyColumn}
+use Rattle.mesa_columns.specs.declared.columns.ValueColumn.{ValueColumn}
+use Rattle.mesa_columns.specs.Codes.{agg_of, kind_of}
+use Rattle.mesa_columns.specs.declared.changes.Change.{Change}
+use Rattle.mesa_columns.specs.declared.changes.Change.TheVariants.{AddValue, DropValue, AddKey}
+use Rattle.mesa_columns.specs.Names.{is_name}
 use Rattle.mesa_file.specs.declared.file_ref.FileRef.{FileRef}
 use Rattle.mesa_record_fields.specs.declared.edition.Edition.{Edition}
 use Rattle.mesa_record_fields.specs.declared.edition.Edition.TheVariants.{First, Second, Third, Fourth}

@@ -1,16 +1,16 @@
 -- The rules that fields of a record keep, what their types say of them, and which an edition has room for.
 use Rattle.std.specs.Prelude.{◌≡◌, ℕ, ◌+◌, ◌^◌, ◌<◌, List, [], ◌∷◌, length, IsTrue, Bool, true, ◌&&◌, nat_le, nat_lt}
 use Rattle.std.specs.List.{AllByRecursion}
-use Rattle.mesa_value.specs.Agg.{IsAmount, IsNarrow}
-use Rattle.mesa_key.specs.declared.KeyValue.{KeyValue}
-use Rattle.mesa_key.specs.declared.KeyValue.TheVariants as value
-use Rattle.mesa_key.specs.Text.{is_key_text}
-use Rattle.mesa_schema.specs.declared.changes.Change.{Change}
-use Rattle.mesa_schema.specs.declared.changes.Change.TheVariants.{AddValue, DropValue, AddKey}
-use Rattle.mesa_schema.specs.Changes.{is_of_kind}
-use Rattle.mesa_schema.specs.Names.{is_name}
+use Rattle.mesa_columns.specs.mesa_value.Agg.{IsAmount, IsNarrow}
+use Rattle.mesa_file.specs.mesa_key.declared.KeyValue.{KeyValue}
+use Rattle.mesa_file.specs.mesa_key.declared.KeyValue.TheVariants as value
+use Rattle.mesa_file.specs.mesa_key.Text.{is_key_text}
+use Rattle.mesa_columns.specs.declared.changes.Change.{Change}
+use Rattle.mesa_columns.specs.declared.changes.Change.TheVariants.{AddValue, DropValue, AddKey}
+use Rattle.mesa_columns.specs.Changes.{is_of_kind}
+use Rattle.mesa_columns.specs.Names.{is_name}
 use Rattle.mesa_file.specs.declared.file_ref.FileRef.{FileRef}
-use Rattle.mesa_key.specs.declared.Format.TheVariants as format
+use Rattle.mesa_file.specs.mesa_key.declared.Format.TheVariants as format
 use Rattle.mesa_record_fields.specs.declared.edition.Edition.{Edition}
 use Rattle.mesa_record_fields.specs.declared.edition.Edition.TheVariants.{First, Second, Third, Fourth}
 

@@ -1,15 +1,15 @@
 -- The bytes of the fields of a record: each field has one spelling in each edition that has room for it.
 use Rattle.std.specs.Prelude.{ℕ, ℤ, List, [], ◌∷◌, ◌++◌, length, flat_map, Bool, true, false}
 use Rattle.std.specs.Int.{w16, w32, w64, w128, to_be_bytes, cast_unsigned}
-use Rattle.mesa_key.specs.declared.Format.{Format}
-use Rattle.mesa_key.specs.declared.Format.TheVariants as format
-use Rattle.mesa_key.specs.declared.KeyValue.{KeyValue}
-use Rattle.mesa_key.specs.declared.KeyValue.TheVariants as value
-use Rattle.mesa_schema.specs.declared.columns.KeyColumn.{KeyColumn}
-use Rattle.mesa_schema.specs.declared.columns.ValueColumn.{ValueColumn}
-use Rattle.mesa_schema.specs.Codes.{agg_byte, kind_byte}
-use Rattle.mesa_schema.specs.declared.changes.Change.{Change}
-use Rattle.mesa_schema.specs.declared.changes.Change.TheVariants.{AddValue, DropValue, AddKey}
+use Rattle.mesa_file.specs.mesa_key.declared.Format.{Format}
+use Rattle.mesa_file.specs.mesa_key.declared.Format.TheVariants as format
+use Rattle.mesa_file.specs.mesa_key.declared.KeyValue.{KeyValue}
+use Rattle.mesa_file.specs.mesa_key.declared.KeyValue.TheVariants as value
+use Rattle.mesa_columns.specs.declared.columns.KeyColumn.{KeyColumn}
+use Rattle.mesa_columns.specs.declared.columns.ValueColumn.{ValueColumn}
+use Rattle.mesa_columns.specs.Codes.{agg_byte, kind_byte}
+use Rattle.mesa_columns.specs.declared.changes.Change.{Change}
+use Rattle.mesa_columns.specs.declared.changes.Change.TheVariants.{AddValue, DropValue, AddKey}
 use Rattle.mesa_file.specs.declared.file_ref.FileRef.{FileRef}
 use Rattle.mesa_record_fields.specs.declared.edition.Edition.{Edition}
 use Rattle.mesa_record_fields.specs.declared.edition.Edition.TheVariants.{First, Second, Third, Fourth}

@@ -7,9 +7,7 @@ ghost use Rattle.mesa_record_fields.specs.Spelling.{change as change_bytes, key_
 use crate::RecordError;
 use crate::cursor::Cursor;
 use crate::field::Field;
-use mesa_key::{KeyText, KeyType, KeyValue};
-use mesa_list::Items;
-use mesa_columns::{Change, KeyColumn, ValueColumn};
+use mesa_columns::{Change, Items, KeyColumn, KeyText, KeyType, KeyValue, ValueColumn};
 use std::alloc::{AllocError, Global};
 
 // ---- reading

@@ -5,8 +5,7 @@ ghost use Rattle.mesa_record_fields.specs.Reading.{Gives, key_columns_at, names_
 use crate::RecordError;
 use crate::cursor::Cursor;
 use crate::field::read_fields;
-use mesa_list::Items;
-use mesa_columns::{KeyColumn, Name, ValueColumn};
+use mesa_columns::{Items, KeyColumn, Name, ValueColumn};
 use std::alloc::Global;
 
 pub fn read_key_columns(

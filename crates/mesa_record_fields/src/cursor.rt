@@ -1,13 +1,12 @@
 // The bytes of a record, read field by field.
 ghost use Rattle.std.specs.Prelude.{◌≡◌, IfOk, length};
 ghost use Rattle.mesa_record_fields.specs.Reading.{Gives, GivesAs, piece_at, byte_at, half_at, word_at, long_at, wide_at, wide_amount_at, amount_at, format_at, format_of, text_at, name_at, key_at, columns_at, count_at, meaning, flag_of};
-ghost use Rattle.mesa_schema.specs.Codes.{agg_of, kind_of};
+ghost use Rattle.mesa_columns.specs.Codes.{agg_of, kind_of};
 
 use crate::{Edition, RecordError};
-use mesa_key::{Amount, Format, KeyBytes, KeyType};
-use mesa_list::Items;
-use mesa_columns::{Name, NameError, agg_of_byte, kind_of_byte};
-use mesa_value::Agg;
+use mesa_columns::{
+    Agg, Amount, Format, Items, KeyBytes, KeyType, Name, NameError, agg_of_byte, kind_of_byte,
+};
 use std::alloc::Global;
 use std::marker::Model;
 

@@ -4,16 +4,14 @@ ghost use Rattle.mesa_record_fields.specs.declared.edition.Edition.TheVariants.{
 ghost use Rattle.mesa_record_fields.specs.Reading.{Gives, wide_at, wide_amount_at, amount_at, key_column_at, long_at, many, name_at, value_column_at};
 ghost use Rattle.mesa_record_fields.specs.Spelling.{aggregate, total, amount, counted, key_column, half, long, text, value_column, word};
 ghost use Rattle.std.specs.List.{AllByRecursion};
-ghost use Rattle.mesa_value.specs.Agg.{IsAmount, IsNarrow};
-ghost use Rattle.mesa_schema.specs.declared.columns.KeyColumn.{KeyColumn as Column};
-ghost use Rattle.mesa_schema.specs.declared.columns.ValueColumn.{ValueColumn as Measure};
+ghost use Rattle.mesa_columns.specs.mesa_value.Agg.{IsAmount, IsNarrow};
+ghost use Rattle.mesa_columns.specs.declared.columns.KeyColumn.{KeyColumn as Column};
+ghost use Rattle.mesa_columns.specs.declared.columns.ValueColumn.{ValueColumn as Measure};
 ghost use Rattle.mesa_record_fields.specs.Rules.{IsHalf, IsLong, IsNamed, IsTotal, IsWord};
 
 use crate::RecordError;
 use crate::cursor::Cursor;
-use mesa_list::Items;
-use mesa_columns::{KeyColumn, Name, ValueColumn, agg_byte, kind_byte};
-use mesa_value::Amount;
+use mesa_columns::{Amount, Items, KeyColumn, Name, ValueColumn, agg_byte, kind_byte};
 use std::alloc::{AllocError, Global};
 
 /// A field that stands in lists.

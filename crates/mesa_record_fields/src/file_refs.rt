@@ -7,10 +7,8 @@ ghost use Rattle.mesa_record_fields.specs.Spelling.{format_byte as byte_of, file
 use crate::cursor::Cursor;
 use crate::field::{put_half, put_long, put_word, read_fields, write_counted};
 use crate::{Edition, RecordError};
+use mesa_columns::{Format, Items, Totals, Values};
 use mesa_file::{FileId, FileRef};
-use mesa_key::{Format, Values};
-use mesa_list::Items;
-use mesa_columns::Totals;
 use std::alloc::{AllocError, Global};
 
 // ---- reading

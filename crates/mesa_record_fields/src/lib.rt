@@ -17,4 +17,6 @@ pub use edition::Edition;
 pub use error::RecordError;
 pub use field::{Field, put_half, put_word, write_counted};
 pub use file_refs::{read_file, read_totals, write_file};
+pub use mesa_columns::{Change, Items, KeyColumn, Name, Totals, TryCopy, ValueColumn, View};
+pub use mesa_file::FileRef;
 pub use numbered::{Numbered, read_rising, write_rising};

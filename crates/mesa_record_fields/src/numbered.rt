@@ -5,7 +5,7 @@ ghost use Rattle.mesa_record_fields.specs.Reading.{Gives, rising};
 
 use crate::cursor::Cursor;
 use crate::{Edition, RecordError};
-use mesa_list::Items;
+use mesa_columns::Items;
 use std::alloc::{AllocError, Global};
 
 /// A field that stands in lists in which numbers rise.

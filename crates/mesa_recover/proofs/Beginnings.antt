@@ -3,7 +3,7 @@ use Rattle.std.proofs.Common.{◌≡◌, inl, inr, ⊎_elim, ℕ, ◌+◌, ◌-�
 use Rattle.std.proofs.lemmas.Bool.Decides.{nat_tests}
 use Rattle.std.proofs.lemmas.List.Sums.{sum_by-cons}
 use Rattle.mesa_store.specs.mesa_io.Causes.{last}
-use Rattle.mesa_catalog_table.specs.mesa_key.Spelling.{AreBytes}
+use Rattle.mesa_store.specs.mesa_key.Spelling.{AreBytes}
 use Rattle.mesa_disk.specs.Image.{Image, file_of}
 use Rattle.mesa_disk.specs.Story.{Story, Spans, Unmoved}
 use Rattle.mesa_disk.specs.declared.area.Area.{Area}

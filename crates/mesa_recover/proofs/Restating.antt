@@ -2,7 +2,7 @@
 use Rattle.std.proofs.Common.{◌≡◌, ℕ, ◌+◌, ◌^◌, ◌<◌, List, [], ◌∷◌, Option, Some, None, sym, ◌∙◌, ap, subst, arith, true}
 use Rattle.std.specs.Prelude.{◌≢◌, ◌↔◌, IfSome}
 use Rattle.std.specs.List.{AllByRecursion}
-use Rattle.mesa_catalog_table.specs.mesa_key.Spelling.{AreBytes}
+use Rattle.mesa_store.specs.mesa_key.Spelling.{AreBytes}
 use Rattle.mesa_disk.specs.declared.area.Area.{Area}
 use Rattle.mesa_disk.specs.declared.area.Area.TheVariants.{Zero, One}
 use Rattle.mesa_disk.specs.Story.{Story}

@@ -2,7 +2,7 @@
 use Rattle.std.specs.Prelude.{◌≡◌, ◌≢◌, ◌⊎◌, ℕ, ◌-◌, ◌*◌, ◌^◌, ◌<◌, ◌≤◌, List, map, Bool, Some, Ok, true, ⊤}
 use Rattle.std.specs.List.{AllByRecursion}
 use Rattle.mesa_store.specs.mesa_io.Causes.{last, Rose}
-use Rattle.mesa_catalog_table.specs.mesa_key.Spelling.{AreBytes}
+use Rattle.mesa_store.specs.mesa_key.Spelling.{AreBytes}
 use Rattle.mesa_disk.specs.Image.{Image, area_of}
 use Rattle.mesa_disk.specs.Story.{Story}
 use Rattle.mesa_disk.specs.declared.area.Area.{Area}

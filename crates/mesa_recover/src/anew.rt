@@ -1,7 +1,7 @@
 // Stating a catalogue anew.
 ghost use Rattle.std.specs.Prelude.{◌≡◌, ℕ, List, IfOk, IfSome, Some};
 ghost use Rattle.std.specs.List.{AllByRecursion};
-ghost use Rattle.mesa_catalog_table.specs.mesa_key.Spelling.{AreBytes};
+ghost use Rattle.mesa_store.specs.mesa_key.Spelling.{AreBytes};
 ghost use Rattle.mesa_journal.specs.Areas.{number_of};
 ghost use Rattle.mesa_store_spec.specs.Journaled.{catalog as catalog_of};
 ghost use Rattle.mesa_recover.specs.Anew.{StatesAnewBy};

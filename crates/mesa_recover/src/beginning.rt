@@ -1,6 +1,6 @@
 // Beginning a run.
 ghost use Rattle.std.specs.Prelude.{◌≡◌, ◌≢◌, ◌↔◌, ◌+◌, ◌<◌, ◌≤◌, ℕ, List, [], IfOk, IfErr, IfSome, OnOk, Err, Ok, Some, None, IsTrue};
-ghost use Rattle.mesa_catalog_table.specs.mesa_key.Spelling.{AreBytes};
+ghost use Rattle.mesa_store.specs.mesa_key.Spelling.{AreBytes};
 ghost use Rattle.mesa_disk.specs.Image.{Image as AnyImage};
 ghost use Rattle.mesa_disk.specs.Story.{Spans, Unmoved};
 ghost use Rattle.mesa_journal.specs.Areas.{number_of};

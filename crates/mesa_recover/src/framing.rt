@@ -1,6 +1,6 @@
 // Beginning a run.
 ghost use Rattle.std.specs.Prelude.{◌≡◌, ◌<◌, ◌≤◌, ℕ, List, [], Some, IfOk, OnOk, Ok, IsTrue};
-ghost use Rattle.mesa_catalog_table.specs.mesa_key.Spelling.{AreBytes};
+ghost use Rattle.mesa_store.specs.mesa_key.Spelling.{AreBytes};
 ghost use Rattle.mesa_store.specs.mesa_io.Causes.{HasCause};
 ghost use Rattle.mesa_disk.specs.Image.{Image as AnyImage, area_of};
 ghost use Rattle.mesa_disk.specs.Story.{Spans};

@@ -4,18 +4,19 @@ use Rattle.std.specs.Prelude.{filter, map, IsTrue}
 use Rattle.std.specs.List.{AllByRecursion}
 use Rattle.std.proofs.lemmas.List.{map-append}
 use Rattle.std.proofs.lemmas.List.Elements.{filter-append}
-use Rattle.mesa_key.specs.declared.KeyType.{KeyType}
-use Rattle.mesa_key.specs.declared.KeyValue.{KeyValue}
-use Rattle.mesa_key.specs.Spelling.{IsKey, is_spelling, key_of, key_spelling}
-use Rattle.mesa_schema.specs.declared.rows.Row.{Row}
-use Rattle.mesa_schema.specs.declared.lifting.Lift.{Lift}
+use Rattle.mesa_delta.specs.mesa_key.declared.KeyType.{KeyType}
+use Rattle.mesa_delta.specs.mesa_key.declared.KeyValue.{KeyValue}
+use Rattle.mesa_delta.specs.mesa_key.Spelling.{IsKey, is_spelling, key_of, key_spelling}
+use Rattle.mesa_delta.specs.mesa_columns.declared.rows.Row.{Row}
+use Rattle.mesa_delta.specs.mesa_columns.declared.lifting.Lift.{Lift}
 use Rattle.mesa_schema.specs.Changes.{Lineage, columns_at, columns_of, epoch_of, lifted}
-use Rattle.mesa_schema.specs.Columns.{kinds_of}
-use Rattle.mesa_schema.specs.Folded.{rows_of}
+use Rattle.mesa_delta.specs.mesa_columns.Columns.{kinds_of}
+use Rattle.mesa_delta.specs.mesa_fold.Folded.{rows_of}
 use Rattle.mesa_schema.specs.Laws.{LiftedForms}
-use Rattle.mesa_schema.specs.Lifting.{Lifts, lifted_with}
+use Rattle.mesa_delta.specs.mesa_columns.Lifting.{lifted_with}
+use Rattle.mesa_schema.specs.Lifting.{Lifts}
 use Rattle.mesa_schema.specs.Lineages.{IsLineage}
-use Rattle.mesa_schema.specs.Rows.{AreRowsOf}
+use Rattle.mesa_delta.specs.mesa_columns.Rows.{AreRowsOf}
 use Rattle.mesa_filter.specs.Filter.{KeyFilter, filtered, meets}
 use Rattle.mesa_delta.specs.Reading.{index_of}
 use Rattle.mesa_delta.specs.Spread.{blocks_of}

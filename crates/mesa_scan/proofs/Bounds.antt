@@ -1,7 +1,7 @@
 -- The short keys between which blocks lie.
 use Rattle.std.proofs.Common.{◌≡◌, ℕ, zero, suc, ◌+◌, ◌<◌, ◌≤◌, List, [], ◌∷◌, ◌++◌, length, get_or, refl, ◌∙◌, ap, arith, Bool, true, false, add-one}
 use Rattle.std.specs.Prelude.{map, if◌then◌else◌}
-use Rattle.mesa_schema.specs.declared.rows.Row.{Row}
+use Rattle.mesa_delta.specs.mesa_columns.declared.rows.Row.{Row}
 use Rattle.mesa_block.specs.Layout.{Layout}
 use Rattle.mesa_block.specs.Spelling.{block}
 use Rattle.mesa_delta.specs.declared.place.Entry.{Entry}

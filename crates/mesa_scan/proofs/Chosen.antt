@@ -5,8 +5,8 @@ use Rattle.std.proofs.lemmas.List.{append-nil}
 use Rattle.std.proofs.lemmas.List.Elements.{filter-append}
 use Rattle.std.specs.List.{AllByRecursion, cons_option}
 use Rattle.std.proofs.lemmas.Option.{slice_get-get_or}
-use Rattle.mesa_schema.specs.declared.rows.Row.{Row}
-use Rattle.mesa_schema.specs.Columns.{chosen}
+use Rattle.mesa_delta.specs.mesa_columns.declared.rows.Row.{Row}
+use Rattle.mesa_delta.specs.mesa_columns.Columns.{chosen}
 
 no_row : Row
 no_row = record { key = []; values = [] }

@@ -7,10 +7,10 @@ use Rattle.std.specs.declared.cmp.Ordering.TheVariants.{Less}
 use Rattle.std.specs.Cmp.Lexicographic.{nat_list_cmp_total}
 use Rattle.std.proofs.lemmas.Bool.{and_from, and_left, and_parts}
 use Rattle.std.proofs.lemmas.List.Elements.{filter-append}
-use Rattle.mesa_key.specs.Order.{byte_cmp}
-use Rattle.mesa_schema.specs.declared.rows.Row.{Row}
-use Rattle.mesa_schema.specs.Laws.{AreUnder}
-use Rattle.mesa_schema.specs.Rows.{keys_rise}
+use Rattle.mesa_delta.specs.mesa_key.Order.{byte_cmp}
+use Rattle.mesa_delta.specs.mesa_columns.declared.rows.Row.{Row}
+use Rattle.mesa_delta.specs.mesa_fold.Laws.{AreUnder}
+use Rattle.mesa_delta.specs.mesa_columns.Rows.{keys_rise}
 use Rattle.mesa_scan.specs.Cut.{cut, is_from, is_under, lies_in}
 use Rattle.mesa_scan.proofs.Cutting.{at_below, is_less, no, none_under, not_below, yes}
 

@@ -8,12 +8,12 @@ use Rattle.std.specs.Cmp.Lexicographic.{nat_list_cmp_total}
 use Rattle.std.specs.FinMap.{slice_cmp-IsAntisymmetric, nat_cmp-IsAntisymmetric}
 use Rattle.std.proofs.lemmas.Bool.{and_parts, and_right}
 use Rattle.mesa_delta.specs.mesa_value.declared.Agg.{Agg}
-use Rattle.mesa_key.specs.Order.{byte_cmp}
-use Rattle.mesa_schema.specs.declared.rows.Row.{Row}
-use Rattle.mesa_schema.specs.Folded.{folded, rows_of}
-use Rattle.mesa_schema.specs.Rows.{keys_rise}
-use Rattle.mesa_schema.proofs.FilteredFolds.{filtered_folds}
-use Rattle.mesa_schema.proofs.RisingRows.{folded_rise}
+use Rattle.mesa_delta.specs.mesa_key.Order.{byte_cmp}
+use Rattle.mesa_delta.specs.mesa_columns.declared.rows.Row.{Row}
+use Rattle.mesa_delta.specs.mesa_fold.Folded.{folded, rows_of}
+use Rattle.mesa_delta.specs.mesa_columns.Rows.{keys_rise}
+use Rattle.mesa_filter.proofs.mesa_fold.FilteredFolds.{filtered_folds}
+use Rattle.mesa_filter.proofs.mesa_fold.RisingRows.{folded_rise}
 use Rattle.mesa_scan.specs.Cut.{CutsRise, IsLow, cut, cut_each, cuts_from, folds_from, is_from, is_under, lies_in}
 
 -- ---- filters

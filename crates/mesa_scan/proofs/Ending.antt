@@ -3,14 +3,15 @@ use Rattle.std.proofs.Common.{◌≡◌, ℕ, ◌≤◌, List, [], ◌∷◌, �
 use Rattle.std.proofs.lemmas.List.{append-nil, drop_all, length-drop, map-append, take-append-drop, take_all}
 use Rattle.std.specs.Prelude.{true, Option, None, Some, map}
 use Rattle.std.specs.Ordering.{is_le}
-use Rattle.mesa_key.specs.Order.{byte_cmp}
-use Rattle.mesa_schema.specs.declared.rows.Row.{Row}
+use Rattle.mesa_delta.specs.mesa_key.Order.{byte_cmp}
+use Rattle.mesa_delta.specs.mesa_columns.declared.rows.Row.{Row}
 use Rattle.mesa_schema.specs.Changes.{columns_at}
-use Rattle.mesa_schema.specs.Columns.{Columns}
-use Rattle.mesa_schema.specs.Folded.{rows_of}
-use Rattle.mesa_schema.specs.Laws.{AreUnder, LiftedRise}
-use Rattle.mesa_schema.specs.Rows.{AreRowsOf, keys_rise}
-use Rattle.mesa_schema.proofs.Folds.{rows_of-append}
+use Rattle.mesa_delta.specs.mesa_columns.Columns.{Columns}
+use Rattle.mesa_delta.specs.mesa_fold.Folded.{rows_of}
+use Rattle.mesa_delta.specs.mesa_fold.Laws.{AreUnder}
+use Rattle.mesa_schema.specs.Laws.{LiftedRise}
+use Rattle.mesa_delta.specs.mesa_columns.Rows.{AreRowsOf, keys_rise}
+use Rattle.mesa_filter.proofs.mesa_fold.Folds.{rows_of-append}
 use Rattle.mesa_block.specs.Layout.{Layout}
 use Rattle.mesa_delta.specs.Reading.{IsIndexed, index_of}
 use Rattle.mesa_delta.specs.Spread.{blocks_of}

@@ -4,10 +4,10 @@ use Rattle.std.proofs.lemmas.Bool.{and_from, and_parts}
 use Rattle.std.proofs.lemmas.List.{append-nil, length-map, map-append}
 use Rattle.std.specs.Prelude.{true, map}
 use Rattle.std.specs.Ordering.{is_lt}
-use Rattle.mesa_key.specs.Order.{byte_cmp}
-use Rattle.mesa_schema.specs.declared.rows.Row.{Row}
-use Rattle.mesa_schema.specs.Folded.{rows_of}
-use Rattle.mesa_schema.specs.Rows.{keys_rise}
+use Rattle.mesa_delta.specs.mesa_key.Order.{byte_cmp}
+use Rattle.mesa_delta.specs.mesa_columns.declared.rows.Row.{Row}
+use Rattle.mesa_delta.specs.mesa_fold.Folded.{rows_of}
+use Rattle.mesa_delta.specs.mesa_columns.Rows.{keys_rise}
 use Rattle.mesa_delta.specs.Indexed.{Indexed}
 use Rattle.mesa_delta.specs.Packing.{last_part}
 use Rattle.mesa_delta.specs.Reading.{IsBlock}

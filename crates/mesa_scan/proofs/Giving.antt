@@ -5,18 +5,18 @@ use Rattle.std.proofs.lemmas.List.{append-nil, get_or-drop, length-drop, length-
 use Rattle.std.specs.Prelude.{flat_map, map, Option, None, Some}
 use Rattle.std.specs.Ordering.{is_lt}
 use Rattle.std.specs.declared.cmp.Ordering.TheVariants.{Less}
-use Rattle.mesa_key.specs.Order.{byte_cmp}
+use Rattle.mesa_delta.specs.mesa_key.Order.{byte_cmp}
 use Rattle.mesa_delta.specs.mesa_file.declared.damage.Damage.{Damage}
 use Rattle.mesa_delta.specs.mesa_file.declared.damage.Seen.TheVariants as seen
-use Rattle.mesa_schema.specs.declared.rows.Row.{Row}
+use Rattle.mesa_delta.specs.mesa_columns.declared.rows.Row.{Row}
 use Rattle.mesa_schema.specs.Changes.{columns_at, epoch_of}
-use Rattle.mesa_schema.specs.Columns.{Columns}
-use Rattle.mesa_schema.specs.Folded.{rows_of}
+use Rattle.mesa_delta.specs.mesa_columns.Columns.{Columns}
+use Rattle.mesa_delta.specs.mesa_fold.Folded.{rows_of}
 use Rattle.mesa_schema.specs.Laws.{LiftedRise}
-use Rattle.mesa_schema.specs.Lifting.{lifted_with}
+use Rattle.mesa_delta.specs.mesa_columns.Lifting.{lifted_with}
 use Rattle.mesa_schema.specs.Lineages.{IsLineage}
-use Rattle.mesa_schema.specs.Rows.{AreRowsOf, keys_rise}
-use Rattle.mesa_schema.proofs.Folds.{rows_of-append}
+use Rattle.mesa_delta.specs.mesa_columns.Rows.{AreRowsOf, keys_rise}
+use Rattle.mesa_filter.proofs.mesa_fold.Folds.{rows_of-append}
 use Rattle.mesa_delta.specs.Indexed.{Indexed}
 use Rattle.mesa_delta.specs.Packing.{last_part}
 use Rattle.mesa_block.specs.Spelling.{block}

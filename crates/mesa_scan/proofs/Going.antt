@@ -3,15 +3,16 @@ use Rattle.std.proofs.Common.{◌≡◌, ℕ, ◌+◌, ◌<◌, ◌≤◌, List,
 use Rattle.std.specs.Prelude.{filter, map, IsTrue, Option, Some}
 use Rattle.std.specs.List.{AllByRecursion}
 use Rattle.std.proofs.lemmas.List.{append-nil}
-use Rattle.mesa_key.specs.Spelling.{is_spelling, key_of}
-use Rattle.mesa_schema.specs.declared.rows.Row.{Row}
-use Rattle.mesa_schema.specs.declared.lifting.Lift.{Lift}
+use Rattle.mesa_delta.specs.mesa_key.Spelling.{is_spelling, key_of}
+use Rattle.mesa_delta.specs.mesa_columns.declared.rows.Row.{Row}
+use Rattle.mesa_delta.specs.mesa_columns.declared.lifting.Lift.{Lift}
 use Rattle.mesa_schema.specs.Changes.{Lineage, columns_at, columns_of, epoch_of, lifted}
-use Rattle.mesa_schema.specs.Columns.{Columns, kinds_of}
+use Rattle.mesa_delta.specs.mesa_columns.Columns.{Columns, kinds_of}
 use Rattle.mesa_schema.specs.Laws.{LiftedForms, LiftedKeys}
-use Rattle.mesa_schema.specs.Lifting.{Lifts, lifted_with}
+use Rattle.mesa_delta.specs.mesa_columns.Lifting.{lifted_with}
+use Rattle.mesa_schema.specs.Lifting.{Lifts}
 use Rattle.mesa_schema.specs.Lineages.{IsLineage}
-use Rattle.mesa_schema.specs.Rows.{AreRowsOf, IsRowOf}
+use Rattle.mesa_delta.specs.mesa_columns.Rows.{AreRowsOf, IsRowOf}
 use Rattle.mesa_filter.specs.Filter.{KeyFilter, filtered, meets}
 use Rattle.mesa_filter.specs.Pruning.{NoneMeets}
 use Rattle.mesa_delta.specs.Beginning.{KeysBetween}

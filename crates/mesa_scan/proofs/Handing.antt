@@ -1,7 +1,7 @@
 -- The row at hand of a block.
 use Rattle.std.proofs.Common.{◌≡◌, ℕ, zero, suc, ◌+◌, ◌<◌, ◌≤◌, List, [], ◌∷◌, length, drop, refl, ◌∙◌, ap, arith, length-drop}
 use Rattle.std.specs.Prelude.{Some, slice_get}
-use Rattle.mesa_schema.specs.declared.rows.Row.{Row}
+use Rattle.mesa_delta.specs.mesa_columns.declared.rows.Row.{Row}
 
 -- the row at a place stands before those behind it
 pub from_place : (rows : List Row) (at : ℕ) (row : Row) → slice_get rows at ≡ Some row → drop at rows ≡ row ∷ drop (at + 1) rows

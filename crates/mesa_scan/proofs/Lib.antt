@@ -1,3 +1,4 @@
+pub use Rattle.mesa_filter.proofs.mesa_fold as mesa_fold
 pub mod Lifted
 pub mod Handing
 pub mod Cutting

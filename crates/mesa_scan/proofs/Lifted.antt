@@ -4,15 +4,16 @@ use Rattle.std.proofs.lemmas.List.{append-nil}
 use Rattle.std.specs.Prelude.{map}
 use Rattle.std.specs.List.{AllByRecursion}
 use Rattle.mesa_block.specs.Rows.{AreRows, IsRow}
-use Rattle.mesa_schema.specs.declared.rows.Row.{Row}
-use Rattle.mesa_schema.specs.declared.lifting.Lift.{Lift}
+use Rattle.mesa_delta.specs.mesa_columns.declared.rows.Row.{Row}
+use Rattle.mesa_delta.specs.mesa_columns.declared.lifting.Lift.{Lift}
 use Rattle.mesa_schema.specs.Changes.{Lineage, columns_at, epoch_of, lifted}
-use Rattle.mesa_schema.specs.Columns.{Columns}
+use Rattle.mesa_delta.specs.mesa_columns.Columns.{Columns}
 use Rattle.mesa_block.specs.Layout.{Layout}
-use Rattle.mesa_schema.specs.Folded.{rows_of}
-use Rattle.mesa_schema.specs.Lifting.{Lifts, lifted_with}
-use Rattle.mesa_schema.specs.Rows.{AreRowsOf}
-use Rattle.mesa_schema.proofs.Folds.{rows_of-append}
+use Rattle.mesa_delta.specs.mesa_fold.Folded.{rows_of}
+use Rattle.mesa_delta.specs.mesa_columns.Lifting.{lifted_with}
+use Rattle.mesa_schema.specs.Lifting.{Lifts}
+use Rattle.mesa_delta.specs.mesa_columns.Rows.{AreRowsOf}
+use Rattle.mesa_filter.proofs.mesa_fold.Folds.{rows_of-append}
 
 -- rows of an epoch are lifted as the table lifts them
 pub lifts_all : (lift : Lift) (l : Lineage) (epoch : ℕ) (rows : List Row) → Lifts lift l epoch → AreRowsOf (columns_at l epoch) rows → map (lifted_with lift) rows ≡ map (lifted l epoch (epoch_of l)) rows

@@ -3,9 +3,9 @@ use Rattle.std.proofs.Common.{◌≡◌, ℕ, ◌+◌, ◌≤◌, List, ◌++◌
 use Rattle.std.specs.Prelude.{map, Option, Some}
 use Rattle.std.proofs.lemmas.List.{take_all}
 use Rattle.mesa_delta.specs.mesa_file.declared.damage.Damage.{Damage}
-use Rattle.mesa_schema.specs.declared.rows.Row.{Row}
+use Rattle.mesa_delta.specs.mesa_columns.declared.rows.Row.{Row}
 use Rattle.mesa_schema.specs.Changes.{columns_of}
-use Rattle.mesa_schema.specs.Folded.{rows_of}
+use Rattle.mesa_delta.specs.mesa_fold.Folded.{rows_of}
 use Rattle.mesa_filter.specs.Filter.{KeyFilter, filtered}
 use Rattle.mesa_delta.specs.Indexed.{Indexed}
 use Rattle.mesa_delta.specs.Reading.{IsBlockDamage, IsIndexed, index_of}

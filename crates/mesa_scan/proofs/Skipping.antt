@@ -7,14 +7,14 @@ use Rattle.std.specs.declared.cmp.Ordering.{Ordering}
 use Rattle.std.specs.declared.cmp.Ordering.TheVariants.{Less, Equal, Greater}
 use Rattle.std.proofs.lemmas.Bool.{and_from}
 use Rattle.std.proofs.lemmas.Cmp.{nat_list_cmp_total}
-use Rattle.mesa_key.specs.Order.{byte_cmp, short_key}
-use Rattle.mesa_key.specs.Spelling.{key_of}
-use Rattle.mesa_schema.specs.declared.rows.Row.{Row}
+use Rattle.mesa_delta.specs.mesa_key.Order.{byte_cmp, short_key}
+use Rattle.mesa_delta.specs.mesa_key.Spelling.{key_of}
+use Rattle.mesa_delta.specs.mesa_columns.declared.rows.Row.{Row}
 use Rattle.mesa_schema.specs.Changes.{Lineage, columns_at, columns_of, epoch_of, lifted}
-use Rattle.mesa_schema.specs.Columns.{Columns, kinds_of}
+use Rattle.mesa_delta.specs.mesa_columns.Columns.{Columns, kinds_of}
 use Rattle.mesa_schema.specs.Laws.{LiftedForms, LiftedKeys}
 use Rattle.mesa_schema.specs.Lineages.{IsLineage}
-use Rattle.mesa_schema.specs.Rows.{AreRowsOf}
+use Rattle.mesa_delta.specs.mesa_columns.Rows.{AreRowsOf}
 use Rattle.mesa_filter.specs.declared.terms.Term.{Term}
 use Rattle.mesa_filter.specs.Filter.{KeyFilter, filtered, meets}
 use Rattle.mesa_filter.specs.Pruning.{NoneMeets, lies_between}

@@ -5,19 +5,19 @@ use Rattle.std.proofs.Math.Seq.{take-length}
 use Rattle.std.specs.Prelude.{map, Option, None, Some}
 use Rattle.std.specs.List.{AllByRecursion}
 use Rattle.std.specs.Ordering.{is_le}
-use Rattle.mesa_key.specs.declared.KeyType.{KeyType}
-use Rattle.mesa_key.specs.declared.KeyValue.{KeyValue}
-use Rattle.mesa_key.specs.Order.{byte_cmp}
-use Rattle.mesa_key.specs.Spelling.{column_length, key_of, key_spelling}
-use Rattle.mesa_schema.specs.declared.rows.Row.{Row}
-use Rattle.mesa_schema.specs.declared.columns.KeyColumn.{KeyColumn}
+use Rattle.mesa_delta.specs.mesa_key.declared.KeyType.{KeyType}
+use Rattle.mesa_delta.specs.mesa_key.declared.KeyValue.{KeyValue}
+use Rattle.mesa_delta.specs.mesa_key.Order.{byte_cmp}
+use Rattle.mesa_delta.specs.mesa_key.Spelling.{column_length, key_of, key_spelling}
+use Rattle.mesa_delta.specs.mesa_columns.declared.rows.Row.{Row}
+use Rattle.mesa_delta.specs.mesa_columns.declared.columns.KeyColumn.{KeyColumn}
 use Rattle.mesa_schema.specs.Changes.{Lineage, columns_at, columns_of, epoch_of, lifted}
-use Rattle.mesa_schema.specs.Columns.{Columns, kinds_of}
-use Rattle.mesa_schema.specs.Folded.{rows_of}
+use Rattle.mesa_delta.specs.mesa_columns.Columns.{Columns, kinds_of}
+use Rattle.mesa_delta.specs.mesa_fold.Folded.{rows_of}
 use Rattle.mesa_schema.specs.Laws.{LiftedForms, LiftedKeys}
 use Rattle.mesa_schema.specs.Lineages.{IsLineage}
-use Rattle.mesa_schema.specs.Rows.{AreRowsOf, IsRowOf}
-use Rattle.mesa_schema.proofs.Folds.{rows_of-append}
+use Rattle.mesa_delta.specs.mesa_columns.Rows.{AreRowsOf, IsRowOf}
+use Rattle.mesa_filter.proofs.mesa_fold.Folds.{rows_of-append}
 use Rattle.mesa_block.specs.Layout.{Layout}
 use Rattle.mesa_delta.specs.Reading.{IsIndexed, index_of}
 use Rattle.mesa_delta.specs.Spread.{blocks_of}

@@ -1,8 +1,8 @@
 -- A row at hand that is given.
 use Rattle.std.proofs.Common.{◌≡◌, ℕ, List, [], ◌∷◌, ◌++◌, sym, ◌∙◌, ap, subst, length, drop, arith, append_assoc}
 use Rattle.std.specs.Prelude.{Option}
-use Rattle.mesa_schema.specs.declared.rows.Row.{Row}
-use Rattle.mesa_schema.specs.declared.lifting.Lift.{Lift}
+use Rattle.mesa_delta.specs.mesa_columns.declared.rows.Row.{Row}
+use Rattle.mesa_delta.specs.mesa_columns.declared.lifting.Lift.{Lift}
 use Rattle.mesa_schema.specs.Lifting.{Lifts}
 use Rattle.mesa_delta.specs.declared.input.Input.{Input}
 use Rattle.mesa_scan.specs.declared.cursor.Cursor.{Cursor}

@@ -1,7 +1,7 @@
 -- Which blocks of a file are read for a filter.
 use Rattle.std.specs.Prelude.{ℕ, zero, suc, ◌+◌, List, [], ◌∷◌, ◌++◌, map, take, get_or, Bool, true, if◌then◌else◌}
 use Rattle.std.specs.Ordering.{is_gt}
-use Rattle.mesa_key.specs.Order.{byte_cmp}
+use Rattle.mesa_delta.specs.mesa_key.Order.{byte_cmp}
 use Rattle.mesa_filter.specs.Filter.{KeyFilter}
 use Rattle.mesa_filter.specs.Walk.{may_meet_from}
 use Rattle.mesa_delta.specs.Indexed.{Indexed}

@@ -3,9 +3,9 @@ use Rattle.std.specs.Prelude.{◌≡◌, ℕ, List, [], ◌∷◌, map, filter, 
 use Rattle.std.specs.Ordering.{is_le, is_lt}
 use Rattle.std.specs.declared.cmp.Ordering.TheVariants.{Less}
 use Rattle.mesa_delta.specs.mesa_value.declared.Agg.{Agg}
-use Rattle.mesa_key.specs.Order.{byte_cmp}
-use Rattle.mesa_schema.specs.declared.rows.Row.{Row}
-use Rattle.mesa_schema.specs.Folded.{folded}
+use Rattle.mesa_delta.specs.mesa_key.Order.{byte_cmp}
+use Rattle.mesa_delta.specs.mesa_columns.declared.rows.Row.{Row}
+use Rattle.mesa_delta.specs.mesa_fold.Folded.{folded}
 
 -- a key is at or above the low end, where there is one
 abbrev pub is_from : Option (List ℕ) → List ℕ → Bool

@@ -1,9 +1,9 @@
 -- Laws of cut rows.
 use Rattle.std.specs.Prelude.{◌≡◌, ℕ, List, Option, None, IsTrue}
 use Rattle.mesa_delta.specs.mesa_value.declared.Agg.{Agg}
-use Rattle.mesa_schema.specs.declared.rows.Row.{Row}
-use Rattle.mesa_schema.specs.Folded.{folded, rows_of}
-use Rattle.mesa_schema.specs.Rows.{keys_rise}
+use Rattle.mesa_delta.specs.mesa_columns.declared.rows.Row.{Row}
+use Rattle.mesa_delta.specs.mesa_fold.Folded.{folded, rows_of}
+use Rattle.mesa_delta.specs.mesa_columns.Rows.{keys_rise}
 use Rattle.mesa_scan.specs.Cut.{CutsRise, cut, cut_each, cuts_from, folds_from}
 
 -- Rows may be cut before folding or after it.

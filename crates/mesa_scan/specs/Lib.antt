@@ -1,5 +1,8 @@
+pub use Rattle.mesa_delta.specs.mesa_columns as mesa_columns
 pub use Rattle.mesa_delta.specs.mesa_file as mesa_file
+pub use Rattle.mesa_delta.specs.mesa_fold as mesa_fold
 pub use Rattle.mesa_disk.specs.mesa_io as mesa_io
+pub use Rattle.mesa_schema.specs as mesa_schema
 pub mod Cut
 pub mod Laws
 pub mod Cursors

@@ -1,7 +1,7 @@
 -- The rows that meet a filter.
 use Rattle.std.specs.Prelude.{List, filter}
-use Rattle.mesa_key.specs.Spelling.{key_of}
-use Rattle.mesa_schema.specs.declared.rows.Row.{Row}
+use Rattle.mesa_delta.specs.mesa_key.Spelling.{key_of}
+use Rattle.mesa_delta.specs.mesa_columns.declared.rows.Row.{Row}
 use Rattle.mesa_filter.specs.Filter.{KeyFilter, meets}
 
 -- the rows whose key meets a filter of their columns, in their order

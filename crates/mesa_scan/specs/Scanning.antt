@@ -1,11 +1,11 @@
 -- What a scan has given of an input.
 use Rattle.std.specs.Prelude.{◌≡◌, ℕ, ◌≤◌, List, [], get_or, map, take, length, Option, Some}
-use Rattle.mesa_schema.specs.declared.rows.Row.{Row}
-use Rattle.mesa_schema.specs.Columns.{kinds_of}
+use Rattle.mesa_delta.specs.mesa_columns.declared.rows.Row.{Row}
+use Rattle.mesa_delta.specs.mesa_columns.Columns.{kinds_of}
 use Rattle.mesa_schema.specs.Changes.{columns_at, columns_of}
-use Rattle.mesa_schema.specs.Folded.{rows_of}
+use Rattle.mesa_delta.specs.mesa_fold.Folded.{rows_of}
 use Rattle.mesa_schema.specs.Lifting.{Lifts}
-use Rattle.mesa_schema.specs.Rows.{AreRowsOf}
+use Rattle.mesa_delta.specs.mesa_columns.Rows.{AreRowsOf}
 use Rattle.mesa_filter.specs.Filter.{KeyFilter, filtered}
 use Rattle.mesa_delta.specs.Reading.{IsIndexed, index_of}
 use Rattle.mesa_delta.specs.Spread.{blocks_of}

@@ -1,8 +1,8 @@
 // Where a cursor begins, and how it goes on from block to block.
 ghost use Rattle.std.specs.Prelude.{◌≡◌, ◌≢◌, ◌<◌, ◌≤◌, ℕ, [], List, length, map, take, drop, None, Some, IfOk, IsTrue, true};
-ghost use Rattle.mesa_schema.specs.declared.rows.Row.{Row as AnyRow};
-ghost use Rattle.mesa_schema.specs.Folded.{rows_of};
-ghost use Rattle.mesa_schema.specs.Rows.{keys_rise};
+ghost use Rattle.mesa_delta.specs.mesa_columns.declared.rows.Row.{Row as AnyRow};
+ghost use Rattle.mesa_delta.specs.mesa_fold.Folded.{rows_of};
+ghost use Rattle.mesa_delta.specs.mesa_columns.Rows.{keys_rise};
 ghost use Rattle.mesa_delta.specs.Reading.{IsIndexed, index_of};
 ghost use Rattle.mesa_delta.specs.Spread.{blocks_of};
 ghost use Rattle.mesa_scan.specs.Cursors.{IsInput, comes_behind, lift_by, reader_in};
@@ -11,9 +11,7 @@ ghost use Rattle.mesa_scan.specs.Cut.{cut};
 use mesa_block::Block;
 use mesa_delta::Input;
 use mesa_disk::FileReader;
-use mesa_key::KeyBytes;
-use mesa_list::TryCopy;
-use mesa_schema::lifts_to_present;
+use mesa_schema::{KeyBytes, TryCopy, lifts_to_present};
 use std::alloc::AllocError;
 
 /// The block at which to begin: none before it has a row from this key on.

@@ -3,12 +3,12 @@ ghost use Rattle.std.specs.Prelude.{◌≡◌, ◌⊎◌, ◌<◌, ◌≤◌, �
 ghost use Rattle.std.specs.Ordering.{is_le};
 ghost use Rattle.mesa_disk.specs.mesa_io.Causes.{HasFaultCause};
 ghost use Rattle.mesa_delta.specs.mesa_file.declared.damage.Damage.{Damage as AnyDamage};
-ghost use Rattle.mesa_key.specs.Order.{byte_cmp};
-ghost use Rattle.mesa_schema.specs.declared.rows.Row.{Row as AnyRow};
+ghost use Rattle.mesa_delta.specs.mesa_key.Order.{byte_cmp};
+ghost use Rattle.mesa_delta.specs.mesa_columns.declared.rows.Row.{Row as AnyRow};
 ghost use Rattle.mesa_schema.specs.Changes.{columns_of};
-ghost use Rattle.mesa_schema.specs.Laws.{AreUnder};
-ghost use Rattle.mesa_schema.specs.Lent.{lent};
-ghost use Rattle.mesa_schema.specs.Rows.{AreRowsOf, keys_rise};
+ghost use Rattle.mesa_delta.specs.mesa_fold.Laws.{AreUnder};
+ghost use Rattle.mesa_delta.specs.mesa_columns.Lent.{lent};
+ghost use Rattle.mesa_delta.specs.mesa_columns.Rows.{AreRowsOf, keys_rise};
 ghost use Rattle.mesa_delta.specs.declared.error.FileError.TheVariants as file_error;
 ghost use Rattle.mesa_delta.specs.Ahead.{AreOfFile};
 ghost use Rattle.mesa_delta.specs.Places.{entry_of};
@@ -20,8 +20,7 @@ use crate::beginning::{copied, first_from, follows, start_of};
 use mesa_block::{Block, fits_alone};
 use mesa_delta::{Ahead, FileError, Index, Input};
 use mesa_disk::{Damage, FileReader, Seen};
-use mesa_key::KeyBytes;
-use mesa_schema::{LentRow, Lift, lifts_to_present};
+use mesa_schema::{KeyBytes, LentRow, Lift, lifts_to_present};
 use std::alloc::{AllocError, Global};
 
 /// Where an input is being read: its rows come one after the other, from the first on or from a key on, lifted to the

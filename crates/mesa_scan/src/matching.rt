@@ -1,9 +1,9 @@
 // The matching rows of a block.
 ghost use Rattle.std.specs.Prelude.{◌≡◌, ◌<◌, [], IfOk, IsTrue, Some, length, slice_get};
 ghost use Rattle.std.specs.List.{AllByRecursion};
-ghost use Rattle.mesa_key.specs.Spelling.{is_spelling};
-ghost use Rattle.mesa_schema.specs.declared.rows.Row.{Row as AnyRow};
-ghost use Rattle.mesa_schema.specs.Lent.{lent};
+ghost use Rattle.mesa_delta.specs.mesa_key.Spelling.{is_spelling};
+ghost use Rattle.mesa_delta.specs.mesa_columns.declared.rows.Row.{Row as AnyRow};
+ghost use Rattle.mesa_delta.specs.mesa_columns.Lent.{lent};
 ghost use Rattle.mesa_scan.specs.MatchingRows.{matching_rows};
 
 use mesa_block::Block;
@@ -23,8 +23,8 @@ pub struct MatchingRows {
 impl Model for MatchingRows {
     ghost use Rattle.std.specs.Prelude.{◌<◌, List, length};
     ghost use Rattle.std.specs.List.{AllByRecursion};
-    ghost use Rattle.mesa_schema.specs.declared.rows.Row.{Row};
-    ghost use Rattle.mesa_schema.specs.Columns.{chosen};
+    ghost use Rattle.mesa_delta.specs.mesa_columns.declared.rows.Row.{Row};
+    ghost use Rattle.mesa_delta.specs.mesa_columns.Columns.{chosen};
 
     ghost Value = { List Row };
 

@@ -2,7 +2,7 @@
 ghost use Rattle.std.specs.Prelude.{◌≡◌, ◌<◌, ◌≤◌, ◌+◌, ◌++◌, ◌↔◌, [], List, length, IfOk, OnOk, OnErr, IfErr, IsTrue, Some, slice_get};
 ghost use Rattle.mesa_disk.specs.mesa_io.Causes.{HasCause, HasFaultCause};
 ghost use Rattle.mesa_delta.specs.mesa_file.declared.damage.Damage.{Damage as AnyDamage};
-ghost use Rattle.mesa_schema.specs.declared.rows.Row.{Row as AnyRow};
+ghost use Rattle.mesa_delta.specs.mesa_columns.declared.rows.Row.{Row as AnyRow};
 ghost use Rattle.mesa_delta.specs.declared.error.FileError.TheVariants as file_error;
 ghost use Rattle.mesa_delta.specs.Ahead.{AreAhead, AreOfFile, Told as AnyTold};
 ghost use Rattle.mesa_delta.specs.Reading.{index_of};
@@ -18,8 +18,7 @@ use mesa_block::fits_alone;
 use mesa_delta::{Ahead, FileError, Input, keys_between};
 use mesa_disk::{FileReader, ReadFailed};
 use mesa_filter::Filter;
-use mesa_key::reads_back;
-use mesa_schema::{Lift, lifts_to_present};
+use mesa_schema::{Lift, lifts_to_present, reads_back};
 use std::alloc::{AllocError, Global};
 
 /// Where an input is being scanned for the rows that match a filter. It goes on block by block, and a block is read only where it may have a matching row; so what is held is at most a block.

@@ -2,9 +2,9 @@
 ghost use Rattle.std.specs.Prelude.{◌≡◌, ◌≤◌, ◌+◌, ◌++◌, ℕ, List, length, map, IfOk, OnOk, OnErr, IfErr, Some};
 ghost use Rattle.mesa_disk.specs.mesa_io.Causes.{HasFaultCause};
 ghost use Rattle.mesa_delta.specs.mesa_file.declared.damage.Damage.{Damage as AnyDamage};
-ghost use Rattle.mesa_schema.specs.declared.rows.Row.{Row as AnyRow};
+ghost use Rattle.mesa_delta.specs.mesa_columns.declared.rows.Row.{Row as AnyRow};
 ghost use Rattle.mesa_schema.specs.Changes.{columns_of};
-ghost use Rattle.mesa_schema.specs.Rows.{AreRowsOf};
+ghost use Rattle.mesa_delta.specs.mesa_columns.Rows.{AreRowsOf};
 ghost use Rattle.mesa_filter.specs.Filter.{filtered};
 ghost use Rattle.mesa_delta.specs.declared.error.FileError.TheVariants as file_error;
 ghost use Rattle.mesa_delta.specs.Reading.{IsIndexed, index_of};
@@ -18,8 +18,7 @@ use crate::scanning::Scan;
 use mesa_delta::{FileError, Input};
 use mesa_disk::FileReader;
 use mesa_filter::Filter;
-use mesa_list::Items;
-use mesa_schema::{Row, RowList};
+use mesa_schema::{Items, Row, RowList};
 use std::alloc::{AllocError, Global};
 use std::mem::replace;
 

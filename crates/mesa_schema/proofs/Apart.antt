@@ -2,10 +2,10 @@
 use Rattle.std.proofs.Common.{◌≡◌, ℕ, zero, suc, List, [], ◌∷◌, ◌++◌, Bool, true, false, cond, refl, sym, ◌∙◌, subst, ◌||◌, Option, Some, None, is_none, is_some}
 use Rattle.std.proofs.lemmas.Bool.{or_from, or_parts}
 use Rattle.std.proofs.lemmas.Cmp.{nat_list_eq_equiv}
-use Rattle.mesa_key.specs.mesa_list.Bytes.{same_bytes}
-use Rattle.mesa_schema.specs.Names.{has_name, repeated_after}
-use Rattle.mesa_schema.specs.Changes.{without}
-use Rattle.mesa_schema.proofs.Drops.{without-nil, without-suc}
+use Rattle.mesa_fold.specs.mesa_list.Bytes.{same_bytes}
+use Rattle.mesa_columns.specs.Names.{has_name, repeated_after}
+use Rattle.mesa_columns.specs.Changes.{without}
+use Rattle.mesa_columns.proofs.Drops.{without-nil, without-suc}
 
 -- each name is none of those before it
 abbrev pub Apart : List (List ℕ) → List (List ℕ) → Type 0

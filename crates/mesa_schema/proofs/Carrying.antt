@@ -2,12 +2,12 @@
 use Rattle.std.proofs.Common.{◌≡◌, List, [], ◌∷◌, ◌++◌, map, sym, ◌∙◌, ap}
 use Rattle.std.proofs.lemmas.List.{map-id}
 use Rattle.std.proofs.lemmas.Simd.{map-map}
-use Rattle.mesa_schema.specs.declared.rows.Row.{Row}
-use Rattle.mesa_schema.specs.Columns.{Columns, aggs_of}
-use Rattle.mesa_schema.specs.Folded.{folded, rows_of}
-use Rattle.mesa_schema.specs.Rows.{AreRowsOf, IsRowOf}
+use Rattle.mesa_columns.specs.declared.rows.Row.{Row}
+use Rattle.mesa_columns.specs.Columns.{Columns, aggs_of}
+use Rattle.mesa_fold.specs.Folded.{folded, rows_of}
+use Rattle.mesa_columns.specs.Rows.{AreRowsOf, IsRowOf}
 use Rattle.mesa_schema.proofs.Forms.{lifts_folded}
-use Rattle.mesa_schema.proofs.Lists.{all_append}
+use Rattle.mesa_columns.proofs.Lists.{all_append}
 use Rattle.mesa_schema.proofs.PresentRows.{forms_more}
 use Rattle.mesa_schema.specs.Carried.{AreTurnsOf, Changed, IsTurnOf, Recasted, Turn, carried, carried_once, columns_then, columns_through}
 use Rattle.mesa_schema.proofs.Recasting.{recast_folds, recast_form}

@@ -4,12 +4,12 @@ use Rattle.std.specs.Prelude.{◌==◌, ◌||◌, is_some, find, option_map, sli
 use Rattle.std.specs.List.{cons_option, list_all, list_any}
 use Rattle.std.proofs.Math.ListN.{get_or-map}
 use Rattle.std.proofs.lemmas.Option.{slice_get-get_or}
-use Rattle.mesa_schema.specs.declared.columns.ValueColumn.{ValueColumn}
-use Rattle.mesa_schema.specs.declared.views.ViewError.{ViewError}
-use Rattle.mesa_schema.specs.declared.views.ViewError.TheVariants.{NameTwice}
-use Rattle.mesa_schema.specs.Names.{has_name, repeated}
-use Rattle.mesa_schema.specs.Columns.{chosen, is_replace, place_of, places_in}
-use Rattle.mesa_schema.proofs.Places.{place_named}
+use Rattle.mesa_columns.specs.declared.columns.ValueColumn.{ValueColumn}
+use Rattle.mesa_columns.specs.declared.views.ViewError.{ViewError}
+use Rattle.mesa_columns.specs.declared.views.ViewError.TheVariants.{NameTwice}
+use Rattle.mesa_columns.specs.Names.{has_name, repeated}
+use Rattle.mesa_columns.specs.Columns.{chosen, is_replace, place_of, places_in}
+use Rattle.mesa_columns.proofs.Places.{place_named}
 use Rattle.mesa_schema.specs.Views.{choice_checked}
 
 -- Where all names are there, and some are: whether one is repeated decides.

@@ -7,12 +7,12 @@ use Rattle.std.proofs.lemmas.Cmp.{nat_list_eq_equiv}
 use Rattle.std.proofs.lemmas.List.{length-map, map-append}
 use Rattle.std.proofs.lemmas.List.Folds.{list_any-append}
 use Rattle.std.proofs.lemmas.Option.{slice_get-map}
-use Rattle.mesa_key.specs.mesa_list.Bytes.{same_bytes}
-use Rattle.mesa_schema.specs.Names.{has_name}
-use Rattle.mesa_schema.specs.Columns.{chosen, places_in}
-use Rattle.mesa_schema.specs.Changes.{without}
-use Rattle.mesa_schema.proofs.Drops.{without-map, without-suc}
-use Rattle.mesa_schema.proofs.Picks.{chosen-less, chosen-push}
+use Rattle.mesa_fold.specs.mesa_list.Bytes.{same_bytes}
+use Rattle.mesa_columns.specs.Names.{has_name}
+use Rattle.mesa_columns.specs.Columns.{chosen, places_in}
+use Rattle.mesa_columns.specs.Changes.{without}
+use Rattle.mesa_columns.proofs.Drops.{without-map, without-suc}
+use Rattle.mesa_fold.proofs.Picks.{chosen-less, chosen-push}
 
 module _ {C : Type 0} (f : C → List ℕ) where
   -- whether a column has a name

@@ -1,44 +1,22 @@
-pub use Rattle.mesa_key.proofs as mesa_key
+pub use Rattle.mesa_columns.proofs as mesa_columns
+pub use Rattle.mesa_fold.proofs as mesa_fold
+pub use Rattle.mesa_fold.proofs.mesa_key as mesa_key
 pub mod Apart
 pub mod ChangeChecks
 pub mod Carrying
 pub mod Choices
 pub mod ChosenAgain
 pub mod ChosenColumns
-pub mod Drops
-pub mod FilteredFolds
-pub mod Folding
-pub mod Folds
 pub mod Forms
-pub mod GroupKeys
-pub mod GroupedFolds
-pub mod Grouping
-pub mod KeyCounts
-pub mod KeyLifts
-pub mod Keys
-pub mod KeysApart
-pub mod LiftSteps
-pub mod Lifts
 pub mod LineageChanges
 pub mod LineageRecasts
 pub mod LineageRules
-pub mod Lists
-pub mod Maps
-pub mod NumberWords
 pub mod Outlasting
 pub mod Passing
-pub mod Picks
-pub mod Places
 pub mod PresentRows
-pub mod Ranges
 pub mod Recasting
-pub mod Refolds
 pub mod Regrouping
-pub mod Repeats
 pub mod RisingRows
-pub mod SameFolds
 pub mod SchemaChanges
-pub mod SchemaRules
 pub mod ViewChanges
 pub mod ViewSchemas
-pub mod WholeGroups

@@ -5,19 +5,20 @@ use Rattle.std.specs.List.{list_all}
 use Rattle.std.proofs.lemmas.Bool.{cases_lt, eqb-true, leb-false, lt-leb}
 use Rattle.std.proofs.lemmas.Int.{ints}
 use Rattle.std.proofs.lemmas.List.{take-append-le, take_all}
-use Rattle.mesa_key.specs.mesa_value.declared.Agg.{Agg}
-use Rattle.mesa_key.specs.mesa_value.declared.Agg.TheVariants.{Sum, Min, Max, Replace}
-use Rattle.mesa_key.specs.mesa_value.Agg.{IsDefault, IsNarrow}
-use Rattle.mesa_schema.specs.declared.views.View.{View}
-use Rattle.mesa_schema.specs.declared.changes.Change.{Change}
-use Rattle.mesa_schema.specs.Columns.{Columns}
-use Rattle.mesa_schema.specs.Schema.{is_schema, schema_checked}
-use Rattle.mesa_schema.specs.Changes.{Lineage, change_checked, changed, columns_after, columns_of, epoch_of, is_default, max_changes, rule_checked, with_change}
+use Rattle.mesa_fold.specs.mesa_value.declared.Agg.{Agg}
+use Rattle.mesa_fold.specs.mesa_value.declared.Agg.TheVariants.{Sum, Min, Max, Replace}
+use Rattle.mesa_fold.specs.mesa_value.Agg.{IsDefault, IsNarrow}
+use Rattle.mesa_columns.specs.declared.views.View.{View}
+use Rattle.mesa_columns.specs.declared.changes.Change.{Change}
+use Rattle.mesa_columns.specs.Columns.{Columns}
+use Rattle.mesa_columns.specs.Schema.{is_schema, schema_checked}
+use Rattle.mesa_columns.specs.Changes.{changed, columns_after, is_default}
+use Rattle.mesa_schema.specs.Changes.{Lineage, change_checked, columns_of, epoch_of, max_changes, rule_checked, with_change}
 use Rattle.mesa_schema.specs.Views.{max_views, with_view}
 use Rattle.mesa_schema.specs.Lineages.{HasDefault, IsKept, IsLineage, is_view_of}
 use Rattle.mesa_schema.proofs.LineageRules.{kept_with_view, present_schema}
 use Rattle.mesa_schema.proofs.PresentRows.{columns_more, epoch_more}
-use Rattle.mesa_schema.proofs.Lists.{all_append}
+use Rattle.mesa_columns.proofs.Lists.{all_append}
 use Rattle.mesa_schema.proofs.Passing.{passed_first, passed_last}
 use Rattle.mesa_schema.proofs.SchemaChanges.{rules_schema, schema_changed, schema_rules}
 use Rattle.mesa_schema.proofs.ViewChanges.{views_changed}

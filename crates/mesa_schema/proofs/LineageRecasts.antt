@@ -4,23 +4,24 @@ use Rattle.std.specs.Prelude.{not}
 use Rattle.std.specs.List.{AllByRecursion, list_all}
 use Rattle.std.proofs.lemmas.Bool.{and_from, and_parts, leb-false}
 use Rattle.std.proofs.lemmas.List.{take_all}
-use Rattle.mesa_key.specs.mesa_list.Checks.{◌>>◌, refuse_if, refused_as}
-use Rattle.mesa_schema.specs.declared.columns.KeyColumn.{KeyColumn}
-use Rattle.mesa_schema.specs.declared.columns.ValueColumn.{ValueColumn}
-use Rattle.mesa_schema.specs.declared.views.View.{View}
+use Rattle.mesa_fold.specs.mesa_list.Checks.{◌>>◌, refuse_if, refused_as}
+use Rattle.mesa_columns.specs.declared.columns.KeyColumn.{KeyColumn}
+use Rattle.mesa_columns.specs.declared.columns.ValueColumn.{ValueColumn}
+use Rattle.mesa_columns.specs.declared.views.View.{View}
 use Rattle.mesa_schema.specs.declared.recasts.RecastError.TheVariants.{EpochsFull}
-use Rattle.mesa_schema.specs.declared.views.ViewError.{ViewError}
-use Rattle.mesa_schema.specs.declared.views.ViewError.TheVariants.{NoKey, NoValue}
-use Rattle.mesa_schema.specs.Columns.{Columns, key_names, value_names}
-use Rattle.mesa_schema.specs.Changes.{Lineage, columns_after, columns_at, columns_of, epoch_of, max_changes}
+use Rattle.mesa_columns.specs.declared.views.ViewError.{ViewError}
+use Rattle.mesa_columns.specs.declared.views.ViewError.TheVariants.{NoKey, NoValue}
+use Rattle.mesa_columns.specs.Columns.{Columns, key_names, value_names}
+use Rattle.mesa_columns.specs.Changes.{columns_after}
+use Rattle.mesa_schema.specs.Changes.{Lineage, columns_at, columns_of, epoch_of, max_changes}
 use Rattle.mesa_schema.specs.Lineages.{IsLineage, is_view_of}
 use Rattle.mesa_schema.specs.Recasts.{IsRecastOf, Recast, choice_refusal, columns_checked, keeps_view, recast_checked, recast_columns, recast_lineage, refuse_left, refuse_losing, replace_left, views_kept}
-use Rattle.mesa_schema.specs.Schema.{is_schema}
+use Rattle.mesa_columns.specs.Schema.{is_schema}
 use Rattle.mesa_schema.specs.Views.{choice_checked}
 use Rattle.mesa_schema.proofs.LineageRules.{present_schema}
 use Rattle.mesa_schema.proofs.Outlasting.{still_allowed}
 use Rattle.mesa_schema.proofs.Passing.{passed_first, passed_last}
-use Rattle.mesa_schema.proofs.SchemaRules.{rules_left}
+use Rattle.mesa_columns.proofs.SchemaRules.{rules_left}
 use Rattle.mesa_schema.proofs.ViewSchemas.{choice, few_columns, sort_of}
 
 -- The columns of a table that was recast, at each epoch.

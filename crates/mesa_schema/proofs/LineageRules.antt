@@ -3,17 +3,18 @@ use Rattle.std.proofs.Common.{◌≡◌, ℕ, ◌<◌, ◌-◌, List, [], ◌∷
 use Rattle.std.specs.Prelude.{◌&&◌, is_ok, find, option_map, is_some, not, ◌==◌}
 use Rattle.std.specs.List.{list_all}
 use Rattle.std.proofs.lemmas.List.{length-map, take_all}
-use Rattle.mesa_key.specs.mesa_list.Checks.{◌>>◌, refuse_if, refuse_unless}
-use Rattle.mesa_schema.specs.declared.changes.ChangeError.TheVariants.{LastValue, NoColumn}
-use Rattle.mesa_schema.specs.Names.{has_name}
+use Rattle.mesa_fold.specs.mesa_list.Checks.{◌>>◌, refuse_if, refuse_unless}
+use Rattle.mesa_columns.specs.declared.changes.ChangeError.TheVariants.{LastValue, NoColumn}
+use Rattle.mesa_columns.specs.Names.{has_name}
 use Rattle.std.proofs.lemmas.List.Folds.{list_all-append}
-use Rattle.mesa_schema.specs.declared.columns.KeyColumn.{KeyColumn}
-use Rattle.mesa_schema.specs.declared.columns.ValueColumn.{ValueColumn}
-use Rattle.mesa_schema.specs.declared.views.View.{View}
-use Rattle.mesa_schema.specs.declared.views.ViewError.TheVariants.{NoKey, NoValue}
-use Rattle.mesa_schema.specs.Columns.{Columns, chosen, is_replace, key_names, places_in, value_names}
-use Rattle.mesa_schema.specs.Schema.{is_schema}
-use Rattle.mesa_schema.specs.Changes.{Lineage, columns_after, columns_of, drop_checked, epoch_of, refuse_used}
+use Rattle.mesa_columns.specs.declared.columns.KeyColumn.{KeyColumn}
+use Rattle.mesa_columns.specs.declared.columns.ValueColumn.{ValueColumn}
+use Rattle.mesa_columns.specs.declared.views.View.{View}
+use Rattle.mesa_columns.specs.declared.views.ViewError.TheVariants.{NoKey, NoValue}
+use Rattle.mesa_columns.specs.Columns.{Columns, chosen, is_replace, key_names, places_in, value_names}
+use Rattle.mesa_columns.specs.Schema.{is_schema}
+use Rattle.mesa_columns.specs.Changes.{columns_after}
+use Rattle.mesa_schema.specs.Changes.{Lineage, columns_of, drop_checked, epoch_of, refuse_used}
 use Rattle.mesa_schema.specs.Views.{choice_checked, values_named, view_checked}
 use Rattle.mesa_schema.specs.Lineages.{IsKept, IsLineage, is_view_of}
 

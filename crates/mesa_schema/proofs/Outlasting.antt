@@ -3,24 +3,24 @@ use Rattle.std.proofs.Common.{◌≡◌, ℕ, List, [], ◌∷◌, map, true, fa
 use Rattle.std.specs.List.{AllByRecursion}
 use Rattle.std.proofs.lemmas.List.{append-nil, length-map}
 use Rattle.std.proofs.lemmas.Simd.{map-map}
-use Rattle.mesa_key.specs.mesa_list.Checks.{◌>>◌}
-use Rattle.mesa_key.specs.mesa_value.declared.Agg.{Agg}
-use Rattle.mesa_key.specs.mesa_value.declared.Agg.TheVariants.{Sum, Min, Max, Replace}
-use Rattle.mesa_key.specs.mesa_value.Agg.{IsOrderless}
-use Rattle.mesa_schema.specs.declared.columns.ValueColumn.{ValueColumn}
-use Rattle.mesa_schema.specs.declared.rows.Row.{Row}
-use Rattle.mesa_schema.specs.declared.views.View.{View}
-use Rattle.mesa_schema.specs.declared.views.ViewError.{ViewError}
-use Rattle.mesa_schema.specs.declared.views.ViewError.TheVariants.{NoKey, NoValue, ReplaceInView}
-use Rattle.mesa_schema.specs.Columns.{Columns, aggs_of, chosen, is_replace, key_names, value_names}
+use Rattle.mesa_fold.specs.mesa_list.Checks.{◌>>◌}
+use Rattle.mesa_fold.specs.mesa_value.declared.Agg.{Agg}
+use Rattle.mesa_fold.specs.mesa_value.declared.Agg.TheVariants.{Sum, Min, Max, Replace}
+use Rattle.mesa_fold.specs.mesa_value.Agg.{IsOrderless}
+use Rattle.mesa_columns.specs.declared.columns.ValueColumn.{ValueColumn}
+use Rattle.mesa_columns.specs.declared.rows.Row.{Row}
+use Rattle.mesa_columns.specs.declared.views.View.{View}
+use Rattle.mesa_columns.specs.declared.views.ViewError.{ViewError}
+use Rattle.mesa_columns.specs.declared.views.ViewError.TheVariants.{NoKey, NoValue, ReplaceInView}
+use Rattle.mesa_columns.specs.Columns.{Columns, aggs_of, chosen, is_replace, key_names, value_names}
 use Rattle.mesa_schema.specs.Views.{choice_checked, values_named, view_columns, view_key_places, view_rows, view_value_places}
 use Rattle.mesa_schema.specs.Lineages.{is_view_of}
-use Rattle.mesa_schema.specs.Folded.{folded, regrouped, rows_of}
-use Rattle.mesa_schema.specs.Rows.{AreRowsOf, IsRowOf}
-use Rattle.mesa_schema.proofs.Folds.{folded-folded}
-use Rattle.mesa_schema.proofs.GroupedFolds.{groups_folded}
-use Rattle.mesa_schema.proofs.GroupKeys.{chosen_mapped}
-use Rattle.mesa_schema.proofs.Lists.{same_maps}
+use Rattle.mesa_fold.specs.Folded.{folded, regrouped, rows_of}
+use Rattle.mesa_columns.specs.Rows.{AreRowsOf, IsRowOf}
+use Rattle.mesa_fold.proofs.Folds.{folded-folded}
+use Rattle.mesa_fold.proofs.GroupedFolds.{groups_folded}
+use Rattle.mesa_fold.proofs.GroupKeys.{chosen_mapped}
+use Rattle.mesa_columns.proofs.Lists.{same_maps}
 use Rattle.mesa_schema.proofs.Passing.{passed_first}
 use Rattle.mesa_schema.specs.Recasts.{IsRecastOf, Recast, keeps_view, recast_columns, recast_keys, recast_rows, recast_values}
 use Rattle.mesa_schema.specs.Laws.{Outlasts}

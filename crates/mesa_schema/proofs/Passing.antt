@@ -1,7 +1,7 @@
 -- What passed checks say.
 use Rattle.std.proofs.Common.{◌≡◌, Bool, true, false, refl, Result, Ok, Err}
 use Rattle.std.specs.Prelude.{is_ok}
-use Rattle.mesa_key.specs.mesa_list.Checks.{◌>>◌, refuse_if, refuse_unless}
+use Rattle.mesa_fold.specs.mesa_list.Checks.{◌>>◌, refuse_if, refuse_unless}
 
 pub passed_unless : {E B : Type 0} (t : Bool) (e : E) (rest : Result B E) → is_ok (refuse_unless t e >> rest) ≡ true → (t ≡ true) × (is_ok rest ≡ true)
 passed_unless true e rest h = (refl, h)

@@ -3,21 +3,22 @@ use Rattle.std.proofs.Common.{◌≡◌, ℕ, ◌+◌, ◌-◌, ◌≤◌, List,
 use Rattle.std.specs.List.{AllByRecursion}
 use Rattle.std.proofs.lemmas.List.{append-nil, drop-append-le, drop_all, length-append, length-map, map-append, map-id, take-append-drop, take-append-le, take_all, length-drop}
 use Rattle.std.proofs.lemmas.Simd.{map-map}
-use Rattle.mesa_key.specs.declared.KeyType.{KeyType}
-use Rattle.mesa_key.specs.declared.KeyValue.{KeyValue}
-use Rattle.mesa_key.specs.Spelling.{column_length, column_value, key_of, key_spelling, value_spelling}
-use Rattle.mesa_key.proofs.Keys.{key_again}
-use Rattle.mesa_schema.specs.declared.columns.KeyColumn.{KeyColumn}
-use Rattle.mesa_schema.specs.declared.rows.Row.{Row}
-use Rattle.mesa_schema.specs.declared.changes.Change.{Change}
-use Rattle.mesa_schema.specs.declared.changes.Change.TheVariants.{AddKey, AddValue, DropValue}
-use Rattle.mesa_schema.specs.Columns.{Columns, aggs_of, kinds_of}
-use Rattle.mesa_schema.specs.Changes.{Lineage, changed, columns_after, columns_at, columns_of, epoch_of, lifted, lifted_by, lifted_once, with_change}
-use Rattle.mesa_schema.specs.Folded.{folded, rows_of}
+use Rattle.mesa_fold.specs.mesa_key.declared.KeyType.{KeyType}
+use Rattle.mesa_fold.specs.mesa_key.declared.KeyValue.{KeyValue}
+use Rattle.mesa_fold.specs.mesa_key.Spelling.{column_length, column_value, key_of, key_spelling, value_spelling}
+use Rattle.mesa_fold.proofs.mesa_key.Keys.{key_again}
+use Rattle.mesa_columns.specs.declared.columns.KeyColumn.{KeyColumn}
+use Rattle.mesa_columns.specs.declared.rows.Row.{Row}
+use Rattle.mesa_columns.specs.declared.changes.Change.{Change}
+use Rattle.mesa_columns.specs.declared.changes.Change.TheVariants.{AddKey, AddValue, DropValue}
+use Rattle.mesa_columns.specs.Columns.{Columns, aggs_of, kinds_of}
+use Rattle.mesa_columns.specs.Changes.{changed, columns_after, lifted_by, lifted_once}
+use Rattle.mesa_schema.specs.Changes.{Lineage, columns_at, columns_of, epoch_of, lifted, with_change}
+use Rattle.mesa_fold.specs.Folded.{folded, rows_of}
 use Rattle.mesa_schema.specs.Lineages.{HasDefault, IsLineage}
-use Rattle.mesa_schema.specs.Rows.{AreRowsOf, IsRowOf, keys_rise}
+use Rattle.mesa_columns.specs.Rows.{AreRowsOf, IsRowOf, keys_rise}
 use Rattle.mesa_schema.proofs.Forms.{lifted_form, lifts_folded}
-use Rattle.mesa_schema.proofs.Lists.{all_drop, map_is}
+use Rattle.mesa_columns.proofs.Lists.{all_drop, map_is}
 use Rattle.mesa_schema.proofs.RisingRows.{lifted_rise}
 
 -- columns after changes and then more

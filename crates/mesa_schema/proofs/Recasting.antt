@@ -4,21 +4,21 @@ use Rattle.std.specs.Prelude.{◌==◌, cond, find}
 use Rattle.std.specs.List.{AllByRecursion, enumerate_from, list_all, list_any}
 use Rattle.std.proofs.lemmas.List.{append-nil, length-map}
 use Rattle.std.proofs.lemmas.Simd.{map-map}
-use Rattle.mesa_key.specs.mesa_value.declared.Agg.{Agg}
-use Rattle.mesa_key.specs.mesa_value.Agg.{IsOrderless}
-use Rattle.mesa_schema.specs.declared.columns.KeyColumn.{KeyColumn}
-use Rattle.mesa_schema.specs.declared.columns.ValueColumn.{ValueColumn}
-use Rattle.mesa_schema.specs.declared.rows.Row.{Row}
-use Rattle.mesa_schema.specs.declared.views.ViewError.TheVariants.{NoKey}
-use Rattle.mesa_schema.specs.Columns.{Columns, aggs_of, chosen, is_replace, key_names}
-use Rattle.mesa_schema.specs.Folded.{folded, folded_at, grouped, keys_of, regrouped, rows_of}
-use Rattle.mesa_schema.specs.Laws.{AreAllKeys}
-use Rattle.mesa_schema.specs.Rows.{AreRowsOf, keys_rise}
-use Rattle.mesa_schema.proofs.Forms.{rows_of-map}
-use Rattle.mesa_schema.proofs.GroupedFolds.{groups_folded}
-use Rattle.mesa_schema.proofs.GroupKeys.{chosen_mapped, groups_form, groups_rise}
-use Rattle.mesa_schema.proofs.Refolds.{refolded}
-use Rattle.mesa_schema.proofs.WholeGroups.{groups_whole}
+use Rattle.mesa_fold.specs.mesa_value.declared.Agg.{Agg}
+use Rattle.mesa_fold.specs.mesa_value.Agg.{IsOrderless}
+use Rattle.mesa_columns.specs.declared.columns.KeyColumn.{KeyColumn}
+use Rattle.mesa_columns.specs.declared.columns.ValueColumn.{ValueColumn}
+use Rattle.mesa_columns.specs.declared.rows.Row.{Row}
+use Rattle.mesa_columns.specs.declared.views.ViewError.TheVariants.{NoKey}
+use Rattle.mesa_columns.specs.Columns.{Columns, aggs_of, chosen, is_replace, key_names}
+use Rattle.mesa_fold.specs.Folded.{folded, folded_at, grouped, keys_of, regrouped, rows_of}
+use Rattle.mesa_fold.specs.Laws.{AreAllKeys}
+use Rattle.mesa_columns.specs.Rows.{AreRowsOf, keys_rise}
+use Rattle.mesa_fold.proofs.Forms.{rows_of-map}
+use Rattle.mesa_fold.proofs.GroupedFolds.{groups_folded}
+use Rattle.mesa_fold.proofs.GroupKeys.{chosen_mapped, groups_form, groups_rise}
+use Rattle.mesa_fold.proofs.Refolds.{refolded}
+use Rattle.mesa_fold.proofs.WholeGroups.{groups_whole}
 use Rattle.mesa_schema.specs.Recasts.{IsRecastOf, Recast, keeps_all_keys, recast_columns, recast_keys, recast_rows, recast_values}
 use Rattle.mesa_schema.proofs.ChosenAgain.{both, choice_there, places_within}
 use Rattle.mesa_schema.proofs.Outlasting.{orderless}

@@ -2,19 +2,19 @@
 use Rattle.std.proofs.Common.{◌≡◌, ℕ, suc, List, [], ◌∷◌, map, length, drop, refl, sym, ◌∙◌, ap, true}
 use Rattle.std.specs.List.{concat}
 use Rattle.std.proofs.lemmas.List.{length-map}
-use Rattle.mesa_key.specs.declared.KeyType.{KeyType}
-use Rattle.mesa_key.specs.declared.KeyValue.{KeyValue}
-use Rattle.mesa_key.specs.Spelling.{column_length, columns_of as key_columns, key_of, key_spelling, value_spelling}
-use Rattle.mesa_schema.specs.declared.columns.KeyColumn.{KeyColumn}
-use Rattle.mesa_schema.specs.declared.columns.ValueColumn.{ValueColumn}
-use Rattle.mesa_schema.specs.declared.rows.Row.{Row}
-use Rattle.mesa_schema.specs.declared.views.View.{View}
-use Rattle.mesa_schema.specs.Columns.{Columns, aggs_of, chosen, key_names, kinds_of, places_in, value_names}
+use Rattle.mesa_fold.specs.mesa_key.declared.KeyType.{KeyType}
+use Rattle.mesa_fold.specs.mesa_key.declared.KeyValue.{KeyValue}
+use Rattle.mesa_fold.specs.mesa_key.Spelling.{column_length, columns_of as key_columns, key_of, key_spelling, value_spelling}
+use Rattle.mesa_columns.specs.declared.columns.KeyColumn.{KeyColumn}
+use Rattle.mesa_columns.specs.declared.columns.ValueColumn.{ValueColumn}
+use Rattle.mesa_columns.specs.declared.rows.Row.{Row}
+use Rattle.mesa_columns.specs.declared.views.View.{View}
+use Rattle.mesa_columns.specs.Columns.{Columns, aggs_of, chosen, key_names, kinds_of, places_in, value_names}
 use Rattle.mesa_schema.specs.Views.{view_key_places, view_value_places}
-use Rattle.mesa_schema.specs.Folded.{regrouped}
-use Rattle.mesa_schema.specs.Rows.{AreRowsOf, IsRowOf}
-use Rattle.mesa_schema.proofs.GroupKeys.{chosen_key, chosen_mapped, columns_spelled, concat_spelled, regrouped_form}
-use Rattle.mesa_schema.proofs.Lists.{all_map, all_so}
+use Rattle.mesa_fold.specs.Folded.{regrouped}
+use Rattle.mesa_columns.specs.Rows.{AreRowsOf, IsRowOf}
+use Rattle.mesa_fold.proofs.GroupKeys.{chosen_key, chosen_mapped, columns_spelled, concat_spelled, regrouped_form}
+use Rattle.mesa_columns.proofs.Lists.{all_map, all_so}
 use Rattle.mesa_schema.specs.Recasts.{Recast, recast_columns, recast_keys, recast_values}
 use Rattle.mesa_schema.proofs.ChosenAgain.{names_chosen, there, through}
 

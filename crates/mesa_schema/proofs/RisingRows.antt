@@ -1,43 +1,20 @@
--- Rows whose keys rise: folds, and rows after a change.
-use Rattle.std.proofs.Common.{◌≡◌, ℕ, List, [], ◌∷◌, ◌++◌, map, refl, sym, ◌∙◌, ap, Bool, true, false, ◌&&◌, T}
+-- Rows whose keys rise: rows after a change.
+use Rattle.std.proofs.Common.{◌≡◌, ℕ, List, [], ◌∷◌, ◌++◌, map, refl, sym, ◌∙◌, ap, ◌&&◌}
 use Rattle.std.specs.Ordering.{is_lt, ordering_then}
 use Rattle.std.specs.declared.cmp.Ordering.{Ordering}
 use Rattle.std.specs.declared.cmp.Ordering.TheVariants.{Less, Equal, Greater}
 use Rattle.std.specs.Cmp.{nat_cmp_is}
 use Rattle.std.specs.List.{AllByRecursion}
-use Rattle.std.proofs.lemmas.Bool.{and_from, and_parts}
-use Rattle.mesa_key.specs.mesa_value.declared.Agg.{Agg}
-use Rattle.mesa_key.specs.declared.KeyValue.{KeyValue}
-use Rattle.mesa_key.specs.Order.{byte_cmp, key_cmp}
-use Rattle.mesa_key.specs.Spelling.{key_of, value_spelling}
-use Rattle.mesa_key.proofs.SpellingOrder.{spelling_order, spelling_order_then}
-use Rattle.mesa_schema.specs.declared.rows.Row.{Row}
-use Rattle.mesa_schema.specs.declared.changes.Change.{Change}
-use Rattle.mesa_schema.specs.declared.changes.Change.TheVariants.{AddKey, AddValue, DropValue}
-use Rattle.mesa_schema.specs.Columns.{Columns, kinds_of}
-use Rattle.mesa_schema.specs.Changes.{lifted_once}
-use Rattle.mesa_schema.specs.Folded.{folded, keys_of, rows_of}
-use Rattle.mesa_schema.specs.Rows.{AreRowsOf, IsRowOf, keys_rise}
-use Rattle.mesa_schema.proofs.Folds.{keys, keys-folded_at, rising-keys_of}
-use Rattle.mesa_schema.proofs.Keys.{is_rising}
-
-is_true : (b : Bool) → T b → b ≡ true
-is_true true h = refl
-is_true false h = absurd h
-
--- ---- folds
-
-rise : (rows : List Row) → is_rising (keys rows) ≡ true → keys_rise rows ≡ true
-rise [] h = refl
-rise (row ∷ []) h = refl
-rise (row ∷ next ∷ rows) h =
-    let parts = and_parts _ (is_rising (keys (next ∷ rows))) h in
-    and_from (is_lt (byte_cmp row.key next.key)) (keys_rise (next ∷ rows)) (and_parts (is_lt (byte_cmp row.key next.key)) _ parts.0).0 (rise (next ∷ rows) parts.1)
-
--- The keys of a fold rise.
-pub folded_rise : (aggs : List Agg) (parts : List (List Row)) → keys_rise (folded aggs parts) ≡ true
-folded_rise aggs parts =
-    rise (folded aggs parts) (ap is_rising (keys-folded_at aggs (rows_of parts) (keys_of (rows_of parts))) ∙ is_true _ (rising-keys_of (rows_of parts)))
+use Rattle.mesa_fold.specs.mesa_key.declared.KeyValue.{KeyValue}
+use Rattle.mesa_fold.specs.mesa_key.Order.{byte_cmp, key_cmp}
+use Rattle.mesa_fold.specs.mesa_key.Spelling.{key_of, value_spelling}
+use Rattle.mesa_fold.proofs.mesa_key.SpellingOrder.{spelling_order, spelling_order_then}
+use Rattle.mesa_columns.specs.declared.rows.Row.{Row}
+use Rattle.mesa_columns.specs.declared.changes.Change.{Change}
+use Rattle.mesa_columns.specs.declared.changes.Change.TheVariants.{AddKey, AddValue, DropValue}
+use Rattle.mesa_columns.specs.Columns.{Columns, kinds_of}
+use Rattle.mesa_columns.specs.Changes.{lifted_once}
+use Rattle.mesa_columns.specs.Rows.{AreRowsOf, IsRowOf, keys_rise}
 
 -- ---- changes
 

@@ -3,22 +3,23 @@ use Rattle.std.proofs.Common.{◌≡◌, ℕ, ◌+◌, ◌<◌, ◌≤◌, List,
 use Rattle.std.specs.Prelude.{unwrap_or, find}
 use Rattle.std.proofs.lemmas.Bool.{eqb-false, leb-false, ltb-false, ne_eqb, or_parts}
 use Rattle.std.proofs.lemmas.List.{append-nil, length-append, length-drop, length-map, length-take, map-append}
-use Rattle.mesa_key.specs.mesa_list.Checks.{◌>>◌}
-use Rattle.mesa_schema.specs.declared.columns.KeyColumn.{KeyColumn}
-use Rattle.mesa_schema.specs.declared.columns.ValueColumn.{ValueColumn}
-use Rattle.mesa_schema.specs.declared.views.View.{View}
-use Rattle.mesa_schema.specs.declared.changes.Change.{Change}
-use Rattle.mesa_schema.specs.declared.changes.Change.TheVariants.{AddKey, AddValue, DropValue}
-use Rattle.mesa_schema.specs.declared.changes.ChangeError.{ChangeError}
-use Rattle.mesa_schema.specs.declared.schema.SchemaError.{SchemaError}
-use Rattle.mesa_schema.specs.declared.schema.SchemaError.TheVariants.{NameTwice}
-use Rattle.mesa_schema.specs.Names.{has_name, repeated}
-use Rattle.mesa_schema.specs.Columns.{Columns, key_names, place_of, value_names}
-use Rattle.mesa_schema.specs.Schema.{is_schema, max_columns}
-use Rattle.mesa_schema.specs.Changes.{Lineage, changed, columns_of, drop_checked, new_name_checked, refuse_used, rule_checked, without}
-use Rattle.mesa_schema.proofs.Drops.{without-map}
+use Rattle.mesa_fold.specs.mesa_list.Checks.{◌>>◌}
+use Rattle.mesa_columns.specs.declared.columns.KeyColumn.{KeyColumn}
+use Rattle.mesa_columns.specs.declared.columns.ValueColumn.{ValueColumn}
+use Rattle.mesa_columns.specs.declared.views.View.{View}
+use Rattle.mesa_columns.specs.declared.changes.Change.{Change}
+use Rattle.mesa_columns.specs.declared.changes.Change.TheVariants.{AddKey, AddValue, DropValue}
+use Rattle.mesa_columns.specs.declared.changes.ChangeError.{ChangeError}
+use Rattle.mesa_columns.specs.declared.schema.SchemaError.{SchemaError}
+use Rattle.mesa_columns.specs.declared.schema.SchemaError.TheVariants.{NameTwice}
+use Rattle.mesa_columns.specs.Names.{has_name, repeated}
+use Rattle.mesa_columns.specs.Columns.{Columns, key_names, place_of, value_names}
+use Rattle.mesa_columns.specs.Schema.{is_schema, max_columns}
+use Rattle.mesa_columns.specs.Changes.{changed, without}
+use Rattle.mesa_schema.specs.Changes.{Lineage, columns_of, drop_checked, new_name_checked, refuse_used, rule_checked}
+use Rattle.mesa_columns.proofs.Drops.{without-map}
 use Rattle.mesa_schema.proofs.Passing.{passed_first, passed_if, passed_last, passed_unless}
-use Rattle.mesa_schema.proofs.SchemaRules.{rules_left}
+use Rattle.mesa_columns.proofs.SchemaRules.{rules_left}
 use Rattle.mesa_schema.proofs.Apart.{Apart, apart, apart_insert, apart_without, is_nothing, unrepeated}
 
 -- Columns that keep the rules of a schema, rule by rule.

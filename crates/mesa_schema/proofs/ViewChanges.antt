@@ -6,35 +6,36 @@ use Rattle.std.proofs.lemmas.Bool.{and_from, and_parts}
 use Rattle.std.proofs.lemmas.Option.{slice_get-get_or, slice_get-map}
 use Rattle.std.proofs.lemmas.List.{length-map, map-append}
 use Rattle.std.proofs.lemmas.Simd.{map-map}
-use Rattle.mesa_key.specs.mesa_list.Bytes.{same_bytes}
-use Rattle.mesa_key.specs.mesa_list.Checks.{◌>>◌}
-use Rattle.mesa_key.specs.declared.KeyType.{KeyType}
-use Rattle.mesa_key.specs.declared.KeyValue.{KeyValue}
-use Rattle.mesa_key.specs.Spelling.{IsKey, column_length, columns_of as key_columns, key_of, key_spelling, value_spelling}
-use Rattle.mesa_key.proofs.Columns.{begins}
-use Rattle.mesa_schema.specs.declared.columns.KeyColumn.{KeyColumn}
-use Rattle.mesa_schema.specs.declared.columns.ValueColumn.{ValueColumn}
-use Rattle.mesa_schema.specs.declared.rows.Row.{Row}
-use Rattle.mesa_schema.specs.declared.views.View.{View}
-use Rattle.mesa_schema.specs.declared.views.ViewError.{ViewError}
-use Rattle.mesa_schema.specs.declared.views.ViewError.TheVariants.{NoKey, NoValue, ReplaceInView}
-use Rattle.mesa_schema.specs.declared.changes.Change.{Change}
-use Rattle.mesa_schema.specs.declared.changes.Change.TheVariants.{AddKey, AddValue, DropValue}
-use Rattle.mesa_schema.specs.Names.{has_name}
-use Rattle.mesa_schema.specs.Columns.{Columns, aggs_of, chosen, is_replace, key_names, kinds_of, place_of, places_in, value_names}
-use Rattle.mesa_schema.specs.Changes.{Lineage, changed, columns_of, lifted_once, rule_checked, without}
+use Rattle.mesa_fold.specs.mesa_list.Bytes.{same_bytes}
+use Rattle.mesa_fold.specs.mesa_list.Checks.{◌>>◌}
+use Rattle.mesa_fold.specs.mesa_key.declared.KeyType.{KeyType}
+use Rattle.mesa_fold.specs.mesa_key.declared.KeyValue.{KeyValue}
+use Rattle.mesa_fold.specs.mesa_key.Spelling.{IsKey, column_length, columns_of as key_columns, key_of, key_spelling, value_spelling}
+use Rattle.mesa_fold.proofs.mesa_key.Columns.{begins}
+use Rattle.mesa_columns.specs.declared.columns.KeyColumn.{KeyColumn}
+use Rattle.mesa_columns.specs.declared.columns.ValueColumn.{ValueColumn}
+use Rattle.mesa_columns.specs.declared.rows.Row.{Row}
+use Rattle.mesa_columns.specs.declared.views.View.{View}
+use Rattle.mesa_columns.specs.declared.views.ViewError.{ViewError}
+use Rattle.mesa_columns.specs.declared.views.ViewError.TheVariants.{NoKey, NoValue, ReplaceInView}
+use Rattle.mesa_columns.specs.declared.changes.Change.{Change}
+use Rattle.mesa_columns.specs.declared.changes.Change.TheVariants.{AddKey, AddValue, DropValue}
+use Rattle.mesa_columns.specs.Names.{has_name}
+use Rattle.mesa_columns.specs.Columns.{Columns, aggs_of, chosen, is_replace, key_names, kinds_of, place_of, places_in, value_names}
+use Rattle.mesa_columns.specs.Changes.{changed, lifted_once, without}
+use Rattle.mesa_schema.specs.Changes.{Lineage, columns_of, rule_checked}
 use Rattle.mesa_schema.specs.Views.{choice_checked, values_named, view_key_places, view_rows, view_value_places}
 use Rattle.mesa_schema.specs.Lineages.{is_view_of}
-use Rattle.mesa_schema.specs.Folded.{folded, regrouped}
-use Rattle.mesa_schema.specs.Rows.{AreRowsOf, IsRowOf}
+use Rattle.mesa_fold.specs.Folded.{folded, regrouped}
+use Rattle.mesa_columns.specs.Rows.{AreRowsOf, IsRowOf}
 use Rattle.mesa_schema.specs.Laws.{Outlives}
 use Rattle.mesa_schema.proofs.ChosenColumns.{all_push, all_without, chosen_push, chosen_without, none_is}
-use Rattle.mesa_schema.proofs.Drops.{without-map}
-use Rattle.mesa_schema.proofs.Lists.{got_map, same_maps}
-use Rattle.mesa_schema.proofs.Maps.{is_some_position}
+use Rattle.mesa_columns.proofs.Drops.{without-map}
+use Rattle.mesa_columns.proofs.Lists.{got_map, same_maps}
+use Rattle.mesa_columns.proofs.Maps.{is_some_position}
 use Rattle.mesa_schema.proofs.Passing.{passed_first, passed_unless}
-use Rattle.mesa_schema.proofs.Picks.{chosen-less, chosen-push}
-use Rattle.mesa_schema.proofs.Places.{place_named}
+use Rattle.mesa_fold.proofs.Picks.{chosen-less, chosen-push}
+use Rattle.mesa_columns.proofs.Places.{place_named}
 use Rattle.mesa_schema.proofs.SchemaChanges.{may_go}
 
 -- ---- what an allowed view asks for

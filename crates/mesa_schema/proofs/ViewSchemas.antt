@@ -9,22 +9,22 @@ use Rattle.std.proofs.lemmas.Map.Steps.{list_any_congr}
 use Rattle.std.proofs.lemmas.Option.{slice_get-get_or}
 use Rattle.std.proofs.Math.ListN.{get_or-map}
 use Rattle.std.proofs.lemmas.List.{length-map}
-use Rattle.mesa_key.specs.mesa_list.Bytes.{same_bytes}
-use Rattle.mesa_schema.specs.declared.columns.KeyColumn.{KeyColumn}
-use Rattle.mesa_schema.specs.declared.columns.ValueColumn.{ValueColumn}
-use Rattle.mesa_schema.specs.declared.views.View.{View}
-use Rattle.mesa_schema.specs.declared.views.ViewError.{ViewError}
-use Rattle.mesa_schema.specs.declared.views.ViewError.TheVariants.{NoKey, NoValue}
-use Rattle.mesa_schema.specs.Names.{has_name, repeated, repeated_after}
-use Rattle.mesa_schema.specs.Columns.{Columns, chosen, key_names, place_of, places_in, value_names}
-use Rattle.mesa_schema.specs.Schema.{is_schema}
+use Rattle.mesa_fold.specs.mesa_list.Bytes.{same_bytes}
+use Rattle.mesa_columns.specs.declared.columns.KeyColumn.{KeyColumn}
+use Rattle.mesa_columns.specs.declared.columns.ValueColumn.{ValueColumn}
+use Rattle.mesa_columns.specs.declared.views.View.{View}
+use Rattle.mesa_columns.specs.declared.views.ViewError.{ViewError}
+use Rattle.mesa_columns.specs.declared.views.ViewError.TheVariants.{NoKey, NoValue}
+use Rattle.mesa_columns.specs.Names.{has_name, repeated, repeated_after}
+use Rattle.mesa_columns.specs.Columns.{Columns, chosen, key_names, place_of, places_in, value_names}
+use Rattle.mesa_columns.specs.Schema.{is_schema}
 use Rattle.mesa_schema.specs.Views.{choice_checked, view_columns}
 use Rattle.mesa_schema.specs.Lineages.{is_view_of}
 use Rattle.mesa_schema.proofs.Choices.{chosen-slot}
-use Rattle.mesa_schema.proofs.Maps.{is_some_position}
+use Rattle.mesa_columns.proofs.Maps.{is_some_position}
 use Rattle.mesa_schema.proofs.Passing.{passed_first, passed_if, passed_last, passed_unless}
-use Rattle.mesa_schema.proofs.Places.{place_named}
-use Rattle.mesa_schema.proofs.SchemaRules.{rules_left}
+use Rattle.mesa_columns.proofs.Places.{place_named}
+use Rattle.mesa_columns.proofs.SchemaRules.{rules_left}
 
 -- What a choice says.
 pub record IsChoice (names asked : List (List ℕ)) : Type 0 where

@@ -1,9 +1,9 @@
 -- Rows that are carried through what becomes of their table's columns.
 use Rattle.std.specs.Prelude.{List, [], ◌∷◌, map, ⊤}
-use Rattle.mesa_schema.specs.declared.rows.Row.{Row}
-use Rattle.mesa_schema.specs.declared.changes.Change.{Change}
-use Rattle.mesa_schema.specs.Columns.{Columns}
-use Rattle.mesa_schema.specs.Changes.{changed, lifted_once}
+use Rattle.mesa_columns.specs.declared.rows.Row.{Row}
+use Rattle.mesa_columns.specs.declared.changes.Change.{Change}
+use Rattle.mesa_columns.specs.Columns.{Columns}
+use Rattle.mesa_columns.specs.Changes.{changed, lifted_once}
 use Rattle.mesa_schema.specs.Lineages.{HasDefault}
 use Rattle.mesa_schema.specs.Recasts.{IsRecastOf, Recast, recast_columns, recast_rows}
 

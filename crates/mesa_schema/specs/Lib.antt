@@ -1,19 +1,12 @@
-pub use Rattle.mesa_key.specs as mesa_key
-pub use Rattle.mesa_key.specs.mesa_list as mesa_list
-pub use Rattle.mesa_key.specs.mesa_value as mesa_value
-pub mod Names
-pub mod Numbers
-pub mod Columns
-pub mod Codes
-pub mod Schema
-pub mod Folded
+pub use Rattle.mesa_columns.specs as mesa_columns
+pub use Rattle.mesa_fold.specs as mesa_fold
+pub use Rattle.mesa_fold.specs.mesa_key as mesa_key
+pub use Rattle.mesa_fold.specs.mesa_list as mesa_list
+pub use Rattle.mesa_fold.specs.mesa_value as mesa_value
 pub mod Changes
 pub mod Views
 pub mod Lineages
 pub mod Lifting
 pub mod Recasts
 pub mod Carried
-pub mod Rows
-pub mod Lent
-pub mod Put
 pub mod Laws

@@ -1,13 +1,13 @@
 -- Tables whose columns have followed the rules.
 use Rattle.std.specs.Prelude.{◌≡◌, ℕ, ◌≤◌, length, unwrap_or, IsTrue, Bool, is_ok, Option, ⊤}
 use Rattle.std.specs.List.{AllByRecursion, list_all}
-use Rattle.mesa_key.specs.mesa_value.Agg.{IsDefault}
-use Rattle.mesa_key.specs.Spelling.{IsValue}
-use Rattle.mesa_schema.specs.declared.changes.Change.{Change}
-use Rattle.mesa_schema.specs.declared.changes.Change.TheVariants.{AddKey, AddValue, DropValue}
-use Rattle.mesa_schema.specs.declared.views.View.{View}
-use Rattle.mesa_schema.specs.Columns.{Columns}
-use Rattle.mesa_schema.specs.Schema.{is_schema}
+use Rattle.mesa_fold.specs.mesa_value.Agg.{IsDefault}
+use Rattle.mesa_fold.specs.mesa_key.Spelling.{IsValue}
+use Rattle.mesa_columns.specs.declared.changes.Change.{Change}
+use Rattle.mesa_columns.specs.declared.changes.Change.TheVariants.{AddKey, AddValue, DropValue}
+use Rattle.mesa_columns.specs.declared.views.View.{View}
+use Rattle.mesa_columns.specs.Columns.{Columns}
+use Rattle.mesa_columns.specs.Schema.{is_schema}
 use Rattle.mesa_schema.specs.Changes.{Lineage, columns_at, columns_of, epoch_of, max_changes}
 use Rattle.mesa_schema.specs.Views.{max_views, view_checked}
 

@@ -1,19 +1,19 @@
 -- Recasts: a table takes columns chosen among its own, in an order of their own, and its rows are grouped by them.
 use Rattle.std.specs.Prelude.{◌≡◌, ℕ, ◌+◌, List, [], map, find, Bool, ◌&&◌, ◌==◌, not, nat_le, if◌then◌else◌, Option, Some, None, Result, Ok, Err, IsTrue, is_ok}
 use Rattle.std.specs.List.{enumerate_from, list_all, list_any}
-use Rattle.mesa_key.specs.mesa_list.Checks.{◌>>◌, refuse_if, refused_as}
-use Rattle.mesa_schema.specs.declared.rows.Row.{Row}
-use Rattle.mesa_schema.specs.declared.columns.ValueColumn.{ValueColumn}
-use Rattle.mesa_schema.specs.declared.views.View.{View}
-use Rattle.mesa_schema.specs.declared.views.ViewError.{ViewError}
-use Rattle.mesa_schema.specs.declared.views.ViewError.TheVariants as view
+use Rattle.mesa_fold.specs.mesa_list.Checks.{◌>>◌, refuse_if, refused_as}
+use Rattle.mesa_columns.specs.declared.rows.Row.{Row}
+use Rattle.mesa_columns.specs.declared.columns.ValueColumn.{ValueColumn}
+use Rattle.mesa_columns.specs.declared.views.View.{View}
+use Rattle.mesa_columns.specs.declared.views.ViewError.{ViewError}
+use Rattle.mesa_columns.specs.declared.views.ViewError.TheVariants as view
 use Rattle.mesa_schema.specs.declared.recasts.RecastError.{RecastError}
 use Rattle.mesa_schema.specs.declared.recasts.RecastError.TheVariants as no
 use Rattle.mesa_schema.specs.Changes.{Lineage, columns_of, epoch_of, max_changes}
-use Rattle.mesa_schema.specs.Names.{has_name}
-use Rattle.mesa_schema.specs.Columns.{Columns, chosen, is_replace, key_names, places_in, value_names}
+use Rattle.mesa_columns.specs.Names.{has_name}
+use Rattle.mesa_columns.specs.Columns.{Columns, chosen, is_replace, key_names, places_in, value_names}
 use Rattle.mesa_schema.specs.Views.{choice_checked}
-use Rattle.mesa_schema.specs.Folded.{grouped}
+use Rattle.mesa_fold.specs.Folded.{grouped}
 
 -- The columns that a recast asks for, by name and in this order.
 pub record Recast : Type 0 where

@@ -1,16 +1,16 @@
 -- Views: which are allowed, their columns and their content.
 use Rattle.std.specs.Prelude.{ℕ, List, [], ◌∷◌, ◌++◌, length, find, ◌==◌, Option, None, Some, is_some, Result, Ok, Err}
 use Rattle.std.specs.List.{list_all}
-use Rattle.mesa_key.specs.mesa_list.Checks.{◌>>◌, refuse_if, refuse_unless}
-use Rattle.mesa_schema.specs.declared.columns.ValueColumn.{ValueColumn}
-use Rattle.mesa_schema.specs.declared.rows.Row.{Row}
-use Rattle.mesa_schema.specs.declared.views.View.{View}
-use Rattle.mesa_schema.specs.declared.views.ViewError.{ViewError}
-use Rattle.mesa_schema.specs.declared.views.ViewError.TheVariants as no
-use Rattle.mesa_schema.specs.Names.{has_name, repeated}
-use Rattle.mesa_schema.specs.Columns.{Columns, is_replace, key_names, value_names, places_in, chosen}
+use Rattle.mesa_fold.specs.mesa_list.Checks.{◌>>◌, refuse_if, refuse_unless}
+use Rattle.mesa_columns.specs.declared.columns.ValueColumn.{ValueColumn}
+use Rattle.mesa_columns.specs.declared.rows.Row.{Row}
+use Rattle.mesa_columns.specs.declared.views.View.{View}
+use Rattle.mesa_columns.specs.declared.views.ViewError.{ViewError}
+use Rattle.mesa_columns.specs.declared.views.ViewError.TheVariants as no
+use Rattle.mesa_columns.specs.Names.{has_name, repeated}
+use Rattle.mesa_columns.specs.Columns.{Columns, is_replace, key_names, value_names, places_in, chosen}
 use Rattle.mesa_schema.specs.Changes.{Lineage}
-use Rattle.mesa_schema.specs.Folded.{grouped}
+use Rattle.mesa_fold.specs.Folded.{grouped}
 
 -- how many views a table may have
 abbrev pub max_views : ℕ

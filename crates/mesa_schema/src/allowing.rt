@@ -2,16 +2,19 @@
 ghost use Rattle.std.specs.Prelude.{◌≡◌, ◌≢◌, find, is_ok, is_some, length, map, not, ◌&&◌, ◌==◌, IfErr, IsTrue, OnOk};
 ghost use Rattle.std.specs.Option.{option_copied};
 ghost use Rattle.std.specs.List.{list_any};
-ghost use Rattle.mesa_schema.specs.declared.views.View.{View as Chosen};
-ghost use Rattle.mesa_schema.specs.declared.columns.ValueColumn.{ValueColumn as Column};
-ghost use Rattle.mesa_schema.specs.declared.columns.KeyColumn.{KeyColumn as Key};
-ghost use Rattle.mesa_schema.specs.Names.{has_name as is_among};
-ghost use Rattle.mesa_key.specs.mesa_value.Agg.{IsDefault};
-ghost use Rattle.mesa_key.specs.Spelling.{IsValue};
-ghost use Rattle.mesa_schema.specs.Changes.{added_key_checked, added_value_checked, drop_rule, is_default as has_default, is_of_kind as has_kind, new_name_checked};
+ghost use Rattle.mesa_columns.specs.declared.views.View.{View as Chosen};
+ghost use Rattle.mesa_columns.specs.declared.columns.ValueColumn.{ValueColumn as Column};
+ghost use Rattle.mesa_columns.specs.declared.columns.KeyColumn.{KeyColumn as Key};
+ghost use Rattle.mesa_columns.specs.Names.{has_name as is_among};
+ghost use Rattle.mesa_fold.specs.mesa_value.Agg.{IsDefault};
+ghost use Rattle.mesa_fold.specs.mesa_key.Spelling.{IsValue};
+ghost use Rattle.mesa_columns.specs.Changes.{is_default as has_default, is_of_kind as has_kind};
+ghost use Rattle.mesa_schema.specs.Changes.{added_key_checked, added_value_checked, drop_rule, new_name_checked};
 
-use crate::{ChangeError, KeyColumn, MAX_COLUMNS, Name, Named, ValueColumn, View, has_name};
-use mesa_key::{Agg, KeyType, KeyValue, TryCopy};
+use mesa_columns::{
+    Agg, ChangeError, KeyColumn, KeyType, KeyValue, MAX_COLUMNS, Name, Named, TryCopy, ValueColumn,
+    View, has_name,
+};
 
 // A column of this name may join these.
 pub(crate) fn check_new<N: Named>(name: &Name, among: &[N]) -> Result<(), ChangeError>
@@ -132,7 +135,7 @@ pub(crate) fn may_go(name: &Name, among: &[ValueColumn]) -> bool
 }
 
 // Whether a view has the value column of this name.
-#[tactic(auto, using(crate::proofs::Maps::is_some_find))]
+#[tactic(auto, using(mesa_columns::proofs::Maps::is_some_find))]
 pub(crate) fn is_used(name: &Name, views: &[View]) -> bool
     ensures { result ≡ is_some (find (λ (v : Chosen). is_among name.now v.values) views.now) }
 {
@@ -145,7 +148,7 @@ fn has_user(name: &Name, views: &[View]) -> bool
     views.iter().any(|view| uses(view, name))
 }
 
-#[tactic(auto, using(crate::proofs::Maps::map_same))]
+#[tactic(auto, using(mesa_columns::proofs::Maps::map_same))]
 fn uses(view: &View, name: &Name) -> bool
     ensures { result ≡ is_among name.now view.now.values }
 {

@@ -1,11 +1,12 @@
 // Columns that are chosen by their names, as those of a view are.
 ghost use Rattle.std.specs.Prelude.{◌≡◌, ◌<◌, IfOk, IfSome, length, map, find, option_and_then, option_map, slice_get};
-ghost use Rattle.mesa_schema.specs.declared.columns.ValueColumn.{ValueColumn as Column};
-ghost use Rattle.mesa_schema.specs.Columns.{chosen, is_replace as replaces, places_in};
+ghost use Rattle.mesa_columns.specs.declared.columns.ValueColumn.{ValueColumn as Column};
+ghost use Rattle.mesa_columns.specs.Columns.{chosen, is_replace as replaces, places_in};
 ghost use Rattle.mesa_schema.specs.Views.{choice_checked};
 
-use crate::{Name, Named, ValueColumn, ViewError, has_names, place_of, repeated_place};
-use mesa_key::TryCopy;
+use mesa_columns::{
+    Name, Named, TryCopy, ValueColumn, ViewError, has_names, place_of, repeated_place,
+};
 use std::alloc::{AllocError, Global};
 
 // The columns of these names, in the names' order.

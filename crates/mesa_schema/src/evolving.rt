@@ -1,22 +1,25 @@
 // A table's columns through its life.
 ghost use Rattle.std.specs.Prelude.{◌≡◌, IsTrue, IfOk, OnOk, OnErr, IfErr, Ok, ◌-◌, ◌<◌, ◌≤◌, length, [], is_ok, map, slice_get, ◌≢◌, IfSome, nat_lt};
-ghost use Rattle.mesa_schema.specs.declared.views.View.{View as Chosen};
-ghost use Rattle.mesa_schema.specs.Changes.{change_checked, changed, columns_at, columns_of, epoch_of, lifted, max_changes, rule_checked, with_change};
-ghost use Rattle.mesa_schema.specs.Columns.{key_names};
+ghost use Rattle.mesa_columns.specs.declared.views.View.{View as Chosen};
+ghost use Rattle.mesa_columns.specs.Changes.{changed};
+ghost use Rattle.mesa_schema.specs.Changes.{change_checked, columns_at, columns_of, epoch_of, lifted, max_changes, rule_checked, with_change};
+ghost use Rattle.mesa_columns.specs.Columns.{key_names};
 ghost use Rattle.mesa_schema.specs.Views.{choice_checked, chosen_values_checked, view_checked, view_columns, with_view};
 ghost use Rattle.mesa_schema.specs.Lineages.{HasDefault, IsLineage};
 ghost use Rattle.mesa_schema.specs.Lifting.{Lifts};
 ghost use Rattle.mesa_schema.specs.Recasts.{recast_checked, recast_lineage};
-ghost use Rattle.mesa_schema.specs.Rows.{IsRowOf};
+ghost use Rattle.mesa_columns.specs.Rows.{IsRowOf};
 
+use crate::RecastError;
 use crate::allowing::{
     check_added_key, check_added_value, check_drop, is_default, is_new, is_of_kind, is_used, may_go,
 };
 use crate::choosing::{check_chosen, chosen_columns, replace_place};
-use crate::epochs::{added_keys, change_columns};
 use crate::recasts::{allows_columns, check_columns, check_views, keeps_views};
-use crate::{Change, ChangeError, Lift, Name, RecastError, Row, Schema, View, ViewError};
-use mesa_key::{Items, TryCopy};
+use mesa_columns::{
+    Change, ChangeError, Items, Lift, Name, Row, Schema, TryCopy, View, ViewError, added_keys,
+    change_columns,
+};
 use std::alloc::{AllocError, Global};
 use std::marker::Model;
 

@@ -1,17 +1,16 @@
 // Which columns a recast may ask for.
 ghost use Rattle.std.specs.Prelude.{◌≡◌, ◌≢◌, ℕ, ◌<◌, ◌==◌, [], ◌∷◌, find, is_ok, length, map, not, option_and_then, option_copied, option_map, slice_get, IfErr, IfSome, OnOk, Ok, Err};
 ghost use Rattle.std.specs.List.{enumerate_from, list_all, list_any};
-ghost use Rattle.mesa_key.specs.mesa_list.Checks.{refused_as};
-ghost use Rattle.mesa_schema.specs.declared.columns.KeyColumn.{KeyColumn as Key};
-ghost use Rattle.mesa_schema.specs.declared.columns.ValueColumn.{ValueColumn as Column};
-ghost use Rattle.mesa_schema.specs.declared.views.View.{View as Chosen};
-ghost use Rattle.mesa_schema.specs.Columns.{places_in};
+ghost use Rattle.mesa_fold.specs.mesa_list.Checks.{refused_as};
+ghost use Rattle.mesa_columns.specs.declared.columns.KeyColumn.{KeyColumn as Key};
+ghost use Rattle.mesa_columns.specs.declared.columns.ValueColumn.{ValueColumn as Column};
+ghost use Rattle.mesa_columns.specs.declared.views.View.{View as Chosen};
+ghost use Rattle.mesa_columns.specs.Columns.{places_in};
 ghost use Rattle.mesa_schema.specs.Recasts.{choice_refusal, columns_checked, keeps_all_keys as keeps_keys, keeps_view as keeps, places_below, replace_left as left, views_kept};
 ghost use Rattle.mesa_schema.specs.Views.{choice_checked};
 
 use crate::choosing::{check_chosen, replace_place};
-use crate::{KeyColumn, Name, Named, Schema, View, ViewError, has_names, place_of};
-use mesa_key::TryCopy;
+use mesa_columns::{KeyColumn, Name, Named, Schema, TryCopy, View, ViewError, has_names, place_of};
 use std::alloc::AllocError;
 
 /// Why a recast is refused, the first reason that applies.
@@ -96,7 +95,7 @@ fn replace_left(present: &Schema, keys: &[Name], values: &[Name]) -> Option<usiz
 }
 
 // Whether each of these columns is one of these names'.
-#[tactic(auto, using(crate::proofs::Maps::all_mapped))]
+#[tactic(auto, using(mesa_columns::proofs::Maps::all_mapped))]
 fn keeps_all_keys(columns: &[KeyColumn], names: &[Name]) -> bool
     ensures { result ≡ list_all (λ place. list_any (λ c. c == place) (places_in (map (λ (c : Key). c.name) columns.now) names.now)) (places_below columns.now) }
 {
@@ -157,7 +156,7 @@ fn first_losing<'a>(views: &'a [View], keys: &[Name], values: &[Name]) -> Option
 }
 
 // Whether a view keeps its columns.
-#[tactic(auto, using(crate::proofs::Maps::map_same))]
+#[tactic(auto, using(mesa_columns::proofs::Maps::map_same))]
 fn keeps_view(view: &View, keys: &[Name], values: &[Name]) -> bool
     ensures { result ≡ keeps (record { keys = keys.now; values = values.now }) view.now }
 {

@@ -6,7 +6,7 @@ use Rattle.mesa_model.specs.mesa_key.declared.KeyType.{KeyType}
 use Rattle.mesa_model.specs.mesa_key.declared.KeyValue.{KeyValue}
 use Rattle.mesa_model.specs.mesa_key.declared.KeyValue.TheVariants as value
 use Rattle.mesa_model.specs.mesa_key.Spelling.{key_of}
-use Rattle.mesa_schema.specs.declared.rows.Row.{Row}
+use Rattle.mesa_model.specs.mesa_columns.declared.rows.Row.{Row}
 use Rattle.mesa_model.specs.mesa_filter.Hex.{hex_of}
 use Rattle.mesa_model.specs.declared.replies.Page.{Page}
 use Rattle.mesa_model.specs.declared.replies.Reply.{Reply}

@@ -9,8 +9,8 @@ use Rattle.mesa_model.specs.mesa_value.declared.Agg.{Agg}
 use Rattle.mesa_model.specs.mesa_value.declared.Agg.TheVariants as agg
 use Rattle.mesa_model.specs.mesa_key.declared.KeyType.{KeyType}
 use Rattle.mesa_model.specs.mesa_key.declared.KeyType.TheVariants as kind
-use Rattle.mesa_schema.specs.Names.{is_digit}
-use Rattle.mesa_schema.specs.Numbers.{number_of}
+use Rattle.mesa_model.specs.mesa_columns.Names.{is_digit}
+use Rattle.mesa_model.specs.mesa_columns.Numbers.{number_of}
 use Rattle.mesa_model.specs.mesa_filter.declared.words.VersionWord.{VersionWord}
 use Rattle.mesa_model.specs.mesa_filter.declared.words.VersionWord.TheVariants as asks
 use Rattle.mesa_model.specs.declared.commands.KeyWords.{KeyWords}

@@ -1,5 +1,5 @@
 // A page as it is printed.
-use mesa_columns::Words;
+use mesa_model::Words;
 
 /// A page as it is printed: its number of rows, whether further rows follow it, and its lines.
 #[derive(Drop)]

@@ -14,7 +14,7 @@ use Rattle.mesa_open_files.specs.Recasts.{own, recast_in, recast_table}
 use Rattle.mesa_open_files.specs.declared.recasting.Recast.{Recast}
 use Rattle.mesa_copy.specs.Copying.{IsRecastDamage}
 use Rattle.mesa_core.specs.mesa_schema.Changes.{columns_of}
-use Rattle.mesa_core.specs.mesa_schema.Columns.{Columns}
+use Rattle.mesa_core.specs.mesa_columns.Columns.{Columns}
 use Rattle.mesa_core.specs.mesa_schema.Recasts.{recast_keys, recast_values}
 use Rattle.mesa_query.proofs.Differing.{damaged_differs}
 

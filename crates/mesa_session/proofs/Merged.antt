@@ -2,9 +2,9 @@
 use Rattle.std.proofs.Common.{◌≡◌, ℕ, zero, suc, ◌+◌, ◌≤◌, List, Vec, [], ◌∷◌, refl, sym, ap, ◌∙◌, subst, arith}
 use Rattle.std.specs.Prelude.{Option, None, Some, option_map, Result, Ok, Err, IfOk, IfErr, min, slice_get}
 use Rattle.std.specs.declared.alloc.Global.{Global}
-use Rattle.mesa_core.specs.mesa_schema.declared.rows.Row.{Row}
-use Rattle.mesa_core.specs.mesa_schema.declared.views.View.{View}
-use Rattle.mesa_core.specs.mesa_schema.Columns.{Columns}
+use Rattle.mesa_core.specs.mesa_columns.declared.rows.Row.{Row}
+use Rattle.mesa_core.specs.mesa_columns.declared.views.View.{View}
+use Rattle.mesa_core.specs.mesa_columns.Columns.{Columns}
 use Rattle.mesa_core.specs.mesa_schema.Changes.{Lineage, columns_of}
 use Rattle.mesa_core.specs.mesa_schema.Views.{view_columns, view_rows}
 use Rattle.mesa_delta.specs.declared.error.FileError.TheVariants as file

@@ -2,10 +2,10 @@
 use Rattle.std.proofs.Common.{◌≡◌, inl, inr, ⊎_elim, ℕ, ◌<◌, List, [], ◌∷◌, map, refl, sym, ap, ◌∙◌, subst}
 use Rattle.std.specs.Prelude.{◌⊎◌, Option, Result, Ok, Err, IfOk, IfErr}
 use Rattle.mesa_core.specs.mesa_file.declared.damage.Damage.{Damage}
-use Rattle.mesa_core.specs.mesa_schema.declared.rows.Row.{Row}
-use Rattle.mesa_core.specs.mesa_schema.Columns.{Columns}
+use Rattle.mesa_core.specs.mesa_columns.declared.rows.Row.{Row}
+use Rattle.mesa_core.specs.mesa_columns.Columns.{Columns}
 use Rattle.mesa_core.specs.mesa_schema.Changes.{epoch_of, lifted}
-use Rattle.mesa_core.specs.mesa_schema.Folded.{rows_of}
+use Rattle.mesa_core.specs.mesa_fold.Folded.{rows_of}
 use Rattle.mesa_model.specs.declared.replies.Page.{Page}
 use Rattle.mesa_script.specs.declared.rendered.Rendered.{Rendered}
 use Rattle.mesa_script.specs.Rows.{rendered}

@@ -5,10 +5,10 @@ use Rattle.std.specs.List.{AllByRecursion}
 use Rattle.mesa_key.specs.declared.KeyType.{KeyType}
 use Rattle.mesa_key.specs.declared.KeyValue.{KeyValue}
 use Rattle.mesa_key.specs.Spelling.{IsKey, is_spelling, key_of, key_spelling}
-use Rattle.mesa_core.specs.mesa_schema.declared.columns.KeyColumn.{KeyColumn}
-use Rattle.mesa_core.specs.mesa_schema.declared.rows.Row.{Row}
-use Rattle.mesa_core.specs.mesa_schema.Columns.{Columns, chosen, kinds_of}
-use Rattle.mesa_core.specs.mesa_schema.Rows.{AreRowsOf, IsRowOf}
+use Rattle.mesa_core.specs.mesa_columns.declared.columns.KeyColumn.{KeyColumn}
+use Rattle.mesa_core.specs.mesa_columns.declared.rows.Row.{Row}
+use Rattle.mesa_core.specs.mesa_columns.Columns.{Columns, chosen, kinds_of}
+use Rattle.mesa_core.specs.mesa_columns.Rows.{AreRowsOf, IsRowOf}
 use Rattle.mesa_filter.specs.Query.{BuiltQuery, IsQueryOf, group_kinds}
 use Rattle.mesa_core.specs.mesa_answer.Answering.{grouped_columns}
 use Rattle.mesa_query.proofs.mesa_answer.Picked.{chosen-map}

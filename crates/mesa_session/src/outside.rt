@@ -2,7 +2,7 @@
 ghost use Rattle.std.specs.List.{AllByRecursion};
 ghost use Rattle.std.specs.Prelude.{◌≡◌, ◌⊎◌, ◌-◌, ◌≤◌, ℕ, IsTrue, IfOk, IfErr, IfSome, OnOk, Err, None, length, true};
 ghost use Rattle.mesa_key.specs.Spelling.{is_spelling};
-ghost use Rattle.mesa_core.specs.mesa_schema.declared.rows.Row.{Row as AnyRow};
+ghost use Rattle.mesa_core.specs.mesa_columns.declared.rows.Row.{Row as AnyRow};
 ghost use Rattle.mesa_filter.specs.Query.{group_kinds as kinds_grouped};
 ghost use Rattle.mesa_script.specs.Rows.{rendered};
 ghost use Rattle.mesa_core.specs.Answers.{Owes};

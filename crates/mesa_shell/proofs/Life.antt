@@ -2,10 +2,10 @@
 use Rattle.std.proofs.Common.{◌≡◌, ℕ, ◌-◌, List, [], ◌∷◌, map, cond, refl, true, ◌∙◌, ap, arith}
 use Rattle.std.specs.Prelude.{filter, nat_le}
 use Rattle.std.proofs.lemmas.Bool.Decides.{nat_tests}
-use Rattle.mesa_schema.specs.Changes.{columns_of, epoch_of, lifted}
-use Rattle.mesa_schema.specs.Columns.{aggs_of}
-use Rattle.mesa_schema.specs.Folded.{folded}
-use Rattle.mesa_schema.proofs.Lists.{all_so}
+use Rattle.mesa_session.specs.mesa_schema.Changes.{columns_of, epoch_of, lifted}
+use Rattle.mesa_columns.specs.Columns.{aggs_of}
+use Rattle.mesa_session.specs.mesa_fold.Folded.{folded}
+use Rattle.mesa_columns.proofs.Lists.{all_so}
 use Rattle.mesa_model.specs.Warehouse.{empty_warehouse}
 use Rattle.mesa_model.specs.WellFormed.{IsTable, IsWellFormed}
 use Rattle.mesa_session.specs.mesa_history_spec.Found.{Kept, kept_in}

@@ -4,14 +4,15 @@ use Rattle.std.specs.Prelude.{unwrap_or}
 use Rattle.std.specs.List.{AllByRecursion}
 use Rattle.mesa_key.specs.Spelling.{AreBytes}
 use Rattle.mesa_disk.specs.declared.area.Area.{Area}
-use Rattle.mesa_schema.specs.declared.changes.Change.{Change}
-use Rattle.mesa_schema.specs.declared.changes.Change.TheVariants.{AddKey, AddValue, DropValue}
-use Rattle.mesa_schema.specs.declared.columns.ValueColumn.{ValueColumn}
-use Rattle.mesa_schema.specs.Columns.{Columns, place_of, value_names}
-use Rattle.mesa_schema.specs.Changes.{changed, columns_after, columns_of}
-use Rattle.mesa_schema.proofs.Lists.{all_append, all_at, all_drop, all_map, all_set, all_so}
-use Rattle.mesa_schema.specs.Recasts.{recast_values}
-use Rattle.mesa_schema.proofs.PresentRows.{columns_more}
+use Rattle.mesa_columns.specs.declared.changes.Change.{Change}
+use Rattle.mesa_columns.specs.declared.changes.Change.TheVariants.{AddKey, AddValue, DropValue}
+use Rattle.mesa_columns.specs.declared.columns.ValueColumn.{ValueColumn}
+use Rattle.mesa_columns.specs.Columns.{Columns, place_of, value_names}
+use Rattle.mesa_columns.specs.Changes.{changed, columns_after}
+use Rattle.mesa_session.specs.mesa_schema.Changes.{columns_of}
+use Rattle.mesa_columns.proofs.Lists.{all_append, all_at, all_drop, all_map, all_set, all_so}
+use Rattle.mesa_session.specs.mesa_schema.Recasts.{recast_values}
+use Rattle.mesa_check.proofs.mesa_schema.PresentRows.{columns_more}
 use Rattle.mesa_model.specs.declared.commands.Script.{Script}
 use Rattle.mesa_session.specs.mesa_history_spec.Rows.{Rows}
 use Rattle.mesa_engine.specs.mesa_record.declared.record.Record.{Record}

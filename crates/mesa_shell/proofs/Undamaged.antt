@@ -8,8 +8,8 @@ use Rattle.sha2.specs.Sha256.{sha256}
 use Rattle.sha2.proofs.Facts256.{length-sha256}
 use Rattle.mesa_file.specs.declared.damage.Damage.{Damage}
 use Rattle.mesa_key.specs.Order.{short_key}
-use Rattle.mesa_schema.specs.declared.rows.Row.{Row}
-use Rattle.mesa_schema.proofs.Lists.{all_so}
+use Rattle.mesa_columns.specs.declared.rows.Row.{Row}
+use Rattle.mesa_columns.proofs.Lists.{all_so}
 use Rattle.mesa_check.specs.mesa_block.Layout.{Layout}
 use Rattle.mesa_check.specs.mesa_block.Spelling.{block}
 use Rattle.mesa_disk.specs.Image.{Image, file_of}

@@ -4,12 +4,12 @@ use Rattle.std.proofs.lemmas.List.{length-map}
 use Rattle.std.proofs.lemmas.List.FromFn.{length-range_with_len}
 use Rattle.std.proofs.lemmas.Bool.{lt-ltb, or_left, or_right}
 use Rattle.std.specs.List.{AllByRecursion, range_with_len}
-use Rattle.mesa_schema.specs.Names.{repeated}
-use Rattle.mesa_schema.specs.Columns.{aggs_of}
-use Rattle.mesa_schema.specs.Changes.{columns_of}
-use Rattle.mesa_schema.proofs.Forms.{folded_form}
-use Rattle.mesa_schema.proofs.Lists.{all_map}
-use Rattle.mesa_schema.proofs.RisingRows.{folded_rise}
+use Rattle.mesa_columns.specs.Names.{repeated}
+use Rattle.mesa_columns.specs.Columns.{aggs_of}
+use Rattle.mesa_session.specs.mesa_schema.Changes.{columns_of}
+use Rattle.mesa_check.proofs.mesa_fold.Forms.{folded_form}
+use Rattle.mesa_columns.proofs.Lists.{all_map}
+use Rattle.mesa_check.proofs.mesa_fold.RisingRows.{folded_rise}
 use Rattle.mesa_model.specs.declared.commands.Script.{Script}
 use Rattle.mesa_model.specs.WellFormed.{IsContent, IsTable, IsWellFormed, is_kept, relation_names}
 use Rattle.mesa_session.specs.mesa_history_spec.Rows.{Rows}

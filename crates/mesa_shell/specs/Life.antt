@@ -2,10 +2,10 @@
 use Rattle.std.specs.Prelude.{ℕ, List, [], ◌∷◌, map, None}
 use Rattle.mesa_model.specs.declared.commands.Script.{Script}
 use Rattle.mesa_model.specs.declared.entries.Entry.{Entry}
-use Rattle.mesa_schema.specs.declared.rows.Row.{Row}
-use Rattle.mesa_schema.specs.Changes.{columns_of}
-use Rattle.mesa_schema.specs.Columns.{aggs_of}
-use Rattle.mesa_schema.specs.Folded.{folded}
+use Rattle.mesa_columns.specs.declared.rows.Row.{Row}
+use Rattle.mesa_session.specs.mesa_schema.Changes.{columns_of}
+use Rattle.mesa_columns.specs.Columns.{aggs_of}
+use Rattle.mesa_session.specs.mesa_fold.Folded.{folded}
 use Rattle.mesa_model.specs.Warehouse.{Table, Warehouse, empty_warehouse}
 use Rattle.mesa_session.specs.mesa_history_spec.Found.{Kept, kept_in}
 use Rattle.mesa_session.specs.mesa_history_spec.Law.{HoldsIn, written_in}

@@ -7,10 +7,10 @@ ghost use Rattle.mesa_check.specs.Verdict.{fault_told};
 
 use crate::lines::{DIGEST, put_hex};
 use mesa_check::Verdict;
+use mesa_columns::Name;
 use mesa_io::Sink;
 use mesa_key::KeyBytes;
 use mesa_print::Printer;
-use mesa_columns::Name;
 
 // Prints a key in hexadecimal, in pieces.
 fn put_key<K: Sink>(printer: &mut Printer<K>, key: &[u8])

@@ -3,10 +3,10 @@ use Rattle.std.proofs.Common.{◌≡◌, ◌<◌, ◌≤◌, ℕ, arith, length,
 use Rattle.std.proofs.lemmas.Result.{IfOk-weaker}
 use Rattle.std.specs.Prelude.{Bool, Err, IsTrue, None, Ok, Option, Result, slice_get}
 use Rattle.std.specs.List.{AllByRecursion}
-use Rattle.mesa_schema.specs.declared.rows.Row.{Row}
-use Rattle.mesa_schema.specs.Columns.{Columns, aggs_of}
-use Rattle.mesa_schema.specs.Folded.{folded}
-use Rattle.mesa_schema.specs.Rows.{IsRowOf}
+use Rattle.mesa_compact.specs.mesa_columns.declared.rows.Row.{Row}
+use Rattle.mesa_compact.specs.mesa_columns.Columns.{Columns, aggs_of}
+use Rattle.mesa_open_files.specs.mesa_fold.Folded.{folded}
+use Rattle.mesa_compact.specs.mesa_columns.Rows.{IsRowOf}
 use Rattle.mesa_delta.specs.declared.error.FileError.{FileError}
 use Rattle.mesa_delta.specs.declared.error.FileError.TheVariants.{Damaged, Memory, Read}
 use Rattle.mesa_delta.specs.declared.input.Input.{Input}

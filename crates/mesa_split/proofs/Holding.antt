@@ -4,7 +4,7 @@ use Rattle.std.proofs.lemmas.Bool.Decides.{nat_tests}
 use Rattle.std.proofs.lemmas.List.{append-nil}
 use Rattle.std.specs.Prelude.{Bool, ◌==◌, Option, None, Some, Ok, Err, option_map}
 use Rattle.mesa_compact.specs.mesa_io.Causes.{Rose}
-use Rattle.mesa_schema.specs.declared.rows.Row.{Row}
+use Rattle.mesa_compact.specs.mesa_columns.declared.rows.Row.{Row}
 use Rattle.mesa_delta.specs.Writing.{HasTaken, columns_of, draft_of, id_of}
 use Rattle.mesa_delta.specs.declared.error.FileError.TheVariants.{Memory, Read}
 use Rattle.mesa_delta.specs.declared.writer.DeltaWriter.{DeltaWriter}

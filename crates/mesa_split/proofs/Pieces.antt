@@ -6,11 +6,11 @@ use Rattle.std.specs.List.{AllByRecursion}
 use Rattle.std.specs.Ordering.{is_le, is_lt}
 use Rattle.std.specs.declared.cmp.Ordering.TheVariants.{Less}
 use Rattle.mesa_key.specs.Order.{byte_cmp}
-use Rattle.mesa_schema.specs.declared.rows.Row.{Row}
-use Rattle.mesa_schema.specs.Columns.{Columns, aggs_of}
-use Rattle.mesa_schema.specs.Folded.{folded, rows_of}
-use Rattle.mesa_schema.specs.Rows.{AreRowsOf, IsRowOf, keys_rise}
-use Rattle.mesa_schema.proofs.RisingRows.{folded_rise}
+use Rattle.mesa_compact.specs.mesa_columns.declared.rows.Row.{Row}
+use Rattle.mesa_compact.specs.mesa_columns.Columns.{Columns, aggs_of}
+use Rattle.mesa_open_files.specs.mesa_fold.Folded.{folded, rows_of}
+use Rattle.mesa_compact.specs.mesa_columns.Rows.{AreRowsOf, IsRowOf, keys_rise}
+use Rattle.mesa_merge.proofs.mesa_fold.RisingRows.{folded_rise}
 use Rattle.mesa_answer.specs.Answering.{KeepsSums}
 use Rattle.mesa_merge.specs.Inputs.{AreTold, Known, lifted_parts}
 use Rattle.mesa_compact.specs.mesa_scan.Cut.{CutsRise, cut, cuts_from, is_from, is_under, lies_in}

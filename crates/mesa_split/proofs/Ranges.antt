@@ -3,7 +3,7 @@ use Rattle.std.proofs.Common.{◌≡◌, inl, ℕ, ◌<◌, ◌≤◌, List, [],
 use Rattle.std.specs.Prelude.{Bool, Option, None, Some, Result, Ok, Err}
 use Rattle.mesa_compact.specs.mesa_io.Causes.{Rose}
 use Rattle.mesa_file.specs.declared.damage.Damage.{Damage}
-use Rattle.mesa_schema.specs.Columns.{Columns}
+use Rattle.mesa_compact.specs.mesa_columns.Columns.{Columns}
 use Rattle.mesa_delta.specs.declared.input.Input.{Input}
 use Rattle.mesa_delta.specs.declared.writer.DeltaWriter.{DeltaWriter}
 use Rattle.mesa_answer.specs.declared.groups.Groups.{Groups}

@@ -4,9 +4,9 @@ use Rattle.std.specs.Prelude.{Bool, ◌||◌, not, Option, None, Result, Ok, Err
 use Rattle.std.specs.List.{AllByRecursion}
 use Rattle.mesa_compact.specs.mesa_io.Causes.{HasFaultCause, Rose}
 use Rattle.mesa_file.specs.declared.damage.Damage.{Damage}
-use Rattle.mesa_schema.specs.declared.rows.Row.{Row}
-use Rattle.mesa_schema.specs.Columns.{Columns}
-use Rattle.mesa_schema.specs.Rows.{AreRowsOf, keys_rise}
+use Rattle.mesa_compact.specs.mesa_columns.declared.rows.Row.{Row}
+use Rattle.mesa_compact.specs.mesa_columns.Columns.{Columns}
+use Rattle.mesa_compact.specs.mesa_columns.Rows.{AreRowsOf, keys_rise}
 use Rattle.mesa_delta.specs.Writing.{columns_of, draft_of}
 use Rattle.mesa_delta.specs.declared.error.FileError.{FileError}
 use Rattle.mesa_delta.specs.declared.error.FileError.TheVariants.{Memory, Read}

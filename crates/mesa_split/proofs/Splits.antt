@@ -4,7 +4,7 @@ use Rattle.std.proofs.lemmas.Bool.{eqb-true}
 use Rattle.std.specs.Prelude.{◌==◌, Bool, true, Option, None, Some, Result, Ok, Err, flat_map}
 use Rattle.std.specs.List.{AllByRecursion}
 use Rattle.mesa_file.specs.declared.damage.Damage.{Damage}
-use Rattle.mesa_schema.specs.declared.rows.Row.{Row}
+use Rattle.mesa_compact.specs.mesa_columns.declared.rows.Row.{Row}
 use Rattle.mesa_schema.specs.Changes.{Lineage, columns_of}
 use Rattle.mesa_delta.specs.declared.error.FileError.TheVariants.{Memory}
 use Rattle.mesa_delta.specs.declared.input.Input.{Input}

@@ -3,12 +3,12 @@ use Rattle.std.proofs.Common.{◌≡◌, ◌⊎◌, inl, inr, ℕ, zero, suc, Li
 use Rattle.std.specs.Prelude.{Option, None, Result, Some, slice_get, flat_map, option_map}
 use Rattle.std.specs.List.{AllByRecursion}
 use Rattle.sha2.specs.Sha256.{sha256}
-use Rattle.mesa_schema.specs.declared.rows.Row.{Row}
+use Rattle.mesa_compact.specs.mesa_columns.declared.rows.Row.{Row}
 use Rattle.mesa_schema.specs.Changes.{Lineage, columns_at, columns_of, epoch_of, lifted}
-use Rattle.mesa_schema.specs.Columns.{Columns, aggs_of}
-use Rattle.mesa_schema.specs.Folded.{folded}
+use Rattle.mesa_compact.specs.mesa_columns.Columns.{Columns, aggs_of}
+use Rattle.mesa_open_files.specs.mesa_fold.Folded.{folded}
 use Rattle.mesa_schema.specs.Lineages.{IsLineage}
-use Rattle.mesa_schema.specs.Rows.{AreRowsOf}
+use Rattle.mesa_compact.specs.mesa_columns.Rows.{AreRowsOf}
 use Rattle.mesa_schema.proofs.PresentRows.{present_form}
 use Rattle.mesa_batch.specs.Bound.{FoldsTotals}
 use Rattle.mesa_compact.specs.mesa_block.Layout.{Layout}

@@ -2,7 +2,7 @@
 use Rattle.std.specs.Prelude.{◌≡◌, ◌⊎◌, ℕ, zero, suc, List, Vec, [], ◌∷◌, map, Option, Some, Result, Ok, Err, ⊤}
 use Rattle.std.specs.List.{AllByRecursion}
 use Rattle.mesa_file.specs.declared.damage.Damage.{Damage}
-use Rattle.mesa_schema.specs.Columns.{Columns}
+use Rattle.mesa_compact.specs.mesa_columns.Columns.{Columns}
 use Rattle.mesa_delta.specs.declared.error.FileError.TheVariants.{Read}
 use Rattle.mesa_merge.specs.Damaged.{IsDamageOf}
 use Rattle.mesa_merge.specs.Faults.{HaveFaultCause, faults_of}
@@ -13,7 +13,7 @@ use Rattle.mesa_compact.specs.Writing.{IsReadFault}
 use Rattle.mesa_split.specs.Parts.{HasPiece}
 use Rattle.mesa_split.specs.Split.{IsFailureOf, IsGained}
 use Rattle.std.specs.declared.alloc.Global.{Global}
-use Rattle.mesa_schema.specs.declared.rows.Row.{Row}
+use Rattle.mesa_compact.specs.mesa_columns.declared.rows.Row.{Row}
 use Rattle.mesa_delta.specs.declared.error.FileError.{FileError}
 use Rattle.mesa_delta.specs.declared.input.Input.{Input}
 use Rattle.mesa_open_files.specs.declared.merging.Spare.{Spare}

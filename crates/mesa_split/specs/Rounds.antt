@@ -4,10 +4,10 @@ use Rattle.std.specs.declared.alloc.Global.{Global}
 use Rattle.std.specs.List.{AllByRecursion}
 use Rattle.mesa_compact.specs.mesa_io.Causes.{HasFaultCause}
 use Rattle.mesa_file.specs.declared.damage.Damage.{Damage}
-use Rattle.mesa_schema.specs.declared.rows.Row.{Row}
-use Rattle.mesa_schema.specs.Columns.{Columns, aggs_of}
-use Rattle.mesa_schema.specs.Folded.{folded}
-use Rattle.mesa_schema.specs.Rows.{keys_rise}
+use Rattle.mesa_compact.specs.mesa_columns.declared.rows.Row.{Row}
+use Rattle.mesa_compact.specs.mesa_columns.Columns.{Columns, aggs_of}
+use Rattle.mesa_open_files.specs.mesa_fold.Folded.{folded}
+use Rattle.mesa_compact.specs.mesa_columns.Rows.{keys_rise}
 use Rattle.mesa_delta.specs.Writing.{HasTaken, columns_of, draft_of, id_of}
 use Rattle.mesa_delta.specs.declared.error.FileError.{FileError}
 use Rattle.mesa_delta.specs.declared.input.Input.{Input}

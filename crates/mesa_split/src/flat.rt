@@ -1,8 +1,8 @@
 // Rows that are held flat.
 ghost use Rattle.std.specs.Prelude.{◌≡◌, ◌<◌, ◌≤◌, ◌+◌, ◌*◌, ◌++◌, ◌∷◌, ◌↔◌, [], length, slice_get, take, drop, IsTrue, Some, OnErr, OnOk};
 ghost use Rattle.std.specs.List.{AllByRecursion};
-ghost use Rattle.mesa_schema.specs.declared.rows.Row.{Row as AnyRow};
-ghost use Rattle.mesa_schema.specs.Lent.{lent};
+ghost use Rattle.mesa_compact.specs.mesa_columns.declared.rows.Row.{Row as AnyRow};
+ghost use Rattle.mesa_compact.specs.mesa_columns.Lent.{lent};
 
 use mesa_list::Fields;
 use mesa_schema::LentRow;
@@ -21,7 +21,7 @@ pub(crate) struct FlatRows {
 
 impl Model for FlatRows {
     ghost use Rattle.std.specs.Prelude.{List};
-    ghost use Rattle.mesa_schema.specs.declared.rows.Row.{Row};
+    ghost use Rattle.mesa_compact.specs.mesa_columns.declared.rows.Row.{Row};
     ghost use Rattle.mesa_compact.specs.mesa_block.Fill.{AreOver, rows_over};
 
     ghost Value = { List Row };

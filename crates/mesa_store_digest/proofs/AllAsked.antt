@@ -8,13 +8,13 @@ use Rattle.mesa_list.specs.Checks.{◌>>=◌, ◌>>◌, refused_as}
 use Rattle.mesa_pick_files.specs.mesa_key.declared.KeyType.{KeyType}
 use Rattle.mesa_pick_files.specs.mesa_key.declared.KeyValue.{KeyValue}
 use Rattle.mesa_pick_files.specs.mesa_key.Spelling.{columns_of, key_of, value_spelling}
-use Rattle.mesa_pick_files.specs.mesa_schema.declared.columns.KeyColumn.{KeyColumn}
-use Rattle.mesa_pick_files.specs.mesa_schema.declared.columns.ValueColumn.{ValueColumn}
-use Rattle.mesa_pick_files.specs.mesa_schema.declared.rows.Row.{Row}
-use Rattle.mesa_pick_files.specs.mesa_schema.Columns.{Columns, aggs_of, chosen, is_replace, kinds_of}
-use Rattle.mesa_pick_files.specs.mesa_schema.Folded.{folded, regrouped}
-use Rattle.mesa_pick_files.specs.mesa_schema.Rows.{AreRowsOf, IsRowOf, keys_rise}
-use Rattle.mesa_pick_files.proofs.mesa_schema.GroupKeys.{columns_spelled, concat_spelled}
+use Rattle.mesa_pick_files.specs.mesa_columns.declared.columns.KeyColumn.{KeyColumn}
+use Rattle.mesa_pick_files.specs.mesa_columns.declared.columns.ValueColumn.{ValueColumn}
+use Rattle.mesa_pick_files.specs.mesa_columns.declared.rows.Row.{Row}
+use Rattle.mesa_pick_files.specs.mesa_columns.Columns.{Columns, aggs_of, chosen, is_replace, kinds_of}
+use Rattle.mesa_open_files.specs.mesa_fold.Folded.{folded, regrouped}
+use Rattle.mesa_pick_files.specs.mesa_columns.Rows.{AreRowsOf, IsRowOf, keys_rise}
+use Rattle.mesa_pick_files.proofs.mesa_fold.GroupKeys.{columns_spelled, concat_spelled}
 use Rattle.mesa_filter.specs.Asked.{Asked, asked_of, filter_refusal, places_below, refuse_replace, replace_asked}
 use Rattle.mesa_filter.specs.Filter.{filter_of, filtered}
 use Rattle.mesa_filter.specs.Query.{built, query_of}

@@ -9,10 +9,10 @@ use Rattle.mesa_query.specs.mesa_scan.Cursors.{reader_in}
 use Rattle.mesa_digest.specs.Digests.{digests_of}
 use Rattle.mesa_digest.specs.Digests as digest
 use Rattle.mesa_digest.specs.declared.digesting.DigestPair.{DigestPair}
-use Rattle.mesa_pick_files.specs.mesa_schema.declared.rows.Row.{Row}
-use Rattle.mesa_pick_files.specs.mesa_schema.Columns.{Columns, aggs_of}
-use Rattle.mesa_pick_files.specs.mesa_schema.Rows.{AreRowsOf, keys_rise}
-use Rattle.mesa_pick_files.proofs.mesa_schema.RisingRows.{folded_rise}
+use Rattle.mesa_pick_files.specs.mesa_columns.declared.rows.Row.{Row}
+use Rattle.mesa_pick_files.specs.mesa_columns.Columns.{Columns, aggs_of}
+use Rattle.mesa_pick_files.specs.mesa_columns.Rows.{AreRowsOf, keys_rise}
+use Rattle.mesa_pick_files.proofs.mesa_fold.RisingRows.{folded_rise}
 use Rattle.mesa_filter.specs.Asked.{Asked, places_below}
 use Rattle.mesa_pick_files.specs.mesa_model.Query.{answer_rows}
 use Rattle.mesa_pick_files.specs.mesa_model.Relations.{relation_columns, relation_content}

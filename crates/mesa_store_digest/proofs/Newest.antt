@@ -9,7 +9,7 @@ use Rattle.mesa_open_files.specs.mesa_file.declared.damage.Damage.{Damage}
 use Rattle.mesa_disk.specs.Story.{Story}
 use Rattle.mesa_delta.specs.declared.error.FileError.{FileError}
 use Rattle.mesa_delta.specs.declared.error.FileError.TheVariants as file_error
-use Rattle.mesa_pick_files.specs.mesa_schema.Columns.{Columns}
+use Rattle.mesa_pick_files.specs.mesa_columns.Columns.{Columns}
 use Rattle.mesa_filter.specs.Query.{BuiltQuery, IsQueryOf}
 use Rattle.mesa_pick_files.specs.mesa_model.Relations.{Relation, relation_columns, relation_content, relation_of}
 use Rattle.mesa_store_spec.specs.Catalog.{Catalog, TableMeta, no_meta, meta_at}

@@ -3,8 +3,8 @@ use Rattle.std.specs.Prelude.{◌≡◌, ◌≢◌, ◌⊎◌, ℕ, ◌+◌, ◌
 use Rattle.mesa_recover.specs.mesa_io.Causes.{Rose}
 use Rattle.mesa_disk.specs.Story.{Story}
 use Rattle.mesa_delta.specs.declared.error.FileError.TheVariants as file_error
-use Rattle.mesa_pick_files.specs.mesa_schema.Columns.{Columns}
-use Rattle.mesa_pick_files.specs.mesa_schema.declared.rows.Row.{Row}
+use Rattle.mesa_pick_files.specs.mesa_columns.Columns.{Columns}
+use Rattle.mesa_pick_files.specs.mesa_columns.declared.rows.Row.{Row}
 use Rattle.mesa_filter.specs.Asked.{Asked, places_below}
 use Rattle.mesa_pick_files.specs.mesa_model.Relations.{Relation, relation_columns, relation_content, relation_of}
 use Rattle.mesa_pick_files.specs.mesa_model.Warehouse.{Store}

@@ -1,8 +1,8 @@
 -- The digests of a relation at the newest version.
 use Rattle.std.specs.Prelude.{◌≡◌, ℕ, ◌+◌, List, length, Option, Some}
-use Rattle.mesa_pick_files.specs.mesa_schema.Columns.{Columns}
-use Rattle.mesa_pick_files.specs.mesa_schema.Rows.{AreRowsOf}
-use Rattle.mesa_pick_files.specs.mesa_schema.declared.rows.Row.{Row}
+use Rattle.mesa_pick_files.specs.mesa_columns.Columns.{Columns}
+use Rattle.mesa_pick_files.specs.mesa_columns.Rows.{AreRowsOf}
+use Rattle.mesa_pick_files.specs.mesa_columns.declared.rows.Row.{Row}
 use Rattle.mesa_digest.specs.Digests as digest
 use Rattle.mesa_digest.specs.declared.digesting.DigestPair.{DigestPair}
 use Rattle.mesa_disk.specs.Story.{Story}

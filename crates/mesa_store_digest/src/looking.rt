@@ -9,7 +9,7 @@ ghost use Rattle.mesa_pick_files.specs.Told.{TellContent};
 ghost use Rattle.mesa_query.specs.Files.{inputs_in};
 ghost use Rattle.mesa_recover.specs.Opened.{IsOpened};
 ghost use Rattle.mesa_validate.specs.Found.{columns_at};
-ghost use Rattle.mesa_pick_files.specs.mesa_schema.declared.rows.Row.{Row as AnyRow};
+ghost use Rattle.mesa_pick_files.specs.mesa_columns.declared.rows.Row.{Row as AnyRow};
 ghost use Rattle.mesa_open_files.specs.Errors.{Differs};
 ghost use Rattle.mesa_open_files.specs.Pins.{IsPinned};
 ghost use Rattle.mesa_store_digest.specs.Latest.{HasLookReason, all_asked};

@@ -6,11 +6,11 @@ use Rattle.std.proofs.lemmas.Bool.{eqb-true}
 use Rattle.std.proofs.lemmas.List.{length-map}
 use Rattle.std.specs.List.{AllByRecursion}
 use Rattle.mesa_history_spec.specs.mesa_list.Checks.{◌>>=◌, ◌>>◌, refused_as}
-use Rattle.mesa_history_spec.specs.mesa_schema.Columns.{place_of}
+use Rattle.mesa_history_spec.specs.mesa_columns.Columns.{place_of}
 use Rattle.mesa_history_spec.specs.mesa_schema.Changes.{columns_of}
-use Rattle.mesa_history_spec.specs.mesa_schema.Rows.{AreRowsOf}
-use Rattle.mesa_history_spec.proofs.mesa_schema.Lists.{all_append}
-use Rattle.mesa_history_spec.proofs.mesa_schema.Places.{place_named}
+use Rattle.mesa_history_spec.specs.mesa_columns.Rows.{AreRowsOf}
+use Rattle.mesa_history_spec.proofs.mesa_columns.Lists.{all_append}
+use Rattle.mesa_history_spec.proofs.mesa_columns.Places.{place_named}
 use Rattle.mesa_history_spec.specs.mesa_batch.declared.words.BatchError.TheVariants.{BadRow, NoTable}
 use Rattle.mesa_history_spec.specs.mesa_batch.declared.words.RowWords.{RowWords}
 use Rattle.mesa_history_spec.specs.mesa_batch.Batch.{Named, Placed, batch_from, batch_of, columns_at, is_at, placed_of, refuse_twice, row_of, rows_for}

@@ -2,12 +2,12 @@
 use Rattle.std.proofs.Common.{◌≡◌, ℕ, zero, suc, ◌+◌, ◌-◌, List, ◌∷◌, ◌++◌, map, take, Option, Some, None, refl, sym, ◌∙◌, ap, subst, slice_get}
 use Rattle.std.specs.Prelude.{IfSome}
 use Rattle.std.specs.List.{AllByRecursion, range_with_len}
-use Rattle.mesa_history_spec.specs.mesa_schema.declared.rows.Row.{Row}
-use Rattle.mesa_history_spec.specs.mesa_schema.declared.views.View.{View}
-use Rattle.mesa_history_spec.specs.mesa_schema.Columns.{aggs_of}
+use Rattle.mesa_history_spec.specs.mesa_columns.declared.rows.Row.{Row}
+use Rattle.mesa_history_spec.specs.mesa_columns.declared.views.View.{View}
+use Rattle.mesa_history_spec.specs.mesa_columns.Columns.{aggs_of}
 use Rattle.mesa_history_spec.specs.mesa_schema.Changes.{Lineage, columns_at, columns_of, epoch_of, lifted}
 use Rattle.mesa_history_spec.specs.mesa_schema.Views.{view_rows}
-use Rattle.mesa_history_spec.specs.mesa_schema.Folded.{folded, rows_of}
+use Rattle.mesa_history_spec.specs.mesa_fold.Folded.{folded, rows_of}
 use Rattle.mesa_history_spec.specs.mesa_batch.Totals.{AreAtMost, abs_totals}
 use Rattle.mesa_record.specs.declared.record.Files.{Files}
 use Rattle.mesa_record.specs.declared.record.ViewRef.{ViewRef}
@@ -17,7 +17,7 @@ use Rattle.mesa_store_spec.specs.Catalog.{Delta, Ending, TableMeta, Catalog, ran
 use Rattle.mesa_store_spec.specs.Fitting.{LiveFile, base_deltas, delta_in, deltas_of, delta_live, meta_live, live_files, view_live}
 use Rattle.mesa_store_spec.specs.Contents.{Rows, rows_in, present, deltas_to, content, table_of, kept_of}
 use Rattle.mesa_store_spec.specs.Sound.{IsTold, IsMerged, IsGrouped, IsGroupedAs, AreGrouped, IsTotalled, HasSoundRows, HaveSoundRows, layout_of, wanted, wants}
-use Rattle.mesa_history_spec.proofs.mesa_schema.Lists.{all_append, all_both, same_maps}
+use Rattle.mesa_history_spec.proofs.mesa_columns.Lists.{all_append, all_both, same_maps}
 use Rattle.mesa_store_spec.proofs.Lists.{all_front, all_back, all_take, all_unflat, all_unmap}
 
 module _ (old new : Rows) where

@@ -2,16 +2,17 @@
 use Rattle.std.proofs.Common.{◌≡◌, ℕ, ◌+◌, ◌-◌, ◌≤◌, List, [], ◌∷◌, ◌++◌, map, take, drop, refl, sym, ◌∙◌, ap, arith, append_assoc}
 use Rattle.std.proofs.lemmas.List.{map-append, take-append-drop, drop-drop}
 use Rattle.std.proofs.lemmas.Simd.{map-map}
-use Rattle.mesa_history_spec.specs.mesa_schema.declared.rows.Row.{Row}
-use Rattle.mesa_history_spec.specs.mesa_schema.declared.changes.Change.{Change}
-use Rattle.mesa_history_spec.specs.mesa_schema.Columns.{aggs_of}
-use Rattle.mesa_history_spec.specs.mesa_schema.Changes.{Lineage, columns_after, columns_at, columns_of, epoch_of, lifted, lifted_by, lifted_once, with_change}
+use Rattle.mesa_history_spec.specs.mesa_columns.declared.rows.Row.{Row}
+use Rattle.mesa_history_spec.specs.mesa_columns.declared.changes.Change.{Change}
+use Rattle.mesa_history_spec.specs.mesa_columns.Columns.{aggs_of}
+use Rattle.mesa_history_spec.specs.mesa_columns.Changes.{columns_after, lifted_by, lifted_once}
+use Rattle.mesa_history_spec.specs.mesa_schema.Changes.{Lineage, columns_at, columns_of, epoch_of, lifted, with_change}
 use Rattle.mesa_history_spec.specs.mesa_schema.Lineages.{HasDefault}
-use Rattle.mesa_history_spec.specs.mesa_schema.Folded.{folded}
+use Rattle.mesa_history_spec.specs.mesa_fold.Folded.{folded}
 use Rattle.mesa_history_spec.proofs.mesa_schema.Forms.{lifts_folded}
-use Rattle.mesa_history_spec.proofs.mesa_schema.Lists.{map_is}
+use Rattle.mesa_history_spec.proofs.mesa_columns.Lists.{map_is}
 use Rattle.mesa_history_spec.proofs.mesa_schema.PresentRows.{columns_after-append, columns_more, lifted_all, lifted_by-append, lifted_more}
-use Rattle.mesa_history_spec.proofs.mesa_schema.Refolds.{refolded}
+use Rattle.mesa_history_spec.proofs.mesa_fold.Refolds.{refolded}
 use Rattle.mesa_store_spec.specs.Catalog.{Delta, Ending, TableMeta, start_in, meta_changed}
 use Rattle.mesa_store_spec.specs.Fitting.{base_deltas}
 use Rattle.mesa_store_spec.specs.Contents.{Rows, rows_in, present, deltas_to, content}

@@ -3,16 +3,17 @@ use Rattle.std.proofs.Common.{◌≡◌, ℕ, zero, suc, ◌+◌, ◌-◌, ◌<�
 use Rattle.std.proofs.lemmas.List.{take-append-le, map-append, map-set}
 use Rattle.std.specs.Prelude.{IfSome}
 use Rattle.std.specs.List.{AllByRecursion, range_with_len}
-use Rattle.mesa_history_spec.specs.mesa_schema.declared.rows.Row.{Row}
-use Rattle.mesa_history_spec.specs.mesa_schema.declared.views.View.{View}
-use Rattle.mesa_history_spec.specs.mesa_schema.declared.changes.Change.{Change}
-use Rattle.mesa_history_spec.specs.mesa_schema.Changes.{Lineage, change_checked, columns_after, columns_at, columns_of, epoch_of, lifted_once, rule_checked, with_change}
+use Rattle.mesa_history_spec.specs.mesa_columns.declared.rows.Row.{Row}
+use Rattle.mesa_history_spec.specs.mesa_columns.declared.views.View.{View}
+use Rattle.mesa_history_spec.specs.mesa_columns.declared.changes.Change.{Change}
+use Rattle.mesa_history_spec.specs.mesa_columns.Changes.{columns_after, lifted_once}
+use Rattle.mesa_history_spec.specs.mesa_schema.Changes.{Lineage, change_checked, columns_at, columns_of, epoch_of, rule_checked, with_change}
 use Rattle.mesa_history_spec.specs.mesa_schema.Views.{view_columns, view_rows}
 use Rattle.mesa_history_spec.specs.mesa_schema.Lineages.{HasDefault}
 use Rattle.mesa_history_spec.specs.mesa_schema.Laws.{Outlives}
-use Rattle.mesa_history_spec.specs.mesa_schema.Rows.{AreRowsOf}
-use Rattle.mesa_history_spec.specs.mesa_schema.Folded.{rows_of}
-use Rattle.mesa_history_spec.proofs.mesa_schema.Lists.{all_both, all_got, all_set, all_so}
+use Rattle.mesa_history_spec.specs.mesa_columns.Rows.{AreRowsOf}
+use Rattle.mesa_history_spec.specs.mesa_fold.Folded.{rows_of}
+use Rattle.mesa_history_spec.proofs.mesa_columns.Lists.{all_both, all_got, all_set, all_so}
 use Rattle.mesa_history_spec.proofs.mesa_schema.Passing.{passed_first}
 use Rattle.mesa_history_spec.proofs.mesa_schema.PresentRows.{columns_more}
 use Rattle.mesa_history_spec.proofs.mesa_schema.ViewChanges.{views_outlive}

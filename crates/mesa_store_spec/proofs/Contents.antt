@@ -4,12 +4,12 @@ use Rattle.std.proofs.lemmas.List.{append-nil, map-append, take-append-le, take_
 use Rattle.std.proofs.lemmas.List.FromFn.{map-range_with_len_more}
 use Rattle.std.specs.List.{range_with_len}
 use Rattle.mesa_delta.specs.mesa_value.declared.Agg.{Agg}
-use Rattle.mesa_history_spec.specs.mesa_schema.declared.rows.Row.{Row}
-use Rattle.mesa_history_spec.specs.mesa_schema.Columns.{aggs_of}
+use Rattle.mesa_history_spec.specs.mesa_columns.declared.rows.Row.{Row}
+use Rattle.mesa_history_spec.specs.mesa_columns.Columns.{aggs_of}
 use Rattle.mesa_history_spec.specs.mesa_schema.Changes.{Lineage, columns_of, epoch_of, lifted}
-use Rattle.mesa_history_spec.specs.mesa_schema.Folded.{folded}
-use Rattle.mesa_history_spec.proofs.mesa_schema.Refolds.{refolded}
-use Rattle.mesa_history_spec.proofs.mesa_schema.Lists.{map_is}
+use Rattle.mesa_history_spec.specs.mesa_fold.Folded.{folded}
+use Rattle.mesa_history_spec.proofs.mesa_fold.Refolds.{refolded}
+use Rattle.mesa_history_spec.proofs.mesa_columns.Lists.{map_is}
 use Rattle.mesa_history_spec.proofs.mesa_schema.PresentRows.{lifted_now}
 use Rattle.mesa_history_spec.specs.mesa_model.Load.{newest_content}
 use Rattle.mesa_record.specs.declared.record.Part.{Part}

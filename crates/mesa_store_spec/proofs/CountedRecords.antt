@@ -3,17 +3,18 @@ use Rattle.std.proofs.Common.{◌≡◌, ℕ, zero, suc, ◌+◌, ◌-◌, ◌<�
 use Rattle.std.proofs.lemmas.List.{take-append-le, take_all, map-append}
 use Rattle.std.specs.Prelude.{option_map, IfSome}
 use Rattle.std.specs.List.{AllByRecursion, list_all}
-use Rattle.mesa_history_spec.specs.mesa_schema.declared.changes.Change.{Change}
-use Rattle.mesa_history_spec.specs.mesa_schema.declared.changes.Change.TheVariants.{AddKey, AddValue, DropValue}
-use Rattle.mesa_history_spec.specs.mesa_schema.declared.changes.ChangeError.{ChangeError}
-use Rattle.mesa_history_spec.specs.mesa_schema.declared.changes.ChangeError.TheVariants as no
-use Rattle.mesa_history_spec.specs.mesa_schema.declared.views.View.{View}
-use Rattle.mesa_history_spec.specs.mesa_schema.Names.{has_name}
-use Rattle.mesa_history_spec.specs.mesa_schema.Columns.{Columns, aggs_of, value_names}
-use Rattle.mesa_history_spec.specs.mesa_schema.Changes.{Lineage, changed, change_checked, columns_after, columns_at, columns_of, epoch_of, refuse_used, rule_checked, with_change}
+use Rattle.mesa_history_spec.specs.mesa_columns.declared.changes.Change.{Change}
+use Rattle.mesa_history_spec.specs.mesa_columns.declared.changes.Change.TheVariants.{AddKey, AddValue, DropValue}
+use Rattle.mesa_history_spec.specs.mesa_columns.declared.changes.ChangeError.{ChangeError}
+use Rattle.mesa_history_spec.specs.mesa_columns.declared.changes.ChangeError.TheVariants as no
+use Rattle.mesa_history_spec.specs.mesa_columns.declared.views.View.{View}
+use Rattle.mesa_history_spec.specs.mesa_columns.Names.{has_name}
+use Rattle.mesa_history_spec.specs.mesa_columns.Columns.{Columns, aggs_of, value_names}
+use Rattle.mesa_history_spec.specs.mesa_columns.Changes.{changed, columns_after}
+use Rattle.mesa_history_spec.specs.mesa_schema.Changes.{Lineage, change_checked, columns_at, columns_of, epoch_of, refuse_used, rule_checked, with_change}
 use Rattle.mesa_history_spec.specs.mesa_schema.Views.{view_columns, with_view}
 use Rattle.mesa_history_spec.specs.mesa_schema.Laws.{Outlives}
-use Rattle.mesa_history_spec.proofs.mesa_schema.Lists.{all_append, all_drop, all_got, all_map, all_replicate, all_so, all_both}
+use Rattle.mesa_history_spec.proofs.mesa_columns.Lists.{all_append, all_drop, all_got, all_map, all_replicate, all_so, all_both}
 use Rattle.mesa_history_spec.proofs.mesa_schema.Passing.{passed_first, passed_unless}
 use Rattle.mesa_history_spec.proofs.mesa_schema.PresentRows.{columns_more}
 use Rattle.mesa_history_spec.proofs.mesa_schema.ViewChanges.{views_outlive}
@@ -30,7 +31,7 @@ use Rattle.mesa_store_spec.specs.Catalog.{Delta, TableMeta, Catalog, empty_base,
 use Rattle.mesa_store_spec.specs.Fitting.{base_deltas, counts_columns, counts_view, delta_in, deltas_of, files_fit, files_fit_if_any, fits, has_epoch, is_there, is_view_ref, kind_fits, brings_new_files, max_runs, may_be_work, part_fits, swap_fits}
 use Rattle.mesa_store_spec.specs.Shape.{IsCatalog, IsShaped}
 use Rattle.mesa_store_spec.proofs.Lists.{all_back, all_front, both_true, is_at_most, is_equal, is_less, meta_found}
-use Rattle.mesa_history_spec.specs.mesa_schema.Schema.{is_schema}
+use Rattle.mesa_history_spec.specs.mesa_columns.Schema.{is_schema}
 use Rattle.mesa_history_spec.specs.mesa_schema.Changes.{max_changes}
 use Rattle.mesa_history_spec.specs.mesa_schema.Views.{max_views}
 use Rattle.mesa_history_spec.specs.mesa_schema.Lineages.{is_view_of}

@@ -6,11 +6,12 @@ use Rattle.mesa_delta.specs.mesa_key.declared.KeyType.TheVariants as kind
 use Rattle.mesa_delta.specs.mesa_key.declared.KeyValue.{KeyValue}
 use Rattle.mesa_delta.specs.mesa_key.declared.KeyValue.TheVariants as value
 use Rattle.mesa_delta.specs.mesa_key.Spelling.{IsValue}
-use Rattle.mesa_history_spec.specs.mesa_schema.declared.changes.Change.{Change}
-use Rattle.mesa_history_spec.specs.mesa_schema.declared.changes.Change.TheVariants.{AddKey, AddValue, DropValue}
-use Rattle.mesa_history_spec.specs.mesa_schema.declared.changes.ChangeError.TheVariants.{BadDefault}
-use Rattle.mesa_history_spec.specs.mesa_schema.Columns.{key_names, value_names}
-use Rattle.mesa_history_spec.specs.mesa_schema.Changes.{Lineage, columns_of, is_default, is_of_kind, new_name_checked, rule_checked}
+use Rattle.mesa_history_spec.specs.mesa_columns.declared.changes.Change.{Change}
+use Rattle.mesa_history_spec.specs.mesa_columns.declared.changes.Change.TheVariants.{AddKey, AddValue, DropValue}
+use Rattle.mesa_history_spec.specs.mesa_columns.declared.changes.ChangeError.TheVariants.{BadDefault}
+use Rattle.mesa_history_spec.specs.mesa_columns.Columns.{key_names, value_names}
+use Rattle.mesa_history_spec.specs.mesa_columns.Changes.{is_default, is_of_kind}
+use Rattle.mesa_history_spec.specs.mesa_schema.Changes.{Lineage, columns_of, new_name_checked, rule_checked}
 use Rattle.mesa_history_spec.specs.mesa_schema.Lineages.{HasDefault}
 use Rattle.mesa_history_spec.proofs.mesa_schema.LineageChanges.{default_fits}
 use Rattle.mesa_history_spec.proofs.mesa_schema.Passing.{passed_first}

@@ -2,7 +2,7 @@
 use Rattle.std.proofs.Common.{◌≡◌, ℕ, ◌<◌, List, [], ◌∷◌, ◌++◌, map, length, refl, sym, ◌∙◌, ap, arith, slice_set}
 use Rattle.std.specs.Prelude.{flat_map}
 use Rattle.std.proofs.lemmas.List.{map-set}
-use Rattle.mesa_history_spec.proofs.mesa_schema.Lists.{all_map, all_set, all_so}
+use Rattle.mesa_history_spec.proofs.mesa_columns.Lists.{all_map, all_set, all_so}
 use Rattle.mesa_history_spec.specs.mesa_model.Versions.{table_from}
 use Rattle.mesa_record.specs.declared.record.Record.TheVariants as record_of
 use Rattle.mesa_store_spec.specs.Catalog.{Catalog, TableMeta, applied, ranges_of, meta_at, meta_from}

@@ -1,12 +1,12 @@
 -- The rows of a sound table's deltas have the form of its present columns.
 use Rattle.std.proofs.Common.{ℕ, ◌+◌, ◌-◌, ◌≤◌, List, [], ◌∷◌, ◌++◌, map, Option, Some, None}
 use Rattle.std.specs.List.{AllByRecursion}
-use Rattle.mesa_history_spec.specs.mesa_schema.declared.rows.Row.{Row}
+use Rattle.mesa_history_spec.specs.mesa_columns.declared.rows.Row.{Row}
 use Rattle.mesa_history_spec.specs.mesa_schema.Changes.{Lineage, columns_at, columns_of, epoch_of, lifted}
-use Rattle.mesa_history_spec.specs.mesa_schema.Folded.{rows_of}
+use Rattle.mesa_history_spec.specs.mesa_fold.Folded.{rows_of}
 use Rattle.mesa_history_spec.specs.mesa_schema.Lineages.{IsLineage}
-use Rattle.mesa_history_spec.specs.mesa_schema.Rows.{AreRowsOf, IsRowOf}
-use Rattle.mesa_history_spec.proofs.mesa_schema.Lists.{all_append, all_map, all_so}
+use Rattle.mesa_history_spec.specs.mesa_columns.Rows.{AreRowsOf, IsRowOf}
+use Rattle.mesa_history_spec.proofs.mesa_columns.Lists.{all_append, all_map, all_so}
 use Rattle.mesa_history_spec.proofs.mesa_schema.PresentRows.{present_form}
 use Rattle.mesa_delta.specs.mesa_block.Rows.{IsRow}
 use Rattle.mesa_history_spec.specs.mesa_file.declared.file_ref.FileRef.{FileRef}

@@ -3,13 +3,13 @@ use Rattle.std.proofs.Common.{◌≡◌, inl, inr, ℕ, zero, suc, ◌+◌, ◌-
 use Rattle.std.proofs.lemmas.List.{length-replicate}
 use Rattle.std.specs.Prelude.{IfSome, option_map}
 use Rattle.std.specs.List.{AllByRecursion, range_with_len}
-use Rattle.mesa_history_spec.specs.mesa_schema.declared.rows.Row.{Row}
-use Rattle.mesa_history_spec.specs.mesa_schema.Columns.{Columns, aggs_of}
+use Rattle.mesa_history_spec.specs.mesa_columns.declared.rows.Row.{Row}
+use Rattle.mesa_history_spec.specs.mesa_columns.Columns.{Columns, aggs_of}
 use Rattle.mesa_history_spec.specs.mesa_schema.Changes.{Lineage, columns_at, columns_of, epoch_of, lifted}
-use Rattle.mesa_history_spec.specs.mesa_schema.Folded.{rows_of}
+use Rattle.mesa_history_spec.specs.mesa_fold.Folded.{rows_of}
 use Rattle.mesa_history_spec.specs.mesa_schema.Lineages.{IsLineage}
-use Rattle.mesa_history_spec.specs.mesa_schema.Rows.{AreRowsOf, IsRowOf, keys_rise}
-use Rattle.mesa_history_spec.proofs.mesa_schema.Lists.{all_append, all_both, all_filter, all_map, all_so}
+use Rattle.mesa_history_spec.specs.mesa_columns.Rows.{AreRowsOf, IsRowOf, keys_rise}
+use Rattle.mesa_history_spec.proofs.mesa_columns.Lists.{all_append, all_both, all_filter, all_map, all_so}
 use Rattle.mesa_history_spec.proofs.mesa_schema.PresentRows.{present_rise}
 use Rattle.mesa_delta.specs.mesa_block.Layout.{Layout}
 use Rattle.mesa_delta.specs.mesa_block.Rows.{IsRow}

@@ -3,10 +3,10 @@ use Rattle.std.proofs.Common.{◌≡◌, ℕ, zero, suc, ◌+◌, ◌-◌, ◌<�
 use Rattle.std.proofs.lemmas.List.{map-append, map-set}
 use Rattle.std.specs.Prelude.{Bool, max}
 use Rattle.std.specs.List.{AllByRecursion, range_with_len}
-use Rattle.mesa_history_spec.specs.mesa_schema.declared.rows.Row.{Row}
-use Rattle.mesa_history_spec.specs.mesa_schema.Columns.{aggs_of}
+use Rattle.mesa_history_spec.specs.mesa_columns.declared.rows.Row.{Row}
+use Rattle.mesa_history_spec.specs.mesa_columns.Columns.{aggs_of}
 use Rattle.mesa_history_spec.specs.mesa_schema.Changes.{columns_of}
-use Rattle.mesa_history_spec.proofs.mesa_schema.Lists.{map_at}
+use Rattle.mesa_history_spec.proofs.mesa_columns.Lists.{map_at}
 use Rattle.mesa_history_spec.specs.mesa_batch.Batch.{Placed, rows_for}
 use Rattle.mesa_history_spec.specs.mesa_batch.Totals.{abs_total, abs_totals, sum_places, totals_with}
 use Rattle.mesa_history_spec.specs.mesa_span.Work.{swapped}

@@ -3,15 +3,16 @@ use Rattle.std.proofs.Common.{◌≡◌, ℕ, ◌-◌, ◌≤◌, List, [], ◌�
 use Rattle.std.proofs.lemmas.List.{take-append-le, take_all}
 use Rattle.std.proofs.lemmas.Simd.{map-map}
 use Rattle.std.specs.List.{AllByRecursion}
-use Rattle.mesa_history_spec.specs.mesa_schema.declared.rows.Row.{Row}
-use Rattle.mesa_history_spec.specs.mesa_schema.declared.changes.Change.{Change}
-use Rattle.mesa_history_spec.specs.mesa_schema.Columns.{aggs_of}
-use Rattle.mesa_history_spec.specs.mesa_schema.Changes.{Lineage, columns_after, columns_at, columns_of, epoch_of, lifted, lifted_once, with_change}
-use Rattle.mesa_history_spec.specs.mesa_schema.Folded.{folded, rows_of}
+use Rattle.mesa_history_spec.specs.mesa_columns.declared.rows.Row.{Row}
+use Rattle.mesa_history_spec.specs.mesa_columns.declared.changes.Change.{Change}
+use Rattle.mesa_history_spec.specs.mesa_columns.Columns.{aggs_of}
+use Rattle.mesa_history_spec.specs.mesa_columns.Changes.{columns_after, lifted_once}
+use Rattle.mesa_history_spec.specs.mesa_schema.Changes.{Lineage, columns_at, columns_of, epoch_of, lifted, with_change}
+use Rattle.mesa_history_spec.specs.mesa_fold.Folded.{folded, rows_of}
 use Rattle.mesa_history_spec.specs.mesa_schema.Lineages.{HasDefault, IsLineage}
-use Rattle.mesa_history_spec.specs.mesa_schema.Rows.{AreRowsOf, IsRowOf}
+use Rattle.mesa_history_spec.specs.mesa_columns.Rows.{AreRowsOf, IsRowOf}
 use Rattle.mesa_history_spec.proofs.mesa_schema.Forms.{lifted_form, lifts_folded}
-use Rattle.mesa_history_spec.proofs.mesa_schema.Lists.{all_append, all_drop, all_map, all_so, map_is}
+use Rattle.mesa_history_spec.proofs.mesa_columns.Lists.{all_append, all_drop, all_map, all_so, map_is}
 use Rattle.mesa_history_spec.proofs.mesa_schema.PresentRows.{columns_more, epoch_more, lifted_more, present_folds, present_form}
 use Rattle.mesa_history_spec.specs.Sources.{Source, range_rows, source_at}
 use Rattle.mesa_store_spec.specs.Catalog.{Delta}

@@ -2,7 +2,7 @@
 use Rattle.std.proofs.Common.{◌≡◌, ◌<◌, ◌≤◌, ℕ, zero, suc, List, [], ◌∷◌, ◌++◌, map, length, take, flat_map, true, false, Bool, not, ◌&&◌, ◌==◌, nat_le, nat_lt, refl, arith, slice_index_or}
 use Rattle.std.proofs.lemmas.Bool.Decides.{nat_tests}
 use Rattle.std.specs.List.{AllByRecursion}
-use Rattle.mesa_history_spec.proofs.mesa_schema.Lists.{all_append}
+use Rattle.mesa_history_spec.proofs.mesa_columns.Lists.{all_append}
 use Rattle.mesa_store_spec.specs.Catalog.{TableMeta, no_meta}
 
 pub all_front : {A : Type 0} (P : A → Type 0) (xs ys : List A) → AllByRecursion P (xs ++ ys) → AllByRecursion P xs

@@ -1,11 +1,11 @@
 -- Each record that fits moves a catalogue to one that stands for what its command makes.
 use Rattle.std.proofs.Common.{◌≡◌, ℕ, ◌<◌, List, length, Option, Some, Bool, true, ◌&&◌, nat_le, nat_lt, is_ok, subst, sym}
-use Rattle.mesa_history_spec.specs.mesa_schema.declared.changes.Change.{Change}
-use Rattle.mesa_history_spec.specs.mesa_schema.declared.columns.KeyColumn.{KeyColumn}
-use Rattle.mesa_history_spec.specs.mesa_schema.declared.columns.ValueColumn.{ValueColumn}
+use Rattle.mesa_history_spec.specs.mesa_columns.declared.changes.Change.{Change}
+use Rattle.mesa_history_spec.specs.mesa_columns.declared.columns.KeyColumn.{KeyColumn}
+use Rattle.mesa_history_spec.specs.mesa_columns.declared.columns.ValueColumn.{ValueColumn}
 use Rattle.mesa_history_spec.specs.mesa_schema.Changes.{columns_of}
 use Rattle.mesa_history_spec.specs.mesa_schema.Views.{max_views, view_checked}
-use Rattle.mesa_history_spec.proofs.mesa_schema.Lists.{all_map}
+use Rattle.mesa_history_spec.proofs.mesa_columns.Lists.{all_map}
 use Rattle.mesa_history_spec.specs.mesa_batch.Batch.{Placed}
 use Rattle.mesa_delta.specs.mesa_disk.Image.{file_of}
 use Rattle.mesa_commit.specs.Images.{Has}

@@ -11,7 +11,7 @@ use Rattle.mesa_record.specs.declared.record.Record.TheVariants as record_of
 use Rattle.mesa_store_spec.specs.Catalog.{Delta, TableMeta, Catalog, start_in, part_of, meta_from, meta_loaded, metas_loaded, meta_swapped, meta_at, no_meta, merged_delta, applied, empty_delta, part_delta}
 use Rattle.mesa_store_spec.specs.Fitting.{LiveFile, base_deltas, delta_in, deltas_of, delta_live, meta_live, files_live, part_live, live_files, live_id, brought, are_new_ids, brings_new_files, fits, has_number, kind_fits}
 use Rattle.mesa_store_spec.specs.Held.{IsUnnamed}
-use Rattle.mesa_history_spec.proofs.mesa_schema.Lists.{all_append, all_so, all_drop, all_map, all_set}
+use Rattle.mesa_history_spec.proofs.mesa_columns.Lists.{all_append, all_so, all_drop, all_map, all_set}
 use Rattle.mesa_store_spec.proofs.Lists.{all_front, all_back, all_flat, all_unflat, all_unmap, both_true, not_true, meta_found}
 
 module _ (P : LiveFile → Type 0) where

@@ -4,10 +4,10 @@ use Rattle.std.specs.Prelude.{find, option_map}
 use Rattle.std.specs.List.{range_with_len}
 use Rattle.std.proofs.lemmas.Bool.Decides.{nat_tests}
 use Rattle.std.proofs.lemmas.List.{map-append}
-use Rattle.mesa_history_spec.specs.mesa_schema.Columns.{aggs_of}
+use Rattle.mesa_history_spec.specs.mesa_columns.Columns.{aggs_of}
 use Rattle.mesa_history_spec.specs.mesa_schema.Changes.{columns_of}
-use Rattle.mesa_history_spec.specs.mesa_schema.Folded.{folded}
-use Rattle.mesa_history_spec.proofs.mesa_schema.Lists.{all_found}
+use Rattle.mesa_history_spec.specs.mesa_fold.Folded.{folded}
+use Rattle.mesa_history_spec.proofs.mesa_columns.Lists.{all_found}
 use Rattle.mesa_history_spec.specs.mesa_span.declared.ranges.Ranges.{Ranges}
 use Rattle.mesa_history_spec.specs.mesa_span.declared.works.Work.{Work}
 use Rattle.mesa_history_spec.specs.mesa_span.declared.works.Work.TheVariants as work

@@ -12,7 +12,7 @@ use Rattle.mesa_store_spec.specs.Contents.{Rows}
 use Rattle.mesa_store_spec.specs.Sound.{wants, wanted, IsTold, HasSoundRows, HaveSoundRows}
 use Rattle.mesa_store_spec.specs.Shape.{IsShaped, IsCatalog}
 use Rattle.mesa_store_spec.specs.Brought.{AreTold, BringsAll}
-use Rattle.mesa_history_spec.proofs.mesa_schema.Lists.{all_map}
+use Rattle.mesa_history_spec.proofs.mesa_columns.Lists.{all_map}
 use Rattle.mesa_store_spec.proofs.Lists.{all_unmap, all_unflat}
 use Rattle.mesa_store_spec.proofs.Named.{BroughtTo, found_part, named_published}
 use Rattle.mesa_store_spec.proofs.SoundRows.{loaded_sound_rows}

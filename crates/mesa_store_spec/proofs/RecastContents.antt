@@ -1,11 +1,11 @@
 -- A table that is recast stands for the recast table.
 use Rattle.std.proofs.Common.{◌≡◌, ℕ, zero, suc, ◌+◌, ◌-◌, List, ◌∷◌, ◌++◌, map, take, refl, sym, ◌∙◌, ap, Option}
 use Rattle.std.specs.List.{AllByRecursion, range_with_len}
-use Rattle.mesa_history_spec.specs.mesa_schema.Columns.{aggs_of}
+use Rattle.mesa_history_spec.specs.mesa_columns.Columns.{aggs_of}
 use Rattle.mesa_history_spec.specs.mesa_schema.Changes.{columns_of}
-use Rattle.mesa_history_spec.specs.mesa_schema.Folded.{folded, rows_of}
+use Rattle.mesa_history_spec.specs.mesa_fold.Folded.{folded, rows_of}
 use Rattle.mesa_history_spec.specs.mesa_schema.Recasts.{IsRecastOf, Recast, recast_lineage, recast_rows}
-use Rattle.mesa_history_spec.specs.mesa_schema.Rows.{AreRowsOf}
+use Rattle.mesa_history_spec.specs.mesa_columns.Rows.{AreRowsOf}
 use Rattle.mesa_history_spec.specs.mesa_batch.Totals.{totals_recast}
 use Rattle.mesa_history_spec.proofs.mesa_schema.Recasting.{recast_folds}
 use Rattle.mesa_history_spec.specs.mesa_model.Tables.{table_recast}

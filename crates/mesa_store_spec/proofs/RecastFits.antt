@@ -2,7 +2,7 @@
 use Rattle.std.proofs.Common.{◌≡◌, ℕ, suc, ◌+◌, ◌-◌, ◌<◌, ◌≤◌, List, [], ◌∷◌, ◌++◌, length, replicate, true, false, ◌&&◌, ◌==◌, nat_lt, is_ok, Option, Some, None, Result, Ok, Err, refl, sym, ◌∙◌, ap, subst, arith}
 use Rattle.std.specs.Prelude.{option_map, IfSome, ⊤}
 use Rattle.std.specs.List.{AllByRecursion, list_all}
-use Rattle.mesa_history_spec.specs.mesa_schema.Columns.{aggs_of}
+use Rattle.mesa_history_spec.specs.mesa_columns.Columns.{aggs_of}
 use Rattle.mesa_history_spec.specs.mesa_schema.Changes.{Lineage, columns_at, epoch_of}
 use Rattle.mesa_history_spec.specs.mesa_schema.Recasts.{recast_checked, recast_lineage}
 use Rattle.mesa_history_spec.specs.mesa_batch.Totals.{sum_bound, sums_in}

@@ -3,10 +3,10 @@ use Rattle.std.proofs.Common.{◌≡◌, ℕ, suc, ◌+◌, ◌<◌, ◌≤◌, 
 use Rattle.std.specs.Prelude.{IfSome, IsTrue}
 use Rattle.std.specs.List.{AllByRecursion, list_all}
 use Rattle.std.proofs.lemmas.List.{length-map}
-use Rattle.mesa_history_spec.specs.mesa_schema.declared.columns.KeyColumn.{KeyColumn}
-use Rattle.mesa_history_spec.specs.mesa_schema.declared.columns.ValueColumn.{ValueColumn}
-use Rattle.mesa_history_spec.specs.mesa_schema.declared.views.ViewError.TheVariants.{NoKey, NoValue}
-use Rattle.mesa_history_spec.specs.mesa_schema.Columns.{key_names, value_names}
+use Rattle.mesa_history_spec.specs.mesa_columns.declared.columns.KeyColumn.{KeyColumn}
+use Rattle.mesa_history_spec.specs.mesa_columns.declared.columns.ValueColumn.{ValueColumn}
+use Rattle.mesa_history_spec.specs.mesa_columns.declared.views.ViewError.TheVariants.{NoKey, NoValue}
+use Rattle.mesa_history_spec.specs.mesa_columns.Columns.{key_names, value_names}
 use Rattle.mesa_history_spec.specs.mesa_schema.Changes.{columns_of, epoch_of}
 use Rattle.mesa_history_spec.specs.mesa_schema.Recasts.{Recast, recast_checked, recast_columns, recast_lineage}
 use Rattle.mesa_history_spec.proofs.mesa_schema.ChosenAgain.{choice_there, names_chosen}

@@ -3,17 +3,17 @@ use Rattle.std.proofs.Common.{◌≡◌, ℕ, List, [], ◌∷◌, ◌++◌, map
 use Rattle.std.specs.Prelude.{IfSome}
 use Rattle.std.specs.List.{AllByRecursion, list_all}
 use Rattle.std.proofs.lemmas.Bool.{and_parts}
-use Rattle.mesa_history_spec.specs.mesa_schema.declared.views.View.{View}
+use Rattle.mesa_history_spec.specs.mesa_columns.declared.views.View.{View}
 use Rattle.mesa_history_spec.specs.mesa_schema.Changes.{Lineage, columns_of}
-use Rattle.mesa_history_spec.specs.mesa_schema.Folded.{rows_of}
+use Rattle.mesa_history_spec.specs.mesa_fold.Folded.{rows_of}
 use Rattle.mesa_history_spec.specs.mesa_schema.Laws.{Outlasts}
 use Rattle.mesa_history_spec.specs.mesa_schema.Lineages.{is_view_of}
 use Rattle.mesa_history_spec.specs.mesa_schema.Recasts.{IsRecastOf, Recast, keeps_view, recast_lineage}
-use Rattle.mesa_history_spec.specs.mesa_schema.Rows.{AreRowsOf}
+use Rattle.mesa_history_spec.specs.mesa_columns.Rows.{AreRowsOf}
 use Rattle.mesa_history_spec.specs.mesa_schema.Views.{view_rows}
 use Rattle.mesa_history_spec.specs.mesa_batch.Totals.{AreAtMost, abs_totals, totals_recast}
 use Rattle.mesa_history_spec.proofs.mesa_batch.RecastTotals.{totals_last}
-use Rattle.mesa_history_spec.proofs.mesa_schema.Lists.{all_both, all_got, all_so}
+use Rattle.mesa_history_spec.proofs.mesa_columns.Lists.{all_both, all_got, all_so}
 use Rattle.mesa_history_spec.proofs.mesa_schema.Outlasting.{outlasts}
 use Rattle.mesa_record.specs.declared.record.Files.{Files}
 use Rattle.mesa_record.specs.declared.record.ViewRef.{ViewRef}

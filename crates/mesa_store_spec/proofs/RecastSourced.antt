@@ -1,13 +1,13 @@
 -- What the deltas of a table that is recast were made of: what was written of it, regrouped.
 use Rattle.std.proofs.Common.{◌≡◌, ℕ, ◌+◌, ◌<◌, List, [], ◌∷◌, map, length, refl, sym, ◌∙◌, ap, subst, arith, Option, Some, None, cond, true, false, Bool}
 use Rattle.std.specs.Prelude.{IfSome}
-use Rattle.mesa_history_spec.specs.mesa_schema.Columns.{aggs_of}
+use Rattle.mesa_history_spec.specs.mesa_columns.Columns.{aggs_of}
 use Rattle.mesa_history_spec.specs.mesa_schema.Changes.{Lineage, columns_of, epoch_of}
-use Rattle.mesa_history_spec.specs.mesa_schema.Folded.{folded}
+use Rattle.mesa_history_spec.specs.mesa_fold.Folded.{folded}
 use Rattle.mesa_history_spec.specs.mesa_schema.Recasts.{IsRecastOf, Recast, recast_lineage, recast_rows}
-use Rattle.mesa_history_spec.specs.mesa_schema.Rows.{AreRowsOf}
+use Rattle.mesa_history_spec.specs.mesa_columns.Rows.{AreRowsOf}
 use Rattle.mesa_history_spec.proofs.mesa_schema.LineageRecasts.{columns_first}
-use Rattle.mesa_history_spec.proofs.mesa_schema.Lists.{all_map, all_so}
+use Rattle.mesa_history_spec.proofs.mesa_columns.Lists.{all_map, all_so}
 use Rattle.mesa_history_spec.proofs.mesa_schema.Recasting.{recast_folds, recast_form}
 use Rattle.mesa_history_spec.specs.mesa_span.Ranges.{Rise}
 use Rattle.mesa_history_spec.specs.Sources.{Source, Written, range_rows, source_recast, source_written, sources_from, version_written, written_recast}

@@ -4,17 +4,18 @@ use Rattle.std.proofs.lemmas.Bool.Decides.{nat_tests}
 use Rattle.std.proofs.lemmas.List.{map-append}
 use Rattle.std.specs.Prelude.{option_map, unwrap_or, IfSome}
 use Rattle.std.specs.List.{AllByRecursion, cons_option, list_all, range_with_len}
-use Rattle.mesa_history_spec.specs.mesa_schema.declared.columns.KeyColumn.{KeyColumn}
-use Rattle.mesa_history_spec.specs.mesa_schema.declared.columns.ValueColumn.{ValueColumn}
-use Rattle.mesa_history_spec.specs.mesa_schema.declared.changes.Change.{Change}
-use Rattle.mesa_history_spec.specs.mesa_schema.declared.changes.Change.TheVariants.{AddKey, AddValue, DropValue}
-use Rattle.mesa_history_spec.specs.mesa_schema.Columns.{Columns, aggs_of, chosen, place_of, value_names}
-use Rattle.mesa_history_spec.specs.mesa_schema.Schema.{is_schema}
-use Rattle.mesa_history_spec.specs.mesa_schema.Changes.{changed, columns_after, columns_of, epoch_of}
+use Rattle.mesa_history_spec.specs.mesa_columns.declared.columns.KeyColumn.{KeyColumn}
+use Rattle.mesa_history_spec.specs.mesa_columns.declared.columns.ValueColumn.{ValueColumn}
+use Rattle.mesa_history_spec.specs.mesa_columns.declared.changes.Change.{Change}
+use Rattle.mesa_history_spec.specs.mesa_columns.declared.changes.Change.TheVariants.{AddKey, AddValue, DropValue}
+use Rattle.mesa_history_spec.specs.mesa_columns.Columns.{Columns, aggs_of, chosen, place_of, value_names}
+use Rattle.mesa_history_spec.specs.mesa_columns.Schema.{is_schema}
+use Rattle.mesa_history_spec.specs.mesa_columns.Changes.{changed, columns_after}
+use Rattle.mesa_history_spec.specs.mesa_schema.Changes.{columns_of, epoch_of}
 use Rattle.mesa_history_spec.specs.mesa_schema.Recasts.{recast_keys, recast_values}
 use Rattle.mesa_history_spec.proofs.mesa_schema.LineageRules.{present_schema}
 use Rattle.mesa_history_spec.proofs.mesa_schema.SchemaChanges.{schema_rules}
-use Rattle.mesa_history_spec.proofs.mesa_schema.Lists.{all_append, all_drop, all_map, all_replicate, all_so}
+use Rattle.mesa_history_spec.proofs.mesa_columns.Lists.{all_append, all_drop, all_map, all_replicate, all_so}
 use Rattle.mesa_history_spec.specs.mesa_batch.Totals.{sum_bound}
 use Rattle.mesa_history_spec.proofs.mesa_batch.FewTotals.{few_sums}
 use Rattle.mesa_history_spec.specs.mesa_span.Ranges.{base_before, end_of, start_behind}

@@ -4,7 +4,7 @@ use Rattle.std.proofs.Common.{◌≡◌, refl, ℕ, List, [], ◌∷◌, ◌++�
 use Rattle.std.specs.Prelude.{pos, codes, ◌==◌, if◌then◌else◌}
 use Rattle.mesa_delta.specs.mesa_value.declared.Agg.TheVariants as agg
 use Rattle.mesa_delta.specs.mesa_key.declared.KeyType.TheVariants as kind
-use Rattle.mesa_history_spec.specs.mesa_schema.declared.rows.Row.{Row}
+use Rattle.mesa_history_spec.specs.mesa_columns.declared.rows.Row.{Row}
 use Rattle.mesa_history_spec.specs.mesa_schema.Changes.{Lineage}
 use Rattle.mesa_history_spec.specs.mesa_file.declared.file_ref.FileRef.{FileRef}
 use Rattle.mesa_record.specs.mesa_record_fields.Reading.{file_ref_at}

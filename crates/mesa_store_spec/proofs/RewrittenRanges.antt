@@ -3,13 +3,13 @@ use Rattle.std.proofs.Common.{◌≡◌, ℕ, ◌+◌, ◌-◌, ◌<◌, ◌≤�
 use Rattle.std.specs.Prelude.{IfSome, IsTrue, option_map, ⊤}
 use Rattle.std.specs.List.{AllByRecursion, list_all}
 use Rattle.std.proofs.lemmas.Bool.{and_from, and_parts, eq-eqb, eqb-true}
-use Rattle.mesa_history_spec.specs.mesa_schema.declared.views.View.{View}
+use Rattle.mesa_history_spec.specs.mesa_columns.declared.views.View.{View}
 use Rattle.mesa_history_spec.specs.mesa_schema.Changes.{Lineage, columns_at, columns_of, epoch_of, lifted}
 use Rattle.mesa_history_spec.specs.mesa_schema.Laws.{Outlasts}
 use Rattle.mesa_history_spec.specs.mesa_schema.Recasts.{Recast, recast_checked, recast_columns, recast_lineage, recast_rows}
 use Rattle.mesa_history_spec.specs.mesa_batch.Totals.{abs_totals}
 use Rattle.mesa_history_spec.proofs.mesa_schema.LineageRecasts.{columns_first, recast_allowed}
-use Rattle.mesa_history_spec.proofs.mesa_schema.Lists.{all_append, all_got}
+use Rattle.mesa_history_spec.proofs.mesa_columns.Lists.{all_append, all_got}
 use Rattle.mesa_history_spec.specs.Sources.{Written, range_rows, sources_from}
 use Rattle.mesa_history_spec.specs.mesa_file.declared.file_ref.FileRef.{FileRef}
 use Rattle.mesa_record.specs.declared.record.Files.{Files}

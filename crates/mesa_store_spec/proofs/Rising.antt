@@ -8,11 +8,11 @@ use Rattle.std.specs.declared.cmp.Ordering.TheVariants.{Less, Equal, Greater}
 use Rattle.std.specs.Cmp.Lexicographic.{nat_list_cmp_total}
 use Rattle.mesa_delta.specs.mesa_value.declared.Agg.{Agg}
 use Rattle.mesa_delta.specs.mesa_key.Order.{byte_cmp}
-use Rattle.mesa_history_spec.specs.mesa_schema.declared.rows.Row.{Row}
-use Rattle.mesa_history_spec.specs.mesa_schema.Folded.{folded}
-use Rattle.mesa_history_spec.specs.mesa_schema.Laws.{AreUnder}
-use Rattle.mesa_history_spec.specs.mesa_schema.Rows.{keys_rise}
-use Rattle.mesa_history_spec.proofs.mesa_schema.SameFolds.{puts_given}
+use Rattle.mesa_history_spec.specs.mesa_columns.declared.rows.Row.{Row}
+use Rattle.mesa_history_spec.specs.mesa_fold.Folded.{folded}
+use Rattle.mesa_history_spec.specs.mesa_fold.Laws.{AreUnder}
+use Rattle.mesa_history_spec.specs.mesa_columns.Rows.{keys_rise}
+use Rattle.mesa_history_spec.proofs.mesa_fold.SameFolds.{puts_given}
 use Rattle.mesa_delta.specs.mesa_block.Rows.{Rise}
 use Rattle.mesa_delta.specs.mesa_block.Spelling.{key_of}
 

@@ -4,11 +4,11 @@ use Rattle.std.proofs.lemmas.Bool.Decides.{nat_tests}
 use Rattle.std.proofs.lemmas.Bool.{leb-false}
 use Rattle.std.specs.Prelude.{option_map}
 use Rattle.std.specs.List.{AllByRecursion, list_all, list_any, range_with_len}
-use Rattle.mesa_history_spec.specs.mesa_schema.Columns.{aggs_of}
-use Rattle.mesa_history_spec.specs.mesa_schema.Names.{repeated}
+use Rattle.mesa_history_spec.specs.mesa_columns.Columns.{aggs_of}
+use Rattle.mesa_history_spec.specs.mesa_columns.Names.{repeated}
 use Rattle.mesa_history_spec.specs.mesa_schema.Changes.{columns_of, epoch_of}
-use Rattle.mesa_history_spec.proofs.mesa_schema.Lists.{all_found}
-use Rattle.mesa_history_spec.proofs.mesa_schema.Maps.{is_some_position}
+use Rattle.mesa_history_spec.proofs.mesa_columns.Lists.{all_found}
+use Rattle.mesa_history_spec.proofs.mesa_columns.Maps.{is_some_position}
 use Rattle.mesa_history_spec.specs.mesa_batch.Totals.{over_bound, sum_bound, totals_with}
 use Rattle.mesa_history_spec.specs.mesa_span.declared.works.Work.TheVariants as work
 use Rattle.mesa_history_spec.specs.mesa_span.Ranges.{end_of}

@@ -3,7 +3,7 @@ use Rattle.std.proofs.Common.{◌≡◌, ℕ, zero, suc, ◌<◌, ◌≤◌, Lis
 use Rattle.std.specs.Prelude.{IfSome}
 use Rattle.std.specs.List.{AllByRecursion}
 use Rattle.mesa_delta.specs.mesa_value.declared.Agg.{Agg}
-use Rattle.mesa_history_spec.specs.mesa_schema.Columns.{aggs_of}
+use Rattle.mesa_history_spec.specs.mesa_columns.Columns.{aggs_of}
 use Rattle.mesa_history_spec.specs.mesa_schema.Changes.{Lineage, columns_of, epoch_of}
 use Rattle.mesa_history_spec.specs.mesa_schema.Recasts.{recast_lineage, recast_values}
 use Rattle.mesa_history_spec.specs.mesa_batch.Totals.{chosen_totals, is_sum, sum_bound, sums_in, with_total}

@@ -8,19 +8,20 @@ use Rattle.std.specs.Prelude.{option_map, unwrap_or}
 use Rattle.std.specs.List.{AllByRecursion}
 use Rattle.mesa_delta.specs.mesa_value.declared.Agg.{Agg}
 use Rattle.mesa_delta.specs.mesa_value.declared.Agg.TheVariants as agg
-use Rattle.mesa_history_spec.specs.mesa_schema.declared.columns.ValueColumn.{ValueColumn}
-use Rattle.mesa_history_spec.specs.mesa_schema.declared.views.View.{View}
-use Rattle.mesa_history_spec.specs.mesa_schema.declared.changes.Change.{Change}
-use Rattle.mesa_history_spec.specs.mesa_schema.declared.changes.Change.TheVariants.{AddKey, AddValue, DropValue}
-use Rattle.mesa_history_spec.specs.mesa_schema.Names.{has_name, repeated}
-use Rattle.mesa_history_spec.specs.mesa_schema.Columns.{Columns, aggs_of, value_names, place_of}
-use Rattle.mesa_history_spec.specs.mesa_schema.Schema.{is_schema}
-use Rattle.mesa_history_spec.specs.mesa_schema.Changes.{changed, change_checked, columns_of, epoch_of, rule_checked, with_change}
+use Rattle.mesa_history_spec.specs.mesa_columns.declared.columns.ValueColumn.{ValueColumn}
+use Rattle.mesa_history_spec.specs.mesa_columns.declared.views.View.{View}
+use Rattle.mesa_history_spec.specs.mesa_columns.declared.changes.Change.{Change}
+use Rattle.mesa_history_spec.specs.mesa_columns.declared.changes.Change.TheVariants.{AddKey, AddValue, DropValue}
+use Rattle.mesa_history_spec.specs.mesa_columns.Names.{has_name, repeated}
+use Rattle.mesa_history_spec.specs.mesa_columns.Columns.{Columns, aggs_of, value_names, place_of}
+use Rattle.mesa_history_spec.specs.mesa_columns.Schema.{is_schema}
+use Rattle.mesa_history_spec.specs.mesa_columns.Changes.{changed}
+use Rattle.mesa_history_spec.specs.mesa_schema.Changes.{change_checked, columns_of, epoch_of, rule_checked, with_change}
 use Rattle.mesa_history_spec.specs.mesa_schema.Views.{max_views, view_checked}
 use Rattle.mesa_history_spec.specs.mesa_schema.Lineages.{HasDefault}
 use Rattle.mesa_history_spec.proofs.mesa_schema.Apart.{apart, apart_insert, unrepeated}
 use Rattle.mesa_history_spec.proofs.mesa_schema.LineageChanges.{lineage_changed, lineage_new, lineage_viewed}
-use Rattle.mesa_history_spec.proofs.mesa_schema.Lists.{all_append, all_drop, all_replicate, all_set, all_so}
+use Rattle.mesa_history_spec.proofs.mesa_columns.Lists.{all_append, all_drop, all_replicate, all_set, all_so}
 use Rattle.mesa_history_spec.proofs.mesa_schema.Passing.{passed_first}
 use Rattle.mesa_history_spec.proofs.mesa_schema.PresentRows.{columns_more}
 use Rattle.mesa_history_spec.specs.mesa_batch.Totals.{is_sum, sum_bound, sum_places, sums_in, totals_after, totals_without}

@@ -3,7 +3,7 @@ use Rattle.std.proofs.Common.{◌≡◌, inl, inr, ℕ, suc, ◌+◌, ◌-◌, �
 use Rattle.std.specs.Prelude.{flat_map, max}
 use Rattle.std.proofs.lemmas.List.{length-map, map-append}
 use Rattle.std.specs.List.{AllByRecursion}
-use Rattle.mesa_history_spec.specs.mesa_schema.Columns.{aggs_of}
+use Rattle.mesa_history_spec.specs.mesa_columns.Columns.{aggs_of}
 use Rattle.mesa_history_spec.specs.mesa_schema.Changes.{columns_of, epoch_of}
 use Rattle.mesa_history_spec.specs.mesa_batch.Totals.{sum_bound, totals_with}
 use Rattle.mesa_history_spec.specs.mesa_batch.Totals.{sums_in}
@@ -15,9 +15,9 @@ use Rattle.mesa_record.specs.declared.record.Record.TheVariants as record_of
 use Rattle.mesa_store_spec.specs.Catalog.{Delta, Ending, TableMeta, Catalog, start_in, ranges_of, meta_from, meta_loaded, meta_swapped, applied, empty_delta, part_delta}
 use Rattle.mesa_store_spec.specs.Fitting.{base_deltas, delta_in, deltas_of, names_in}
 use Rattle.mesa_history_spec.specs.mesa_model.Warehouse.{max_tables}
-use Rattle.mesa_history_spec.specs.mesa_schema.Names.{repeated}
+use Rattle.mesa_history_spec.specs.mesa_columns.Names.{repeated}
 use Rattle.mesa_store_spec.specs.Shape.{HasBegun, HasBegunIfAny, IsShaped, IsCatalog, IsWithinBound, merged_deltas}
-use Rattle.mesa_history_spec.proofs.mesa_schema.Lists.{all_append, all_drop, all_map, all_so}
+use Rattle.mesa_history_spec.proofs.mesa_columns.Lists.{all_append, all_drop, all_map, all_so}
 use Rattle.mesa_store_spec.proofs.Lists.{all_front, all_back}
 use Rattle.mesa_store_spec.proofs.Kept.{ranges_swapped}
 

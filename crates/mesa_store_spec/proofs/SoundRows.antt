@@ -7,14 +7,15 @@ use Rattle.std.specs.Prelude.{pos, nat_abs, slice_index_or}
 use Rattle.std.specs.List.{AllByRecursion}
 use Rattle.mesa_delta.specs.mesa_value.declared.Agg.{Agg}
 use Rattle.mesa_delta.specs.mesa_value.declared.Agg.TheVariants.{Sum, Min, Max, Replace}
-use Rattle.mesa_history_spec.specs.mesa_schema.declared.rows.Row.{Row}
-use Rattle.mesa_history_spec.specs.mesa_schema.declared.columns.ValueColumn.{ValueColumn}
-use Rattle.mesa_history_spec.specs.mesa_schema.Columns.{Columns, aggs_of}
-use Rattle.mesa_history_spec.specs.mesa_schema.Changes.{Lineage, columns_after, columns_at, columns_of, epoch_of}
-use Rattle.mesa_history_spec.specs.mesa_schema.Folded.{folded, rows_of}
-use Rattle.mesa_history_spec.specs.mesa_schema.Rows.{AreRowsOf, IsRowOf}
-use Rattle.mesa_history_spec.specs.mesa_schema.Laws.{AreFull}
-use Rattle.mesa_history_spec.proofs.mesa_schema.Lists.{all_append, all_both, all_drop, all_so}
+use Rattle.mesa_history_spec.specs.mesa_columns.declared.rows.Row.{Row}
+use Rattle.mesa_history_spec.specs.mesa_columns.declared.columns.ValueColumn.{ValueColumn}
+use Rattle.mesa_history_spec.specs.mesa_columns.Columns.{Columns, aggs_of}
+use Rattle.mesa_history_spec.specs.mesa_columns.Changes.{columns_after}
+use Rattle.mesa_history_spec.specs.mesa_schema.Changes.{Lineage, columns_at, columns_of, epoch_of}
+use Rattle.mesa_history_spec.specs.mesa_fold.Folded.{folded, rows_of}
+use Rattle.mesa_history_spec.specs.mesa_columns.Rows.{AreRowsOf, IsRowOf}
+use Rattle.mesa_history_spec.specs.mesa_fold.Laws.{AreFull}
+use Rattle.mesa_history_spec.proofs.mesa_columns.Lists.{all_append, all_both, all_drop, all_so}
 use Rattle.mesa_history_spec.specs.mesa_batch.Totals.{AreAtMost, abs_total, abs_totals, sum_places, totals_with}
 use Rattle.mesa_history_spec.proofs.mesa_batch.Merged.{folds_totals}
 use Rattle.mesa_record.specs.declared.record.Part.{Part}

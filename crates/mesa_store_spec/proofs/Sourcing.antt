@@ -3,14 +3,14 @@ use Rattle.std.proofs.Common.{◌≡◌, ℕ, zero, suc, ◌+◌, ◌-◌, ◌<�
 use Rattle.std.specs.Prelude.{IfSome}
 use Rattle.std.proofs.lemmas.List.{map-append}
 use Rattle.std.specs.List.{AllByRecursion}
-use Rattle.mesa_history_spec.specs.mesa_schema.declared.rows.Row.{Row}
-use Rattle.mesa_history_spec.specs.mesa_schema.declared.changes.Change.{Change}
-use Rattle.mesa_history_spec.specs.mesa_schema.Columns.{aggs_of}
+use Rattle.mesa_history_spec.specs.mesa_columns.declared.rows.Row.{Row}
+use Rattle.mesa_history_spec.specs.mesa_columns.declared.changes.Change.{Change}
+use Rattle.mesa_history_spec.specs.mesa_columns.Columns.{aggs_of}
 use Rattle.mesa_history_spec.specs.mesa_schema.Changes.{Lineage, columns_of, epoch_of, lifted, with_change}
-use Rattle.mesa_history_spec.specs.mesa_schema.Folded.{folded}
+use Rattle.mesa_history_spec.specs.mesa_fold.Folded.{folded}
 use Rattle.mesa_history_spec.specs.mesa_schema.Lineages.{HasDefault, IsLineage}
-use Rattle.mesa_history_spec.proofs.mesa_schema.Lists.{all_append, all_both, all_filter, all_map, all_so}
-use Rattle.mesa_history_spec.proofs.mesa_schema.Refolds.{refolded}
+use Rattle.mesa_history_spec.proofs.mesa_columns.Lists.{all_append, all_both, all_filter, all_map, all_so}
+use Rattle.mesa_history_spec.proofs.mesa_fold.Refolds.{refolded}
 use Rattle.mesa_history_spec.specs.mesa_span.Ranges.{Rise}
 use Rattle.mesa_history_spec.specs.Sources.{Written, range_rows, source_written, sources_from, version_written}
 use Rattle.mesa_record.specs.declared.record.Part.{Part}

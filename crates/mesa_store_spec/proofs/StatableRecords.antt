@@ -2,8 +2,8 @@
 use Rattle.std.proofs.Common.{inl, inr, ℕ, zero, suc, ◌+◌, ◌-◌, List, [], ◌∷◌, map, replicate, Option, Some, None, Bool, true, false, refl, slice_index_or}
 use Rattle.std.specs.Prelude.{option_map, IfSome}
 use Rattle.std.specs.List.{AllByRecursion}
-use Rattle.mesa_history_spec.specs.mesa_schema.Columns.{Columns}
-use Rattle.mesa_history_spec.proofs.mesa_schema.Lists.{all_append, all_drop, all_map, all_set, all_so, all_replicate}
+use Rattle.mesa_history_spec.specs.mesa_columns.Columns.{Columns}
+use Rattle.mesa_history_spec.proofs.mesa_columns.Lists.{all_append, all_drop, all_map, all_set, all_so, all_replicate}
 use Rattle.mesa_history_spec.specs.mesa_span.Ranges.{base_before}
 use Rattle.mesa_record.specs.declared.record.Files.{Files}
 use Rattle.mesa_record.specs.declared.record.Part.{Part}

@@ -4,9 +4,10 @@ use Rattle.std.proofs.lemmas.Bool.Decides.{nat_tests}
 use Rattle.std.proofs.lemmas.List.Sums.{sum_by-cons}
 use Rattle.std.specs.Prelude.{option_map, IfSome}
 use Rattle.std.specs.List.{AllByRecursion, list_all, range_with_len}
-use Rattle.mesa_history_spec.specs.mesa_schema.Columns.{aggs_of}
-use Rattle.mesa_history_spec.specs.mesa_schema.Schema.{is_schema}
-use Rattle.mesa_history_spec.specs.mesa_schema.Changes.{Lineage, columns_after, columns_at, columns_of, epoch_of, max_changes}
+use Rattle.mesa_history_spec.specs.mesa_columns.Columns.{aggs_of}
+use Rattle.mesa_history_spec.specs.mesa_columns.Schema.{is_schema}
+use Rattle.mesa_history_spec.specs.mesa_columns.Changes.{columns_after}
+use Rattle.mesa_history_spec.specs.mesa_schema.Changes.{Lineage, columns_at, columns_of, epoch_of, max_changes}
 use Rattle.mesa_history_spec.specs.mesa_schema.Views.{max_views}
 use Rattle.mesa_history_spec.specs.mesa_schema.Lineages.{is_view_of}
 use Rattle.mesa_history_spec.specs.mesa_batch.Totals.{sum_bound, sums_in}
@@ -17,7 +18,7 @@ use Rattle.mesa_store_spec.specs.Catalog.{Delta, Ending, TableMeta, Catalog, end
 use Rattle.mesa_store_spec.specs.Fitting.{base_deltas, delta_in, files_fit_if_any, has_epoch, max_runs, run_of_id}
 use Rattle.mesa_store_spec.specs.Shape.{HasBegun, HasBegunIfAny, IsShaped, IsCatalog, IsWithinBound}
 use Rattle.mesa_store_spec.specs.Ids.{HasOwnIds, named, times}
-use Rattle.mesa_history_spec.proofs.mesa_schema.Lists.{all_so}
+use Rattle.mesa_history_spec.proofs.mesa_columns.Lists.{all_so}
 use Rattle.mesa_store_spec.proofs.Lists.{all_back, all_front}
 use Rattle.mesa_record.specs.declared.checkpoint.CheckpointSingle.{CheckpointSingle}
 use Rattle.mesa_store_spec.specs.Checkpoint.{stated, stating_range, stating_single, stating_singles, stating_table, checkpoint_of, to_stated}

@@ -8,17 +8,18 @@ use Rattle.mesa_history_spec.specs.mesa_list.Checks.{◌>>◌, refuse_if}
 use Rattle.std.specs.Prelude.{option_map}
 use Rattle.std.specs.List.{AllByRecursion, list_all, range_with_len}
 use Rattle.std.proofs.lemmas.List.{take_all}
-use Rattle.mesa_history_spec.specs.mesa_schema.declared.changes.Change.{Change}
-use Rattle.mesa_history_spec.specs.mesa_schema.declared.changes.Change.TheVariants.{AddKey, AddValue, DropValue}
-use Rattle.mesa_history_spec.specs.mesa_schema.declared.changes.ChangeError.TheVariants.{EpochsFull}
-use Rattle.mesa_history_spec.specs.mesa_schema.declared.views.View.{View}
-use Rattle.mesa_history_spec.specs.mesa_schema.Columns.{Columns, aggs_of}
-use Rattle.mesa_history_spec.specs.mesa_schema.Schema.{is_schema}
-use Rattle.mesa_history_spec.specs.mesa_schema.Changes.{Lineage, changed, change_checked, columns_after, columns_at, columns_of, epoch_of, max_changes, rule_checked}
+use Rattle.mesa_history_spec.specs.mesa_columns.declared.changes.Change.{Change}
+use Rattle.mesa_history_spec.specs.mesa_columns.declared.changes.Change.TheVariants.{AddKey, AddValue, DropValue}
+use Rattle.mesa_history_spec.specs.mesa_columns.declared.changes.ChangeError.TheVariants.{EpochsFull}
+use Rattle.mesa_history_spec.specs.mesa_columns.declared.views.View.{View}
+use Rattle.mesa_history_spec.specs.mesa_columns.Columns.{Columns, aggs_of}
+use Rattle.mesa_history_spec.specs.mesa_columns.Schema.{is_schema}
+use Rattle.mesa_history_spec.specs.mesa_columns.Changes.{changed, columns_after}
+use Rattle.mesa_history_spec.specs.mesa_schema.Changes.{Lineage, change_checked, columns_at, columns_of, epoch_of, max_changes, rule_checked}
 use Rattle.mesa_history_spec.specs.mesa_schema.Views.{max_views}
 use Rattle.mesa_history_spec.specs.mesa_schema.Lineages.{IsLineage, is_view_of}
 use Rattle.mesa_history_spec.proofs.mesa_schema.LineageChanges.{lineage_changed, lineage_viewed}
-use Rattle.mesa_history_spec.proofs.mesa_schema.Lists.{all_append, all_replicate, all_so}
+use Rattle.mesa_history_spec.proofs.mesa_columns.Lists.{all_append, all_replicate, all_so}
 use Rattle.mesa_history_spec.proofs.mesa_schema.PresentRows.{columns_more}
 use Rattle.mesa_history_spec.specs.mesa_batch.Totals.{sum_bound, sums_in}
 use Rattle.mesa_history_spec.specs.mesa_span.Ranges.{start_behind, end_of, ends_of_tens, IsReachable}

@@ -4,13 +4,13 @@ use Rattle.std.proofs.lemmas.List.{map-append}
 use Rattle.std.specs.Prelude.{option_map}
 use Rattle.std.specs.List.{AllByRecursion, range_with_len}
 use Rattle.mesa_delta.specs.mesa_value.declared.Agg.{Agg}
-use Rattle.mesa_history_spec.specs.mesa_schema.declared.rows.Row.{Row}
-use Rattle.mesa_history_spec.specs.mesa_schema.declared.columns.KeyColumn.{KeyColumn}
-use Rattle.mesa_history_spec.specs.mesa_schema.declared.columns.ValueColumn.{ValueColumn}
-use Rattle.mesa_history_spec.specs.mesa_schema.Columns.{Columns, aggs_of}
+use Rattle.mesa_history_spec.specs.mesa_columns.declared.rows.Row.{Row}
+use Rattle.mesa_history_spec.specs.mesa_columns.declared.columns.KeyColumn.{KeyColumn}
+use Rattle.mesa_history_spec.specs.mesa_columns.declared.columns.ValueColumn.{ValueColumn}
+use Rattle.mesa_history_spec.specs.mesa_columns.Columns.{Columns, aggs_of}
 use Rattle.mesa_history_spec.specs.mesa_schema.Changes.{Lineage, epoch_of, lifted}
-use Rattle.mesa_history_spec.specs.mesa_schema.Folded.{folded, folded_at, keys_of, rows_of}
-use Rattle.mesa_history_spec.proofs.mesa_schema.Lists.{all_append, all_replicate, all_so}
+use Rattle.mesa_history_spec.specs.mesa_fold.Folded.{folded, folded_at, keys_of, rows_of}
+use Rattle.mesa_history_spec.proofs.mesa_columns.Lists.{all_append, all_replicate, all_so}
 use Rattle.mesa_history_spec.specs.mesa_batch.Totals.{AreAtMost, abs_total, abs_totals, sum_places}
 use Rattle.mesa_history_spec.specs.mesa_span.Ranges.{base_before}
 use Rattle.mesa_record.specs.declared.record.Files.{Files}

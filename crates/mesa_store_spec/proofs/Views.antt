@@ -2,10 +2,10 @@
 use Rattle.std.proofs.Common.{◌≡◌, ℕ, zero, suc, ◌<◌, ◌≤◌, List, [], ◌∷◌, ◌++◌, map, length, flat_map, Option, Some, None, refl, sym, ◌∙◌, ap, subst, slice_get, slice_index_or, slice_set, arith}
 use Rattle.std.proofs.lemmas.List.{map-set}
 use Rattle.std.specs.List.{AllByRecursion}
-use Rattle.mesa_history_spec.specs.mesa_schema.declared.views.View.{View}
+use Rattle.mesa_history_spec.specs.mesa_columns.declared.views.View.{View}
 use Rattle.mesa_history_spec.specs.mesa_schema.Changes.{Lineage, columns_at, columns_of}
 use Rattle.mesa_history_spec.specs.mesa_schema.Views.{with_view}
-use Rattle.mesa_history_spec.proofs.mesa_schema.Lists.{all_set, all_so, map_at}
+use Rattle.mesa_history_spec.proofs.mesa_columns.Lists.{all_set, all_so, map_at}
 use Rattle.mesa_history_spec.specs.mesa_model.Warehouse.{no_table, table_at}
 use Rattle.mesa_record.specs.declared.record.Files.{Files}
 use Rattle.mesa_record.specs.declared.record.ViewRef.{ViewRef}

@@ -26,7 +26,7 @@ use Rattle.mesa_store_spec.proofs.StatableRecords.{applied_so, stated_so}
 use Rattle.mesa_store_spec.proofs.StatedShape.{stated_owns, stated_shaped}
 use Rattle.mesa_store_spec.proofs.CountedRecords.{fits_counted, stated_counted}
 use Rattle.mesa_store_spec.proofs.Recordable.{applied_recordable, stated_recordable}
-use Rattle.mesa_history_spec.proofs.mesa_schema.Lists.{all_so}
+use Rattle.mesa_history_spec.proofs.mesa_columns.Lists.{all_so}
 use Rattle.mesa_store_spec.specs.Shape.{IsCatalog}
 use Rattle.mesa_store_spec.specs.Ids.{HasOwnIds}
 use Rattle.mesa_store_spec.proofs.OneMore.{checkpoint_is}

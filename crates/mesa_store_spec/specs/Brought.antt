@@ -1,10 +1,10 @@
 -- What is asked of the rows that a record brings, so that the catalogue after it stands for the next state.
 use Rattle.std.specs.Prelude.{◌≡◌, ℕ, ◌+◌, ◌-◌, List, [], ◌∷◌, map, take, Option, Some, None, IfSome, Bool, true, false, ⊤}
 use Rattle.std.specs.List.{AllByRecursion}
-use Rattle.mesa_history_spec.specs.mesa_schema.declared.rows.Row.{Row}
-use Rattle.mesa_history_spec.specs.mesa_schema.Columns.{aggs_of}
+use Rattle.mesa_history_spec.specs.mesa_columns.declared.rows.Row.{Row}
+use Rattle.mesa_history_spec.specs.mesa_columns.Columns.{aggs_of}
 use Rattle.mesa_history_spec.specs.mesa_schema.Changes.{Lineage, columns_of, epoch_of}
-use Rattle.mesa_history_spec.specs.mesa_schema.Folded.{folded}
+use Rattle.mesa_history_spec.specs.mesa_fold.Folded.{folded}
 use Rattle.mesa_history_spec.specs.mesa_schema.Recasts.{Recast, recast_columns, recast_rows}
 use Rattle.mesa_history_spec.specs.mesa_batch.Batch.{Placed, rows_for}
 use Rattle.mesa_history_spec.specs.mesa_batch.Totals.{abs_totals}

@@ -1,7 +1,7 @@
 -- The catalogue: what the records of a journal say of the tables and their deltas.
 use Rattle.std.specs.Prelude.{ℕ, ◌+◌, ◌-◌, List, [], ◌∷◌, ◌++◌, map, drop, max, replicate, find, Bool, true, false, ◌==◌, Option, Some, None, option_map, slice_index_or, slice_set}
-use Rattle.mesa_history_spec.specs.mesa_schema.declared.changes.Change.{Change}
-use Rattle.mesa_history_spec.specs.mesa_schema.Columns.{Columns, aggs_of}
+use Rattle.mesa_history_spec.specs.mesa_columns.declared.changes.Change.{Change}
+use Rattle.mesa_history_spec.specs.mesa_columns.Columns.{Columns, aggs_of}
 use Rattle.mesa_history_spec.specs.mesa_schema.Changes.{Lineage, columns_of, with_change}
 use Rattle.mesa_history_spec.specs.mesa_schema.Recasts.{Recast, recast_lineage}
 use Rattle.mesa_history_spec.specs.mesa_schema.Views.{with_view}

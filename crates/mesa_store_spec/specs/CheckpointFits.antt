@@ -1,11 +1,12 @@
 -- Which checkpoints fit.
 use Rattle.std.specs.Prelude.{ℕ, ◌+◌, ◌%◌, List, [], ◌∷◌, map, length, flat_map, Bool, true, ◌&&◌, ◌||◌, ◌==◌, nat_le, nat_lt, is_ok, is_none, Option, Some, None}
 use Rattle.std.specs.List.{list_all, count_by}
-use Rattle.mesa_history_spec.specs.mesa_schema.declared.changes.Change.{Change}
-use Rattle.mesa_history_spec.specs.mesa_schema.Names.{repeated}
-use Rattle.mesa_history_spec.specs.mesa_schema.Columns.{Columns}
-use Rattle.mesa_history_spec.specs.mesa_schema.Schema.{is_schema}
-use Rattle.mesa_history_spec.specs.mesa_schema.Changes.{Lineage, changed, columns_at, columns_of, epoch_of, max_changes, rule_checked}
+use Rattle.mesa_history_spec.specs.mesa_columns.declared.changes.Change.{Change}
+use Rattle.mesa_history_spec.specs.mesa_columns.Names.{repeated}
+use Rattle.mesa_history_spec.specs.mesa_columns.Columns.{Columns}
+use Rattle.mesa_history_spec.specs.mesa_columns.Schema.{is_schema}
+use Rattle.mesa_history_spec.specs.mesa_columns.Changes.{changed}
+use Rattle.mesa_history_spec.specs.mesa_schema.Changes.{Lineage, columns_at, columns_of, epoch_of, max_changes, rule_checked}
 use Rattle.mesa_history_spec.specs.mesa_schema.Views.{max_views}
 use Rattle.mesa_history_spec.specs.mesa_schema.Lineages.{is_view_of}
 use Rattle.mesa_delta.specs.mesa_disk.declared.area.Area.{Area}

@@ -1,7 +1,7 @@
 -- What every catalogue keeps, so that its checkpoint fits.
 use Rattle.std.specs.Prelude.{◌≡◌, ◌≤◌, length, true, IfSome}
 use Rattle.std.specs.List.{AllByRecursion}
-use Rattle.mesa_history_spec.specs.mesa_schema.Columns.{aggs_of}
+use Rattle.mesa_history_spec.specs.mesa_columns.Columns.{aggs_of}
 use Rattle.mesa_history_spec.specs.mesa_schema.Changes.{Lineage, columns_at}
 use Rattle.mesa_history_spec.specs.mesa_batch.Totals.{sums_in}
 use Rattle.mesa_store_spec.specs.Catalog.{Delta, TableMeta, Catalog}

@@ -1,11 +1,11 @@
 -- Which records fit a catalogue, and the catalogue of a journal.
 use Rattle.std.specs.Prelude.{ℕ, ◌+◌, ◌-◌, ◌^◌, ◌/◌, List, [], ◌∷◌, ◌++◌, map, length, flat_map, Bool, true, false, not, ◌&&◌, ◌==◌, nat_lt, nat_le, Option, Some, None, is_none, Result, Ok, Err, is_ok, slice_get}
 use Rattle.std.specs.List.{list_all, list_any}
-use Rattle.mesa_history_spec.specs.mesa_schema.declared.views.View.{View}
-use Rattle.mesa_history_spec.specs.mesa_schema.declared.changes.Change.{Change}
-use Rattle.mesa_history_spec.specs.mesa_schema.Names.{has_name}
-use Rattle.mesa_history_spec.specs.mesa_schema.Columns.{Columns, aggs_of}
-use Rattle.mesa_history_spec.specs.mesa_schema.Schema.{is_schema}
+use Rattle.mesa_history_spec.specs.mesa_columns.declared.views.View.{View}
+use Rattle.mesa_history_spec.specs.mesa_columns.declared.changes.Change.{Change}
+use Rattle.mesa_history_spec.specs.mesa_columns.Names.{has_name}
+use Rattle.mesa_history_spec.specs.mesa_columns.Columns.{Columns, aggs_of}
+use Rattle.mesa_history_spec.specs.mesa_columns.Schema.{is_schema}
 use Rattle.mesa_history_spec.specs.mesa_schema.Changes.{Lineage, columns_at, columns_of, epoch_of, change_checked}
 use Rattle.mesa_history_spec.specs.mesa_schema.Recasts.{recast_checked, recast_lineage}
 use Rattle.mesa_history_spec.specs.mesa_schema.Views.{max_views, view_checked, view_columns}

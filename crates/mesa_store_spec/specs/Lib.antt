@@ -1,3 +1,4 @@
+pub use Rattle.mesa_history_spec.specs.mesa_columns as mesa_columns
 pub use Rattle.mesa_commit.specs as mesa_commit
 pub use Rattle.mesa_delta.specs as mesa_delta
 pub use Rattle.mesa_history_spec.specs.mesa_file as mesa_file

@@ -1,8 +1,8 @@
 -- What every catalogue keeps, so that its checkpoint and a recast of its tables are records.
 use Rattle.std.specs.Prelude.{◌≡◌, ℕ, List, length, Bool, true, nat_le, Option, IfSome}
 use Rattle.std.specs.List.{AllByRecursion}
-use Rattle.mesa_history_spec.specs.mesa_schema.declared.columns.KeyColumn.{KeyColumn}
-use Rattle.mesa_history_spec.specs.mesa_schema.declared.columns.ValueColumn.{ValueColumn}
+use Rattle.mesa_history_spec.specs.mesa_columns.declared.columns.KeyColumn.{KeyColumn}
+use Rattle.mesa_history_spec.specs.mesa_columns.declared.columns.ValueColumn.{ValueColumn}
 use Rattle.mesa_record.specs.declared.record.Files.{Files}
 use Rattle.mesa_record.specs.mesa_record_fields.Rules.{IsNamed, IsTotal, IsTypedChange, is_change}
 use Rattle.mesa_record.specs.Rules.{AreTypedFiles, IsTypedStatedView, are_files_if_any, is_stated_view}

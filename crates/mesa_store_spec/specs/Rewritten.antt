@@ -1,9 +1,9 @@
 -- A recast's record, by the ranges that were rewritten.
 use Rattle.std.specs.Prelude.{◌≡◌, ℕ, ◌+◌, ◌≤◌, List, [], ◌∷◌, ◌++◌, length, find, ◌&&◌, ◌==◌, Option, None, Some, IfSome, IsTrue, ⊤}
 use Rattle.std.specs.List.{AllByRecursion}
-use Rattle.mesa_history_spec.specs.mesa_schema.declared.rows.Row.{Row}
+use Rattle.mesa_history_spec.specs.mesa_columns.declared.rows.Row.{Row}
 use Rattle.mesa_history_spec.specs.mesa_schema.Changes.{Lineage, columns_of, epoch_of}
-use Rattle.mesa_history_spec.specs.mesa_schema.Columns.{Columns}
+use Rattle.mesa_history_spec.specs.mesa_columns.Columns.{Columns}
 use Rattle.mesa_history_spec.specs.mesa_schema.Recasts.{Recast, recast_columns, recast_rows}
 use Rattle.mesa_history_spec.specs.mesa_batch.Totals.{abs_totals}
 use Rattle.mesa_history_spec.specs.Sources.{Written, range_rows, sources_from}

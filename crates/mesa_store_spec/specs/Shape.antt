@@ -1,8 +1,8 @@
 -- What every catalogue keeps, whatever records made it.
 use Rattle.std.specs.Prelude.{◌≡◌, ℕ, ◌+◌, ◌<◌, ◌≤◌, ◌⊎◌, List, ◌++◌, length, map, flat_map, IfSome, IsTrue, is_none}
 use Rattle.std.specs.List.{AllByRecursion}
-use Rattle.mesa_history_spec.specs.mesa_schema.Names.{repeated}
-use Rattle.mesa_history_spec.specs.mesa_schema.Columns.{aggs_of}
+use Rattle.mesa_history_spec.specs.mesa_columns.Names.{repeated}
+use Rattle.mesa_history_spec.specs.mesa_columns.Columns.{aggs_of}
 use Rattle.mesa_history_spec.specs.mesa_schema.Changes.{Lineage, columns_of, epoch_of}
 use Rattle.mesa_history_spec.specs.mesa_schema.Lineages.{IsLineage}
 use Rattle.mesa_history_spec.specs.mesa_batch.Totals.{sum_bound, sums_in}

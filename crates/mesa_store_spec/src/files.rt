@@ -15,7 +15,7 @@ ghost use Rattle.mesa_delta.specs.mesa_key.Spelling.{AreBytes};
 ghost use Rattle.mesa_record.specs.declared.record.Record.{Record as RecordOf};
 ghost use Rattle.mesa_record.specs.declared.record.Record.TheVariants as record_of;
 ghost use Rattle.mesa_record.specs.Rules.{keeps_rules};
-ghost use Rattle.mesa_history_spec.specs.mesa_schema.declared.changes.Change.{Change as ChangeOf};
+ghost use Rattle.mesa_history_spec.specs.mesa_columns.declared.changes.Change.{Change as ChangeOf};
 ghost use Rattle.std.specs.List.{AllByRecursion};
 ghost use Rattle.std.specs.Prelude.{◌≡◌, ◌+◌, ◌<◌, ℕ, List, Some, true};
 

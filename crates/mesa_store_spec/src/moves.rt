@@ -16,9 +16,9 @@ ghost use Rattle.mesa_record.specs.declared.record.Part.{Part as PartOf};
 ghost use Rattle.mesa_record.specs.declared.record.Record.TheVariants as record_of;
 ghost use Rattle.mesa_record.specs.declared.recasting.Recasting.{Recasting as RecastingOf};
 ghost use Rattle.mesa_record.specs.mesa_record_fields.Rules.{IsTypedChange};
-ghost use Rattle.mesa_history_spec.specs.mesa_schema.declared.changes.Change.{Change as ChangeOf};
-ghost use Rattle.mesa_history_spec.specs.mesa_schema.declared.columns.KeyColumn.{KeyColumn as KeyOf};
-ghost use Rattle.mesa_history_spec.specs.mesa_schema.declared.columns.ValueColumn.{ValueColumn as ValueOf};
+ghost use Rattle.mesa_history_spec.specs.mesa_columns.declared.changes.Change.{Change as ChangeOf};
+ghost use Rattle.mesa_history_spec.specs.mesa_columns.declared.columns.KeyColumn.{KeyColumn as KeyOf};
+ghost use Rattle.mesa_history_spec.specs.mesa_columns.declared.columns.ValueColumn.{ValueColumn as ValueOf};
 ghost use Rattle.std.specs.Prelude.{◌≡◌, ℕ, Bool, List, Option, true};
 
 /// The beginning of a run moves nothing that is kept.

@@ -16,11 +16,11 @@ ghost use Rattle.mesa_record.specs.declared.record.Record.TheVariants as record_
 ghost use Rattle.mesa_record.specs.declared.recasting.Recasting.{Recasting as RecastingOf};
 ghost use Rattle.mesa_record.specs.mesa_record_fields.Rules.{IsTypedChange};
 ghost use Rattle.mesa_history_spec.specs.mesa_schema.Changes.{columns_of, epoch_of};
-ghost use Rattle.mesa_history_spec.specs.mesa_schema.Columns.{aggs_of};
-ghost use Rattle.mesa_history_spec.specs.mesa_schema.declared.changes.Change.{Change as ChangeOf};
-ghost use Rattle.mesa_history_spec.specs.mesa_schema.declared.columns.KeyColumn.{KeyColumn as KeyOf};
-ghost use Rattle.mesa_history_spec.specs.mesa_schema.declared.columns.ValueColumn.{ValueColumn as ValueOf};
-ghost use Rattle.mesa_history_spec.specs.mesa_schema.Folded.{folded};
+ghost use Rattle.mesa_history_spec.specs.mesa_columns.Columns.{aggs_of};
+ghost use Rattle.mesa_history_spec.specs.mesa_columns.declared.changes.Change.{Change as ChangeOf};
+ghost use Rattle.mesa_history_spec.specs.mesa_columns.declared.columns.KeyColumn.{KeyColumn as KeyOf};
+ghost use Rattle.mesa_history_spec.specs.mesa_columns.declared.columns.ValueColumn.{ValueColumn as ValueOf};
+ghost use Rattle.mesa_history_spec.specs.mesa_fold.Folded.{folded};
 ghost use Rattle.std.specs.Prelude.{◌≡◌, ◌≤◌, ◌<◌, ℕ, Bool, List, Ok, Option, length, map, true};
 
 /// A sound catalogue was made of what a run finds written of it.

@@ -3,10 +3,10 @@ use Rattle.std.proofs.Common.{◌≡◌, ℕ, ◌+◌, ◌≤◌, ◌<◌, List,
 use Rattle.std.specs.Prelude.{◌==◌, ◌&&◌, flat_map, nat_le, nat_lt, option_map}
 use Rattle.std.proofs.lemmas.Bool.Decides.{nat_tests}
 use Rattle.std.proofs.lemmas.Simd.{map-map}
-use Rattle.mesa_schema.specs.declared.columns.KeyColumn.{KeyColumn}
-use Rattle.mesa_schema.specs.declared.columns.ValueColumn.{ValueColumn}
-use Rattle.mesa_schema.specs.declared.views.ViewError.TheVariants.{NoKey, NoValue}
-use Rattle.mesa_schema.specs.Columns.{key_names, value_names}
+use Rattle.mesa_catalog_table.specs.mesa_columns.declared.columns.KeyColumn.{KeyColumn}
+use Rattle.mesa_catalog_table.specs.mesa_columns.declared.columns.ValueColumn.{ValueColumn}
+use Rattle.mesa_catalog_table.specs.mesa_columns.declared.views.ViewError.TheVariants.{NoKey, NoValue}
+use Rattle.mesa_catalog_table.specs.mesa_columns.Columns.{key_names, value_names}
 use Rattle.mesa_schema.specs.Changes.{Lineage, columns_at, columns_of, epoch_of}
 use Rattle.mesa_schema.specs.Recasts.{recast_checked, recast_lineage}
 use Rattle.mesa_schema.proofs.ChosenAgain.{choice_there, names_chosen}

@@ -5,11 +5,11 @@ use Rattle.std.specs.List.{list_all}
 use Rattle.std.proofs.lemmas.Bool.Decides.{nat_tests}
 use Rattle.std.proofs.lemmas.List.{drop_all, drop_more, length-map}
 use Rattle.std.proofs.lemmas.List.Sums.{sum_by-cons}
-use Rattle.mesa_schema.specs.declared.columns.ValueColumn.{ValueColumn}
-use Rattle.mesa_schema.specs.declared.views.View.{View}
-use Rattle.mesa_schema.specs.declared.views.ViewError.TheVariants.{NoValue}
-use Rattle.mesa_schema.specs.Names.{has_name}
-use Rattle.mesa_schema.specs.Columns.{Columns, aggs_of, chosen, places_in, value_names}
+use Rattle.mesa_catalog_table.specs.mesa_columns.declared.columns.ValueColumn.{ValueColumn}
+use Rattle.mesa_catalog_table.specs.mesa_columns.declared.views.View.{View}
+use Rattle.mesa_catalog_table.specs.mesa_columns.declared.views.ViewError.TheVariants.{NoValue}
+use Rattle.mesa_catalog_table.specs.mesa_columns.Names.{has_name}
+use Rattle.mesa_catalog_table.specs.mesa_columns.Columns.{Columns, aggs_of, chosen, places_in, value_names}
 use Rattle.mesa_schema.specs.Changes.{Lineage, columns_at, columns_of}
 use Rattle.mesa_schema.specs.Lineages.{IsLineage, is_view_of}
 use Rattle.mesa_schema.specs.Recasts.{Recast, recast_checked, recast_columns, recast_lineage}

@@ -7,11 +7,12 @@ use Rattle.std.specs.declared.sync.Arc.{Arc}
 use Rattle.std.proofs.lemmas.Bool.Decides.{nat_tests}
 use Rattle.std.proofs.lemmas.List.{length-map, length_push, take_all, take-append-le}
 use Rattle.std.proofs.lemmas.List.FromFn.{map-range_with_len_more}
-use Rattle.mesa_schema.specs.declared.changes.Change.{Change}
-use Rattle.mesa_schema.specs.declared.changes.Change.TheVariants.{AddKey, AddValue, DropValue}
-use Rattle.mesa_schema.specs.declared.views.View.{View}
-use Rattle.mesa_schema.specs.Columns.{Columns, value_names}
-use Rattle.mesa_schema.specs.Changes.{Lineage, columns_after, columns_at, columns_of, drop_rule, epoch_of, rule_checked, with_change}
+use Rattle.mesa_catalog_table.specs.mesa_columns.declared.changes.Change.{Change}
+use Rattle.mesa_catalog_table.specs.mesa_columns.declared.changes.Change.TheVariants.{AddKey, AddValue, DropValue}
+use Rattle.mesa_catalog_table.specs.mesa_columns.declared.views.View.{View}
+use Rattle.mesa_catalog_table.specs.mesa_columns.Columns.{Columns, value_names}
+use Rattle.mesa_catalog_table.specs.mesa_columns.Changes.{columns_after}
+use Rattle.mesa_schema.specs.Changes.{Lineage, columns_at, columns_of, drop_rule, epoch_of, rule_checked, with_change}
 use Rattle.mesa_catalog_table.specs.mesa_span.Ranges.{start_behind}
 use Rattle.mesa_record.specs.declared.checkpoint.CheckpointRange.{CheckpointRange}
 use Rattle.mesa_record.specs.declared.checkpoint.CheckpointSingle.{CheckpointSingle}

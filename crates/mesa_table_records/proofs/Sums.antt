@@ -1,7 +1,7 @@
 -- How many sum columns there were in an epoch.
 use Rattle.std.proofs.Common.{◌≡◌, ℕ, ◌+◌, ◌≤◌, ◌<◌, length, get_or, arith}
 use Rattle.std.proofs.lemmas.List.FromFn.{get_or-map-range_with_len, length-map-range_with_len}
-use Rattle.mesa_schema.specs.Columns.{aggs_of}
+use Rattle.mesa_catalog_table.specs.mesa_columns.Columns.{aggs_of}
 use Rattle.mesa_schema.specs.Changes.{Lineage, columns_at, epoch_of}
 use Rattle.mesa_batch.specs.Totals.{sums_in}
 use Rattle.mesa_table_records.specs.Stated.{sums_of}

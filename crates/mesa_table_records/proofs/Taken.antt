@@ -3,9 +3,10 @@ use Rattle.std.proofs.Common.{◌≡◌, ℕ, ◌+◌, ◌≤◌, suc, List, [],
 use Rattle.std.specs.Prelude.{◌&&◌, is_ok}
 use Rattle.std.specs.List.{list_all, range_with_len}
 use Rattle.std.proofs.lemmas.List.{append-nil, length_push, map_push}
-use Rattle.mesa_schema.specs.declared.changes.Change.{Change}
-use Rattle.mesa_schema.specs.Columns.{Columns}
-use Rattle.mesa_schema.specs.Changes.{Lineage, changed, columns_at, columns_of, epoch_of, max_changes, rule_checked, with_change}
+use Rattle.mesa_catalog_table.specs.mesa_columns.declared.changes.Change.{Change}
+use Rattle.mesa_catalog_table.specs.mesa_columns.Columns.{Columns}
+use Rattle.mesa_catalog_table.specs.mesa_columns.Changes.{changed}
+use Rattle.mesa_schema.specs.Changes.{Lineage, columns_at, columns_of, epoch_of, max_changes, rule_checked, with_change}
 use Rattle.mesa_schema.proofs.PresentRows.{columns_more}
 use Rattle.mesa_catalog_table.specs.mesa_store_spec.CheckpointFits.{changes_pass, plain}
 use Rattle.mesa_table_records.proofs.Restored.{counts_changed, rule_alone}

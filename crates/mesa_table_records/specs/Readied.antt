@@ -1,7 +1,7 @@
 -- What is taken into a table.
 use Rattle.std.specs.Prelude.{◌≡◌, ℕ, ◌<◌, ◌≤◌, ◌==◌, List, length, [], map, Bool, true, false, option_map, unwrap_or}
 use Rattle.mesa_schema.specs.Changes.{Lineage, columns_of}
-use Rattle.mesa_schema.specs.Columns.{key_names, value_names}
+use Rattle.mesa_catalog_table.specs.mesa_columns.Columns.{key_names, value_names}
 use Rattle.mesa_schema.specs.Recasts.{recast_lineage}
 use Rattle.mesa_batch.specs.Totals.{totals_recast, totals_with}
 use Rattle.mesa_catalog_table.specs.mesa_span.Ranges.{end_of}

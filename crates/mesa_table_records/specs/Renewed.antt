@@ -1,7 +1,7 @@
 -- Which recasts a table allows, as code asks it.
 use Rattle.std.specs.Prelude.{ℕ, List, map, drop, Bool, false, Option, Some, None, slice_get}
-use Rattle.mesa_schema.specs.declared.columns.ValueColumn.{ValueColumn}
-use Rattle.mesa_schema.specs.Columns.{place_of}
+use Rattle.mesa_catalog_table.specs.mesa_columns.declared.columns.ValueColumn.{ValueColumn}
+use Rattle.mesa_catalog_table.specs.mesa_columns.Columns.{place_of}
 use Rattle.mesa_schema.specs.Changes.{Lineage}
 use Rattle.mesa_batch.specs.Totals.{is_sum}
 use Rattle.mesa_record.specs.declared.checkpoint.CheckpointSingle.{CheckpointSingle}

@@ -1,7 +1,7 @@
 -- What a checkpoint states of a table that is held.
 use Rattle.std.specs.Prelude.{ℕ, ◌+◌, List, [], map}
 use Rattle.std.specs.List.{range_with_len}
-use Rattle.mesa_schema.specs.Columns.{Columns, aggs_of}
+use Rattle.mesa_catalog_table.specs.mesa_columns.Columns.{Columns, aggs_of}
 use Rattle.mesa_schema.specs.Changes.{Lineage, columns_at, epoch_of}
 use Rattle.mesa_batch.specs.Totals.{sums_in}
 use Rattle.mesa_record.specs.declared.checkpoint.CheckpointRange.{CheckpointRange}

@@ -2,7 +2,7 @@
 ghost use Rattle.std.specs.Prelude.{◌≡◌, ◌+◌, ◌++◌, ◌==◌, ◌&&◌, ◌≤◌, ◌<◌, ℕ, List, IfSome, IsTrue, Some, count_by, drop, flat_map, is_ok, length, nat_lt, option_map, slice_get};
 ghost use Rattle.std.specs.List.{list_all};
 ghost use Rattle.mesa_schema.specs.Changes.{columns_of, epoch_of};
-ghost use Rattle.mesa_schema.specs.Columns.{aggs_of};
+ghost use Rattle.mesa_catalog_table.specs.mesa_columns.Columns.{aggs_of};
 ghost use Rattle.mesa_schema.specs.Recasts.{recast_checked, recast_columns, recast_lineage};
 ghost use Rattle.mesa_batch.specs.Totals.{sum_bound, sums_in};
 ghost use Rattle.mesa_record.specs.declared.checkpoint.CheckpointSingle.{CheckpointSingle as Told};

@@ -2,9 +2,9 @@
 ghost use Rattle.std.specs.Prelude.{◌≡◌, ◌≢◌, ◌+◌, ◌∷◌, ◌++◌, ◌≤◌, ◌<◌, [], false, length, IfErr, IfOk, IsTrue, OnOk, is_ok};
 ghost use Rattle.std.specs.List.{list_all};
 ghost use Rattle.mesa_schema.specs.Changes.{columns_at, columns_of, epoch_of, max_changes, rule_checked, with_change};
-ghost use Rattle.mesa_schema.specs.Columns.{aggs_of};
+ghost use Rattle.mesa_catalog_table.specs.mesa_columns.Columns.{aggs_of};
 ghost use Rattle.mesa_schema.specs.Lineages.{is_view_of};
-ghost use Rattle.mesa_schema.specs.Schema.{is_schema};
+ghost use Rattle.mesa_catalog_table.specs.mesa_columns.Schema.{is_schema};
 ghost use Rattle.mesa_schema.specs.Views.{max_views, with_view};
 ghost use Rattle.mesa_batch.specs.Totals.{sums_in};
 ghost use Rattle.mesa_catalog_table.specs.mesa_store_spec.CheckpointFits.{changes_pass, delta_fits, lineage_fits, range_fits, single_fits, totals_fit};

@@ -6,16 +6,18 @@ use Rattle.std.proofs.lemmas.List.{append-nil, get_or-set_other, get_or-set_same
 use Rattle.std.proofs.lemmas.Option.{get_or_from_slice_get, slice_get-get_or}
 use Rattle.std.specs.declared.alloc.Global.{Global}
 use Rattle.std.specs.declared.sync.Arc.{Arc}
-use Rattle.mesa_schema.specs.declared.changes.Change.{Change}
-use Rattle.mesa_schema.specs.declared.changes.Change.TheVariants as change
-use Rattle.mesa_schema.specs.declared.lifting.Lift.{Lift}
-use Rattle.mesa_schema.specs.declared.rows.Row.{Row}
-use Rattle.mesa_schema.specs.Columns.{Columns, aggs_of, place_of, value_names}
-use Rattle.mesa_schema.specs.Changes.{Lineage, changed, columns_at, columns_of, epoch_of, lifted, lifted_once, with_change}
-use Rattle.mesa_schema.specs.Folded.{rows_of}
-use Rattle.mesa_schema.specs.Lifting.{Lifts, lifted_with}
+use Rattle.mesa_answer.specs.mesa_columns.declared.changes.Change.{Change}
+use Rattle.mesa_answer.specs.mesa_columns.declared.changes.Change.TheVariants as change
+use Rattle.mesa_answer.specs.mesa_columns.declared.lifting.Lift.{Lift}
+use Rattle.mesa_answer.specs.mesa_columns.declared.rows.Row.{Row}
+use Rattle.mesa_answer.specs.mesa_columns.Columns.{Columns, aggs_of, place_of, value_names}
+use Rattle.mesa_answer.specs.mesa_columns.Changes.{changed, lifted_once}
+use Rattle.mesa_schema.specs.Changes.{Lineage, columns_at, columns_of, epoch_of, lifted, with_change}
+use Rattle.mesa_answer.specs.mesa_fold.Folded.{rows_of}
+use Rattle.mesa_answer.specs.mesa_columns.Lifting.{lifted_with}
+use Rattle.mesa_schema.specs.Lifting.{Lifts}
 use Rattle.mesa_schema.specs.Lineages.{HasDefault}
-use Rattle.mesa_schema.specs.Rows.{AreRowsOf}
+use Rattle.mesa_answer.specs.mesa_columns.Rows.{AreRowsOf}
 use Rattle.mesa_schema.proofs.Forms.{lifts_folded}
 use Rattle.mesa_schema.proofs.PresentRows.{columns_more, forms_more, lifted_more, lifted_now}
 use Rattle.mesa_batch.specs.Glance.{Known}

@@ -1,7 +1,7 @@
 -- Columns that are named.
 use Rattle.std.proofs.Common.{◌≡◌, ◌∙◌, ℕ, List, Some, map, sym}
 use Rattle.std.proofs.Math.ListN.{get_or-map}
-use Rattle.mesa_schema.proofs.Places.{place_named}
+use Rattle.mesa_binding.proofs.mesa_columns.Places.{place_named}
 use Rattle.mesa_model.specs.Relations.{table_number}
 use Rattle.mesa_model.specs.Warehouse.{Store, Table, no_table, table_at}
 

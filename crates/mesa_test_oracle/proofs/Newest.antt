@@ -5,7 +5,7 @@ use Rattle.std.specs.declared.alloc.Global.{Global}
 use Rattle.std.specs.declared.sync.Arc.{Arc}
 use Rattle.std.proofs.lemmas.List.{length-map}
 use Rattle.std.proofs.lemmas.Option.{get_or_from_slice_get}
-use Rattle.mesa_schema.specs.declared.rows.Row.{Row}
+use Rattle.mesa_answer.specs.mesa_columns.declared.rows.Row.{Row}
 use Rattle.mesa_model.specs.Load.{newest_content}
 use Rattle.mesa_test_oracle.specs.Kept.{Contents, content_in, contents_in}
 use Rattle.mesa_test_oracle.proofs.Items.{map_there}

@@ -6,12 +6,12 @@ use Rattle.std.proofs.lemmas.List.{append-nil, get_or-set_other, get_or-set_same
 use Rattle.std.proofs.lemmas.Option.{slice_get-get_or}
 use Rattle.mesa_value.specs.declared.Agg.{Agg}
 use Rattle.mesa_value.specs.declared.Agg.TheVariants as agg
-use Rattle.mesa_schema.specs.declared.rows.Row.{Row}
-use Rattle.mesa_schema.specs.Columns.{Columns, aggs_of}
+use Rattle.mesa_answer.specs.mesa_columns.declared.rows.Row.{Row}
+use Rattle.mesa_answer.specs.mesa_columns.Columns.{Columns, aggs_of}
 use Rattle.mesa_schema.specs.Changes.{columns_of}
-use Rattle.mesa_schema.specs.Folded.{rows_of}
+use Rattle.mesa_answer.specs.mesa_fold.Folded.{rows_of}
 use Rattle.mesa_schema.specs.Recasts.{IsRecastOf, Recast, recast_columns, recast_lineage, recast_rows, recast_values}
-use Rattle.mesa_schema.specs.Rows.{AreRowsOf}
+use Rattle.mesa_answer.specs.mesa_columns.Rows.{AreRowsOf}
 use Rattle.mesa_schema.proofs.Recasting.{recast_folds, recast_form}
 use Rattle.mesa_batch.specs.Glance.{Known}
 use Rattle.mesa_batch.specs.Totals.{AreAtMost, abs_totals, chosen_totals, sum_bound, sums_in, totals_recast, with_total}

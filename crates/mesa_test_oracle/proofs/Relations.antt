@@ -3,7 +3,7 @@ use Rattle.std.proofs.Common.{◌≡◌, ◌<◌, ◌+◌, ℕ, List, [], drop, 
 use Rattle.std.specs.Prelude.{slice_get, Option, option_map}
 use Rattle.std.proofs.lemmas.Option.{get_or_from_slice_get, slice_get-get_or}
 use Rattle.mesa_list.specs.Bytes.{same_bytes}
-use Rattle.mesa_schema.specs.declared.views.View.{View}
+use Rattle.mesa_answer.specs.mesa_columns.declared.views.View.{View}
 use Rattle.mesa_batch.specs.Glance.{Known}
 use Rattle.mesa_model.specs.Warehouse.{Table}
 use Rattle.mesa_model.specs.Relations.{Relation, relation_from}

@@ -5,20 +5,20 @@ use Rattle.std.specs.List.{AllByRecursion}
 use Rattle.std.proofs.lemmas.List.{length-map, length-set, map-append}
 use Rattle.std.proofs.lemmas.Slice.Zip.{length-zip}
 use Rattle.mesa_value.specs.declared.Agg.{Agg}
-use Rattle.mesa_schema.specs.declared.rows.Row.{Row}
-use Rattle.mesa_schema.specs.Columns.{Columns, aggs_of}
+use Rattle.mesa_answer.specs.mesa_columns.declared.rows.Row.{Row}
+use Rattle.mesa_answer.specs.mesa_columns.Columns.{Columns, aggs_of}
 use Rattle.mesa_schema.specs.Changes.{columns_of}
-use Rattle.mesa_schema.specs.Folded.{folded, rows_of}
-use Rattle.mesa_schema.specs.Laws.{AreFull}
-use Rattle.mesa_schema.specs.Rows.{AreRowsOf}
-use Rattle.mesa_schema.proofs.Forms.{folded_form}
-use Rattle.mesa_schema.proofs.Refolds.{refolded}
+use Rattle.mesa_answer.specs.mesa_fold.Folded.{folded, rows_of}
+use Rattle.mesa_answer.specs.mesa_fold.Laws.{AreFull}
+use Rattle.mesa_answer.specs.mesa_columns.Rows.{AreRowsOf}
+use Rattle.mesa_answer.proofs.mesa_fold.Forms.{folded_form}
+use Rattle.mesa_answer.proofs.mesa_fold.Refolds.{refolded}
 use Rattle.mesa_batch.specs.Batch.{Placed, rows_for}
 use Rattle.mesa_batch.specs.Gathered.{Batched, rows_at}
 use Rattle.mesa_batch.specs.Glance.{Known}
 use Rattle.mesa_batch.specs.Totals.{AreAtMost, abs_total, abs_totals, over_bound, sum_bound, sum_places, totals_with}
 use Rattle.mesa_batch.specs.Bound.{KeepsBound}
-use Rattle.mesa_schema.proofs.Folds.{folded-folded}
+use Rattle.mesa_answer.proofs.mesa_fold.Folds.{folded-folded}
 use Rattle.mesa_batch.proofs.Kept.{put_rows-fold}
 use Rattle.mesa_batch.proofs.Merged.{abs_total-put_rows}
 use Rattle.mesa_model.specs.Load.{bound_checked, bounds_checked, newest_content, tables_loaded}

@@ -6,8 +6,8 @@ use Rattle.std.proofs.lemmas.Bool.{eqb-true}
 use Rattle.std.proofs.lemmas.Bool.Decides.{nat_tests}
 use Rattle.std.proofs.lemmas.List.{length-map, nil_from_length}
 use Rattle.mesa_list.specs.Checks.{◌>>◌}
-use Rattle.mesa_schema.specs.declared.rows.Row.{Row}
-use Rattle.mesa_schema.specs.Columns.{Columns, aggs_of}
+use Rattle.mesa_answer.specs.mesa_columns.declared.rows.Row.{Row}
+use Rattle.mesa_answer.specs.mesa_columns.Columns.{Columns, aggs_of}
 use Rattle.mesa_schema.specs.Changes.{columns_of}
 use Rattle.mesa_batch.specs.Batch.{Placed, rows_for}
 use Rattle.mesa_batch.specs.Gathered.{Batched, columns_for, rows_at}

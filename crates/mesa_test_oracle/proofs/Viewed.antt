@@ -1,7 +1,7 @@
 -- What is seen of a view.
 use Rattle.std.proofs.Common.{◌≡◌, ℕ, ◌<◌, length, subst, sym, Option, Some}
 use Rattle.std.specs.Prelude.{slice_get}
-use Rattle.mesa_schema.specs.declared.views.View.{View}
+use Rattle.mesa_answer.specs.mesa_columns.declared.views.View.{View}
 use Rattle.mesa_schema.specs.Changes.{Lineage}
 use Rattle.mesa_model.specs.Relations.{Relation}
 use Rattle.mesa_model.specs.Warehouse.{Table}

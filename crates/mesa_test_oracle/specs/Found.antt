@@ -1,7 +1,7 @@
 -- Where relations stand.
 use Rattle.std.specs.Prelude.{ℕ, ◌<◌, List, [], find, length, slice_get, slice_index_or, Option, IfSome, option_and_then}
 use Rattle.mesa_list.specs.Bytes.{same_bytes}
-use Rattle.mesa_schema.specs.declared.views.View.{View}
+use Rattle.mesa_answer.specs.mesa_columns.declared.views.View.{View}
 use Rattle.mesa_batch.specs.Glance.{Known}
 use Rattle.mesa_model.specs.Relations.{Relation}
 use Rattle.mesa_model.specs.Warehouse.{Store, table_at}

@@ -2,12 +2,12 @@
 use Rattle.std.specs.Prelude.{ℕ, ◌+◌, ◌-◌, drop, max, List, [], ◌∷◌, ◌++◌, None, map, slice_index_or, slice_set}
 use Rattle.std.specs.declared.alloc.Global.{Global}
 use Rattle.std.specs.declared.sync.Arc.{Arc}
-use Rattle.mesa_schema.specs.declared.changes.Change.{Change}
-use Rattle.mesa_schema.specs.declared.lifting.Lift.{Lift}
-use Rattle.mesa_schema.specs.declared.rows.Row.{Row}
-use Rattle.mesa_schema.specs.Columns.{Columns}
+use Rattle.mesa_answer.specs.mesa_columns.declared.changes.Change.{Change}
+use Rattle.mesa_answer.specs.mesa_columns.declared.lifting.Lift.{Lift}
+use Rattle.mesa_answer.specs.mesa_columns.declared.rows.Row.{Row}
+use Rattle.mesa_answer.specs.mesa_columns.Columns.{Columns}
 use Rattle.mesa_schema.specs.Changes.{Lineage}
-use Rattle.mesa_schema.specs.Lifting.{lifted_with}
+use Rattle.mesa_answer.specs.mesa_columns.Lifting.{lifted_with}
 use Rattle.mesa_schema.specs.Recasts.{Recast, recast_rows}
 use Rattle.mesa_batch.specs.Batch.{Placed}
 use Rattle.mesa_batch.specs.Glance.{Known}

@@ -1,7 +1,7 @@
 // What a change of a schema makes of a table: of its columns and its contents.
 ghost use Rattle.std.specs.Prelude.{◌≡◌, ◌≢◌, map, Ok, Err, IfOk, IfErr, OnOk};
 ghost use Rattle.mesa_schema.specs.Changes.{change_checked, with_change};
-ghost use Rattle.mesa_schema.specs.Lifting.{lifted_with};
+ghost use Rattle.mesa_answer.specs.mesa_columns.Lifting.{lifted_with};
 ghost use Rattle.mesa_schema.specs.Lineages.{HasDefault};
 ghost use Rattle.mesa_test_oracle.specs.Kept.{all_shared, contents_lifted, shared};
 

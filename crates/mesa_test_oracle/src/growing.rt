@@ -1,11 +1,11 @@
 // What a batch makes of tables: their totals and their newest contents.
 ghost use Rattle.std.specs.Prelude.{◌≡◌, ◌≤◌, ◌<◌, ◌^◌, ◌+◌, ◌-◌, ℕ, List, [], ◌∷◌, ◌++◌, cond, replicate, length, map, min, zip, None, Some, IfOk, IfErr, OnOk, MatchOption, slice_get, slice_index_or};
 ghost use Rattle.std.specs.List.{AllByRecursion};
-ghost use Rattle.mesa_schema.specs.declared.columns.ValueColumn.{ValueColumn as Column};
-ghost use Rattle.mesa_schema.specs.Columns.{aggs_of};
+ghost use Rattle.mesa_answer.specs.mesa_columns.declared.columns.ValueColumn.{ValueColumn as Column};
+ghost use Rattle.mesa_answer.specs.mesa_columns.Columns.{aggs_of};
 ghost use Rattle.mesa_schema.specs.Changes.{columns_of};
-ghost use Rattle.mesa_schema.specs.Folded.{folded};
-ghost use Rattle.mesa_schema.specs.Rows.{AreRowsOf};
+ghost use Rattle.mesa_answer.specs.mesa_fold.Folded.{folded};
+ghost use Rattle.mesa_answer.specs.mesa_columns.Rows.{AreRowsOf};
 ghost use Rattle.mesa_batch.specs.Batch.{Placed as PlacedRow};
 ghost use Rattle.mesa_batch.specs.Gathered.{columns_for, rows_at};
 ghost use Rattle.mesa_batch.specs.Numbers.{known_of};

@@ -1,8 +1,8 @@
 // Tables and views found by their names.
 ghost use Rattle.std.specs.Prelude.{◌≡◌, ◌<◌, ℕ, List, length, map, find, position, slice_get, option_and_then, option_map, IfSome};
 ghost use Rattle.mesa_list.specs.Bytes.{same_bytes};
-ghost use Rattle.mesa_schema.specs.declared.views.View.{View};
-ghost use Rattle.mesa_schema.specs.Columns.{place_of};
+ghost use Rattle.mesa_answer.specs.mesa_columns.declared.views.View.{View};
+ghost use Rattle.mesa_answer.specs.mesa_columns.Columns.{place_of};
 ghost use Rattle.mesa_batch.specs.Numbers.{known_of};
 ghost use Rattle.mesa_model.specs.Relations.{relation_from};
 ghost use Rattle.mesa_test_oracle.specs.Kept.{Contents, From, tables_in};
@@ -19,7 +19,7 @@ pub(crate) struct Place {
 }
 
 // The number of the table of a name.
-#[tactic(auto, using(mesa_schema::proofs::Maps::position_map))]
+#[tactic(auto, using(mesa_schema::proofs::mesa_columns::Maps::position_map))]
 pub(crate) fn table_place(name: &[u8], tables: &[Glanced]) -> Option<usize>
     ensures within { IfSome result (λ i. i < length tables.now) }
     ensures place { result ≡ place_of name.now (map (λ t. t.name) tables.now) }

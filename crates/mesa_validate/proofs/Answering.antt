@@ -10,9 +10,9 @@ use Rattle.std.proofs.lemmas.Option.{slice_get-get_or}
 use Rattle.mesa_catalog.proofs.mesa_batch.NameNumbers.{position-within}
 use Rattle.mesa_list.specs.Bytes.{same_bytes}
 use Rattle.mesa_list.specs.Checks.{refused_as}
-use Rattle.mesa_schema.specs.declared.views.View.{View}
+use Rattle.mesa_catalog.specs.mesa_columns.declared.views.View.{View}
 use Rattle.mesa_schema.specs.Changes.{Lineage, epoch_of}
-use Rattle.mesa_schema.specs.Columns.{Columns, chosen, kinds_of, place_of}
+use Rattle.mesa_catalog.specs.mesa_columns.Columns.{Columns, chosen, kinds_of, place_of}
 use Rattle.mesa_catalog.specs.mesa_batch.Glance.{Known}
 use Rattle.mesa_filter.specs.declared.words.QueryWords.{QueryWords}
 use Rattle.mesa_filter.specs.Asked.{asked_of}

@@ -3,10 +3,10 @@ use Rattle.std.proofs.Common.{◌≡◌, ◌≤◌, ◌<◌, ◌+◌, ℕ, List,
 use Rattle.std.specs.Prelude.{flat_map, is_some}
 use Rattle.std.proofs.lemmas.Bool.{le-leb}
 use Rattle.mesa_list.specs.Checks.{◌>>=◌, ◌>>◌, refuse_unless, refused_as}
-use Rattle.mesa_schema.specs.declared.changes.Change.{Change}
+use Rattle.mesa_catalog.specs.mesa_columns.declared.changes.Change.{Change}
 use Rattle.mesa_schema.specs.Changes.{Lineage, change_checked, columns_of, epoch_of}
-use Rattle.mesa_schema.specs.Names.{has_name, is_name}
-use Rattle.mesa_schema.specs.Schema.{is_schema}
+use Rattle.mesa_catalog.specs.mesa_columns.Names.{has_name, is_name}
+use Rattle.mesa_catalog.specs.mesa_columns.Schema.{is_schema}
 use Rattle.mesa_schema.specs.Views.{max_views}
 use Rattle.mesa_record.specs.declared.record.Record.TheVariants as record_of
 use Rattle.mesa_model.specs.declared.commands.AlterWords.{AlterWords}
@@ -38,7 +38,7 @@ use Rattle.mesa_validate.specs.declared.ruled.Ruled.{Ruled}
 use Rattle.mesa_validate.specs.Ruled.{Doing, IsRefused, IsRuled}
 use Rattle.mesa_validate.specs.Seen.{HasCatalog, number_of}
 use Rattle.std.proofs.Math.ListN.{get_or-map}
-use Rattle.mesa_schema.proofs.Places.{place_named}
+use Rattle.mesa_binding.proofs.mesa_columns.Places.{place_named}
 use Rattle.mesa_validate.proofs.Fits.{alter_fit, alter_rules, expire_fit, expire_table_fit, schema_checked_is, table_fit, table_rules, view_fit, view_passed, view_rules}
 use Rattle.mesa_validate.proofs.Seen.{count_there, lineage_there, number_there, oldest_there, taken_by}
 

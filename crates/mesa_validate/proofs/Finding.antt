@@ -4,7 +4,7 @@ use Rattle.std.specs.Prelude.{option_map}
 use Rattle.std.specs.Option.{option_or}
 use Rattle.std.proofs.lemmas.List.{at_drop_more, at_drop_all}
 use Rattle.mesa_list.specs.Bytes.{same_bytes}
-use Rattle.mesa_schema.specs.Columns.{place_of}
+use Rattle.mesa_catalog.specs.mesa_columns.Columns.{place_of}
 use Rattle.mesa_catalog.specs.mesa_store_spec.Catalog.{Catalog, no_meta, meta_at}
 use Rattle.mesa_catalog.specs.mesa_catalog_table.declared.relation.Relation.{Relation}
 use Rattle.mesa_catalog.specs.mesa_catalog_table.Lookups.{relation_in, view_names}

@@ -4,17 +4,18 @@ use Rattle.std.specs.Prelude.{◌&&◌, ◌||◌, ◌==◌, flat_map, is_ok, nat
 use Rattle.std.specs.List.{list_all}
 use Rattle.std.proofs.lemmas.Bool.{le-leb, lt-ltb, ltb-false}
 use Rattle.mesa_list.specs.Checks.{◌>>◌, refuse_if, refuse_unless, refused_as}
-use Rattle.mesa_schema.specs.declared.changes.Change.{Change}
-use Rattle.mesa_schema.specs.declared.changes.Change.TheVariants as change
-use Rattle.mesa_schema.specs.declared.columns.KeyColumn.{KeyColumn}
-use Rattle.mesa_schema.specs.declared.schema.SchemaError.{SchemaError}
-use Rattle.mesa_schema.specs.declared.views.View.{View}
-use Rattle.mesa_schema.specs.declared.views.ViewError.{ViewError}
-use Rattle.mesa_schema.specs.declared.views.ViewError.TheVariants as view
-use Rattle.mesa_schema.specs.Changes.{Lineage, change_checked, columns_of, is_of_kind}
-use Rattle.mesa_schema.specs.Columns.{Columns, key_names, value_names}
-use Rattle.mesa_schema.specs.Names.{has_name}
-use Rattle.mesa_schema.specs.Schema.{is_schema, schema_checked}
+use Rattle.mesa_catalog.specs.mesa_columns.declared.changes.Change.{Change}
+use Rattle.mesa_catalog.specs.mesa_columns.declared.changes.Change.TheVariants as change
+use Rattle.mesa_catalog.specs.mesa_columns.declared.columns.KeyColumn.{KeyColumn}
+use Rattle.mesa_catalog.specs.mesa_columns.declared.schema.SchemaError.{SchemaError}
+use Rattle.mesa_catalog.specs.mesa_columns.declared.views.View.{View}
+use Rattle.mesa_catalog.specs.mesa_columns.declared.views.ViewError.{ViewError}
+use Rattle.mesa_catalog.specs.mesa_columns.declared.views.ViewError.TheVariants as view
+use Rattle.mesa_catalog.specs.mesa_columns.Changes.{is_of_kind}
+use Rattle.mesa_schema.specs.Changes.{Lineage, change_checked, columns_of}
+use Rattle.mesa_catalog.specs.mesa_columns.Columns.{Columns, key_names, value_names}
+use Rattle.mesa_catalog.specs.mesa_columns.Names.{has_name}
+use Rattle.mesa_catalog.specs.mesa_columns.Schema.{is_schema, schema_checked}
 use Rattle.mesa_schema.specs.Views.{choice_checked, max_views, view_checked, view_columns}
 use Rattle.mesa_schema.proofs.Passing.{passed_first, passed_if, passed_unless}
 use Rattle.mesa_schema.proofs.ViewSchemas.{view_is_schema}

@@ -6,9 +6,9 @@ use Rattle.std.proofs.Math.ListN.{get_or-map}
 use Rattle.std.proofs.lemmas.List.{drop_more, length-map}
 use Rattle.std.proofs.lemmas.Simd.{map-map}
 use Rattle.mesa_list.specs.Bytes.{same_bytes}
-use Rattle.mesa_schema.specs.declared.views.View.{View}
-use Rattle.mesa_schema.specs.Columns.{place_of}
-use Rattle.mesa_schema.specs.Names.{has_name}
+use Rattle.mesa_catalog.specs.mesa_columns.declared.views.View.{View}
+use Rattle.mesa_catalog.specs.mesa_columns.Columns.{place_of}
+use Rattle.mesa_catalog.specs.mesa_columns.Names.{has_name}
 use Rattle.mesa_catalog.specs.mesa_batch.Glance.{Known}
 use Rattle.mesa_model.specs.Relations.{Relation, is_taken, relation_from, table_number}
 use Rattle.mesa_filter.specs.declared.words.VersionWord.{VersionWord}

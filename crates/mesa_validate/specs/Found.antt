@@ -1,7 +1,7 @@
 -- What a query finds in a catalogue, and the answer that it stands for.
 use Rattle.std.specs.Prelude.{◌≡◌, ℕ, [], map, option_and_then, slice_get, None, Option, Some, Result, Ok}
 use Rattle.mesa_schema.specs.Changes.{epoch_of}
-use Rattle.mesa_schema.specs.Columns.{Columns}
+use Rattle.mesa_catalog.specs.mesa_columns.Columns.{Columns}
 use Rattle.mesa_filter.specs.declared.words.QueryWords.{QueryWords}
 use Rattle.mesa_filter.specs.declared.words.VersionWord.{VersionWord}
 use Rattle.mesa_filter.specs.Query.{group_kinds}

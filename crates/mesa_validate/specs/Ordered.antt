@@ -1,6 +1,6 @@
 -- The order in which a query is read.
 use Rattle.std.specs.Prelude.{ℕ, Option, Some, None, slice_get}
-use Rattle.mesa_schema.specs.declared.views.View.{View}
+use Rattle.mesa_catalog.specs.mesa_columns.declared.views.View.{View}
 use Rattle.mesa_schema.specs.Changes.{Lineage, columns_of}
 use Rattle.mesa_model.specs.Orders.{choice}
 use Rattle.mesa_order.specs.Order.{query_through}

@@ -1,6 +1,6 @@
 -- What a warehouse and a catalogue have in common, by which commands are refused.
 use Rattle.std.specs.Prelude.{◌≡◌, ℕ, List, [], ◌∷◌, map, max, Option, None}
-use Rattle.mesa_schema.specs.Columns.{place_of}
+use Rattle.mesa_catalog.specs.mesa_columns.Columns.{place_of}
 use Rattle.mesa_catalog.specs.mesa_batch.Glance.{Known}
 use Rattle.mesa_model.specs.Warehouse.{Table, Store, Warehouse}
 use Rattle.mesa_catalog.specs.mesa_store_spec.Catalog.{TableMeta, Catalog}

@@ -1,6 +1,6 @@
 // Looking tables and views up by their names.
 ghost use Rattle.std.specs.Prelude.{◌≡◌, ◌<◌, IfSome, length};
-ghost use Rattle.mesa_schema.specs.Columns.{place_of};
+ghost use Rattle.mesa_catalog.specs.mesa_columns.Columns.{place_of};
 ghost use Rattle.mesa_catalog.specs.mesa_store_spec.Catalog.{meta_at};
 ghost use Rattle.mesa_catalog.specs.mesa_catalog_records.Names.{relation_of};
 ghost use Rattle.mesa_catalog.specs.mesa_catalog_table.Lookups.{view_names};

@@ -1,8 +1,8 @@
 // Tables, views and changes of schemas.
 ghost use Rattle.std.specs.Prelude.{◌≡◌, ◌≢◌, ◌+◌, ℕ, IfOk, IfErr, IsTrue, OnOk, Ok, Err, Some, is_ok};
 ghost use Rattle.mesa_list.specs.Checks.{refused_as};
-ghost use Rattle.mesa_schema.specs.declared.changes.Change.{Change as AnyChange};
-ghost use Rattle.mesa_schema.specs.declared.changes.ChangeError.TheVariants as change_error;
+ghost use Rattle.mesa_catalog.specs.mesa_columns.declared.changes.Change.{Change as AnyChange};
+ghost use Rattle.mesa_catalog.specs.mesa_columns.declared.changes.ChangeError.TheVariants as change_error;
 ghost use Rattle.mesa_schema.specs.Changes.{change_checked, columns_of, epoch_of};
 ghost use Rattle.mesa_record.specs.declared.record.Record.TheVariants as record_of;
 ghost use Rattle.mesa_model.specs.declared.replies.Reply.TheVariants as reply;

@@ -71,4 +71,4 @@ pub fn keeps_defaults()
     ensures { (agg : Aggs) (value : ℤ) → IsDefault agg value → combined agg value value ≡ value }
 {}
 
-pub use mesa_list::{Items, TryCopy, place_of_byte};
+pub use mesa_list::{Items, TryCopy, place_of_byte, put_bytes};

@@ -2,15 +2,15 @@
 use Rattle.std.proofs.Common.{◌≡◌, ◌≢◌, ℕ, List, [], ◌∷◌, ◌++◌, refl, sym, ◌∙◌, ap, drop, subst, arith, length, ◌≤◌}
 use Rattle.std.specs.Prelude.{map, IfSome, Option, None, Some, Err}
 use Rattle.mesa_scan.specs.mesa_io.Causes.{HasFaultCause, Rose}
-use Rattle.mesa_schema.specs.declared.rows.Row.{Row}
-use Rattle.mesa_schema.specs.Changes.{columns_of}
-use Rattle.mesa_schema.specs.Columns.{Columns}
-use Rattle.mesa_schema.specs.Rows.{AreRowsOf, IsRowOf}
+use Rattle.mesa_columns.specs.declared.rows.Row.{Row}
+use Rattle.mesa_scan.specs.mesa_schema.Changes.{columns_of}
+use Rattle.mesa_columns.specs.Columns.{Columns}
+use Rattle.mesa_columns.specs.Rows.{AreRowsOf, IsRowOf}
 use Rattle.mesa_scan.specs.mesa_file.declared.damage.Damage.{Damage}
 use Rattle.mesa_list.proofs.Whole.{each_split}
 use Rattle.mesa_filter.specs.Filter.{KeyFilter, filtered}
 use Rattle.mesa_delta.specs.Indexed.{Indexed}
-use Rattle.mesa_schema.specs.Folded.{rows_of}
+use Rattle.mesa_scan.specs.mesa_fold.Folded.{rows_of}
 use Rattle.mesa_delta.specs.Reading.{IsIndexed, index_of}
 use Rattle.mesa_delta.specs.Spread.{blocks_of}
 use Rattle.mesa_delta.specs.declared.input.Input.{Input}

@@ -4,13 +4,13 @@ use Rattle.std.specs.Prelude.{pos, nat_abs, sum_by, map, filter}
 use Rattle.std.proofs.lemmas.List.{map-append, take-append-drop}
 use Rattle.std.proofs.lemmas.List.Elements.{filter-append}
 use Rattle.std.proofs.lemmas.List.Sums.{sum_by-append}
-use Rattle.mesa_answer.specs.mesa_value.Agg.{sum_bound}
-use Rattle.mesa_answer.specs.mesa_key.Spelling.{key_of}
-use Rattle.mesa_schema.specs.declared.rows.Row.{Row}
-use Rattle.mesa_schema.specs.Changes.{columns_of}
-use Rattle.mesa_schema.specs.Columns.{Columns, kinds_of}
-use Rattle.mesa_schema.specs.Folded.{rows_of}
-use Rattle.mesa_schema.proofs.Folds.{rows_of-append}
+use Rattle.mesa_delta.specs.mesa_value.Agg.{sum_bound}
+use Rattle.mesa_delta.specs.mesa_key.Spelling.{key_of}
+use Rattle.mesa_columns.specs.declared.rows.Row.{Row}
+use Rattle.mesa_scan.specs.mesa_schema.Changes.{columns_of}
+use Rattle.mesa_columns.specs.Columns.{Columns, kinds_of}
+use Rattle.mesa_scan.specs.mesa_fold.Folded.{rows_of}
+use Rattle.mesa_answer.proofs.mesa_fold.Folds.{rows_of-append}
 use Rattle.mesa_filter.specs.Filter.{KeyFilter, filtered, meets}
 use Rattle.mesa_delta.specs.Reading.{index_of}
 use Rattle.mesa_delta.specs.Spread.{blocks_of}

@@ -2,10 +2,10 @@
 use Rattle.std.specs.Prelude.{◌≡◌, ℕ, ◌-◌, ◌^◌, List, [], ◌++◌, map, Option, Some, None, false}
 use Rattle.mesa_scan.specs.mesa_file.declared.damage.Damage.{Damage}
 use Rattle.mesa_scan.specs.mesa_file.declared.damage.Seen.TheVariants as seen
-use Rattle.mesa_schema.specs.declared.rows.Row.{Row}
-use Rattle.mesa_schema.specs.declared.views.View.{View}
-use Rattle.mesa_schema.specs.Columns.{Columns}
-use Rattle.mesa_schema.specs.Views.{view_key_places, view_value_places}
+use Rattle.mesa_columns.specs.declared.rows.Row.{Row}
+use Rattle.mesa_columns.specs.declared.views.View.{View}
+use Rattle.mesa_columns.specs.Columns.{Columns}
+use Rattle.mesa_scan.specs.mesa_schema.Views.{view_key_places, view_value_places}
 use Rattle.mesa_delta.specs.Reading.{IsIndexed, index_of}
 use Rattle.mesa_delta.specs.declared.input.Input.{Input}
 use Rattle.mesa_scan.specs.Cursors.{lift_by, reader_in}

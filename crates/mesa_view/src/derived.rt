@@ -2,11 +2,11 @@
 ghost use Rattle.std.specs.Prelude.{◌≡◌, ◌⊎◌, ◌<◌, ℕ, List, [], length, map, slice_get, IfOk, IfErr, IfSome, IsTrue, OnOk, Some};
 ghost use Rattle.mesa_scan.specs.mesa_io.Causes.{HasFaultCause};
 ghost use Rattle.mesa_scan.specs.mesa_file.declared.damage.Damage.{Damage as AnyDamage};
-ghost use Rattle.mesa_schema.specs.declared.rows.Row.{Row as AnyRow};
-ghost use Rattle.mesa_schema.specs.Changes.{columns_of};
-ghost use Rattle.mesa_schema.specs.Folded.{grouped};
-ghost use Rattle.mesa_schema.specs.Rows.{AreRowsOf};
-ghost use Rattle.mesa_schema.specs.Views.{view_columns, view_rows};
+ghost use Rattle.mesa_columns.specs.declared.rows.Row.{Row as AnyRow};
+ghost use Rattle.mesa_scan.specs.mesa_schema.Changes.{columns_of};
+ghost use Rattle.mesa_scan.specs.mesa_fold.Folded.{grouped};
+ghost use Rattle.mesa_columns.specs.Rows.{AreRowsOf};
+ghost use Rattle.mesa_scan.specs.mesa_schema.Views.{view_columns, view_rows};
 ghost use Rattle.mesa_filter.specs.Filter.{filtered};
 ghost use Rattle.mesa_filter.specs.Query.{are_places};
 ghost use Rattle.mesa_delta.specs.declared.error.FileError.TheVariants as file_error;
@@ -23,11 +23,11 @@ use crate::filters::every_row;
 use crate::gathering::gather;
 use crate::putting::sum_damage;
 use mesa_answer::{Groups, Regrouping};
+use mesa_columns::{RowList, Schema};
 use mesa_delta::{Ahead, FileError, Input};
 use mesa_disk::FileReader;
 use mesa_filter::Filter;
 use mesa_list::TryCopy;
-use mesa_columns::{RowList, Schema};
 use std::alloc::Global;
 
 /// The rows of the view of a number that an input's rows come to, lifted to the present and grouped. Beside them at most a block of the file is held.

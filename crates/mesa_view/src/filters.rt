@@ -1,9 +1,9 @@
 // A filter that leaves nothing out.
 ghost use Rattle.std.specs.Prelude.{◌≡◌, [], IfOk};
-ghost use Rattle.mesa_schema.specs.Columns.{kinds_of};
+ghost use Rattle.mesa_columns.specs.Columns.{kinds_of};
 
-use mesa_filter::Filter;
 use mesa_columns::Schema;
+use mesa_filter::Filter;
 use std::alloc::{AllocError, Global};
 
 /// The filter that every row of a schema meets.

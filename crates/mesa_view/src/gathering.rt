@@ -2,8 +2,8 @@
 ghost use Rattle.std.specs.Prelude.{◌≡◌, ◌++◌, ℕ, List, map, OnOk, IfErr, Some, slice_get};
 ghost use Rattle.mesa_scan.specs.mesa_io.Causes.{HasFaultCause};
 ghost use Rattle.mesa_scan.specs.mesa_file.declared.damage.Damage.{Damage as AnyDamage};
-ghost use Rattle.mesa_schema.specs.declared.rows.Row.{Row as AnyRow};
-ghost use Rattle.mesa_schema.specs.Changes.{columns_of};
+ghost use Rattle.mesa_columns.specs.declared.rows.Row.{Row as AnyRow};
+ghost use Rattle.mesa_scan.specs.mesa_schema.Changes.{columns_of};
 ghost use Rattle.mesa_filter.specs.Filter.{filtered};
 ghost use Rattle.mesa_delta.specs.declared.error.FileError.TheVariants as file_error;
 ghost use Rattle.mesa_delta.specs.Ahead.{AreAhead, AreOfFile, Told as AnyTold};

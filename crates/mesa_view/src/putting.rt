@@ -1,9 +1,9 @@
 // Rows of a file put into their groups.
 ghost use Rattle.std.specs.Prelude.{◌≡◌, ◌≢◌, [], ◌∷◌, ◌++◌, List, OnOk, IfErr};
 ghost use Rattle.mesa_scan.specs.mesa_file.declared.damage.Damage.{Damage as AnyDamage};
-ghost use Rattle.mesa_schema.specs.declared.rows.Row.{Row as AnyRow};
-ghost use Rattle.mesa_schema.specs.Lent.{lent};
-ghost use Rattle.mesa_schema.specs.Rows.{AreRowsOf, IsRowOf};
+ghost use Rattle.mesa_columns.specs.declared.rows.Row.{Row as AnyRow};
+ghost use Rattle.mesa_columns.specs.Lent.{lent};
+ghost use Rattle.mesa_columns.specs.Rows.{AreRowsOf, IsRowOf};
 ghost use Rattle.mesa_delta.specs.declared.error.FileError.TheVariants as file_error;
 ghost use Rattle.mesa_answer.specs.Answering.{KeepsSums};
 ghost use Rattle.mesa_answer.specs.Gathered.{HasPut, key_at_hand, wanted_of};
@@ -12,10 +12,10 @@ ghost use Rattle.mesa_answer.specs.declared.error.GroupError.TheVariants as grou
 ghost use Rattle.mesa_view.specs.SumDamage.{IsSumDamage};
 
 use mesa_answer::{GroupError, Groups};
+use mesa_columns::LentRow;
 use mesa_delta::FileError;
 use mesa_disk::{Damage, FileId};
 use mesa_scan::MatchingRows;
-use mesa_columns::LentRow;
 
 /// One row more of a file. A sum that would leave its type is damage of the file: of sound files none does.
 pub fn put_row(groups: &mut Groups, file: FileId, row: LentRow) -> Result<(), FileError>

@@ -8,11 +8,11 @@ use Rattle.mesa_copy.specs.mesa_compact.Bounded.{AreBounded, AreOwnBounded, IsBo
 use Rattle.mesa_disk.specs.Image.{Image}
 use Rattle.mesa_disk.specs.Story.{Story}
 use Rattle.mesa_write_turns.specs.mesa_schema.Changes.{Lineage, columns_of, epoch_of, lifted}
-use Rattle.mesa_write_turns.specs.mesa_schema.Columns.{Columns}
-use Rattle.mesa_write_turns.specs.mesa_schema.Folded.{rows_of}
+use Rattle.mesa_write_turns.specs.mesa_columns.Columns.{Columns}
+use Rattle.mesa_open_files.specs.mesa_fold.Folded.{rows_of}
 use Rattle.mesa_write_turns.specs.mesa_schema.Views.{view_columns}
-use Rattle.mesa_write_turns.specs.mesa_schema.declared.rows.Row.{Row}
-use Rattle.mesa_write_turns.specs.mesa_schema.declared.views.View.{View}
+use Rattle.mesa_write_turns.specs.mesa_columns.declared.rows.Row.{Row}
+use Rattle.mesa_write_turns.specs.mesa_columns.declared.views.View.{View}
 use Rattle.mesa_delta.specs.declared.input.Input.{Input}
 use Rattle.mesa_engine.specs.mesa_store_spec.Catalog.{Catalog, Delta, TableMeta, meta_at}
 use Rattle.mesa_engine.specs.mesa_store_spec.Contents.{Rows, present}

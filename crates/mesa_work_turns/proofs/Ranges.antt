@@ -5,8 +5,8 @@ use Rattle.mesa_engine.specs.mesa_commit.Images.{Has}
 use Rattle.mesa_disk.specs.Image.{Image}
 use Rattle.mesa_disk.specs.Story.{Story}
 use Rattle.mesa_write_turns.specs.mesa_schema.Changes.{Lineage, columns_of}
-use Rattle.mesa_write_turns.specs.mesa_schema.Columns.{aggs_of}
-use Rattle.mesa_write_turns.specs.mesa_schema.Folded.{rows_of}
+use Rattle.mesa_write_turns.specs.mesa_columns.Columns.{aggs_of}
+use Rattle.mesa_open_files.specs.mesa_fold.Folded.{rows_of}
 use Rattle.mesa_write_turns.specs.mesa_history_spec.Sources.{Source, Written, range_rows}
 use Rattle.mesa_engine.specs.mesa_store_spec.Catalog.{Catalog, TableMeta, meta_at}
 use Rattle.mesa_engine.specs.mesa_store_spec.Contents.{present}

@@ -9,11 +9,11 @@ use Rattle.std.proofs.lemmas.Simd.{map-map}
 use Rattle.mesa_write_turns.specs.mesa_list.Checks.{◌>>=◌, ◌>>◌, refuse_if, refused_as}
 use Rattle.mesa_write_turns.specs.mesa_schema.declared.recasts.RecastError.{RecastError}
 use Rattle.mesa_write_turns.specs.mesa_schema.Changes.{epoch_of}
-use Rattle.mesa_write_turns.specs.mesa_schema.Columns.{place_of}
+use Rattle.mesa_write_turns.specs.mesa_columns.Columns.{place_of}
 use Rattle.mesa_write_turns.specs.mesa_schema.Recasts.{recast_checked}
-use Rattle.mesa_engine.specs.mesa_binding.Told.{IsDue}
-use Rattle.mesa_engine.specs.mesa_binding.declared.failure.Failure.{Failure}
-use Rattle.mesa_engine.specs.mesa_binding.declared.failure.Failure.TheVariants as asked
+use Rattle.mesa_write_turns.specs.mesa_binding.Told.{IsDue}
+use Rattle.mesa_write_turns.specs.mesa_binding.declared.failure.Failure.{Failure}
+use Rattle.mesa_write_turns.specs.mesa_binding.declared.failure.Failure.TheVariants as asked
 use Rattle.mesa_write_turns.specs.mesa_history_spec.Machine.{Claim, Machine, Recasts, max_deltas, recast_claim_of, refuse_busy}
 use Rattle.mesa_lease.specs.Book.{holder}
 use Rattle.mesa_engine.specs.EngineState.{EngineState, books_of, projection_of}

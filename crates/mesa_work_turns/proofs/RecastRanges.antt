@@ -9,11 +9,11 @@ use Rattle.mesa_disk.specs.Story.{Story}
 use Rattle.mesa_file.specs.declared.damage.Damage.{Damage}
 use Rattle.mesa_pick_files.specs.mesa_value.declared.Agg.TheVariants.{Sum}
 use Rattle.mesa_write_turns.specs.mesa_schema.Changes.{Lineage, columns_at, columns_of, epoch_of, lifted}
-use Rattle.mesa_write_turns.specs.mesa_schema.Columns.{aggs_of}
-use Rattle.mesa_write_turns.specs.mesa_schema.Folded.{folded, rows_of}
-use Rattle.mesa_write_turns.specs.mesa_schema.declared.rows.Row.{Row}
-use Rattle.mesa_engine.proofs.mesa_schema.RisingRows.{folded_rise}
-use Rattle.mesa_write_turns.specs.mesa_schema.Rows.{keys_rise}
+use Rattle.mesa_write_turns.specs.mesa_columns.Columns.{aggs_of}
+use Rattle.mesa_open_files.specs.mesa_fold.Folded.{folded, rows_of}
+use Rattle.mesa_write_turns.specs.mesa_columns.declared.rows.Row.{Row}
+use Rattle.mesa_pick_files.proofs.mesa_fold.RisingRows.{folded_rise}
+use Rattle.mesa_write_turns.specs.mesa_columns.Rows.{keys_rise}
 use Rattle.mesa_record.specs.declared.record.Files.{Files}
 use Rattle.mesa_delta.specs.declared.input.Input.{Input}
 use Rattle.mesa_write_turns.specs.mesa_history_spec.Sources.{Written, range_rows, source_at, sources_from}

@@ -4,11 +4,11 @@ use Rattle.std.specs.Prelude.{flat_map}
 use Rattle.std.specs.List.{AllByRecursion}
 use Rattle.mesa_file.specs.declared.damage.Damage.{Damage}
 use Rattle.mesa_file.specs.declared.file_ref.FileRef.{FileRef}
-use Rattle.mesa_write_turns.specs.mesa_schema.declared.rows.Row.{Row}
-use Rattle.mesa_write_turns.specs.mesa_schema.declared.views.View.{View}
+use Rattle.mesa_write_turns.specs.mesa_columns.declared.rows.Row.{Row}
+use Rattle.mesa_write_turns.specs.mesa_columns.declared.views.View.{View}
 use Rattle.mesa_write_turns.specs.mesa_schema.Changes.{Lineage, columns_at}
-use Rattle.mesa_write_turns.specs.mesa_schema.Columns.{Columns}
-use Rattle.mesa_write_turns.specs.mesa_schema.Folded.{folded, folded_at, keys_of, rows_of}
+use Rattle.mesa_write_turns.specs.mesa_columns.Columns.{Columns}
+use Rattle.mesa_open_files.specs.mesa_fold.Folded.{folded, folded_at, keys_of, rows_of}
 use Rattle.mesa_pick_files.specs.mesa_value.declared.Agg.{Agg}
 use Rattle.mesa_disk.specs.Image.{Image, file_of}
 use Rattle.mesa_engine.specs.mesa_commit.Images.{Has}

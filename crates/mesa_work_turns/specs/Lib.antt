@@ -1,4 +1,6 @@
+pub use Rattle.mesa_write_turns.specs.mesa_binding as mesa_binding
 pub use Rattle.mesa_pick_files.specs.mesa_catalog_table as mesa_catalog_table
+pub use Rattle.mesa_write_turns.specs.mesa_columns as mesa_columns
 pub use Rattle.mesa_copy.specs.mesa_compact as mesa_compact
 pub use Rattle.mesa_copy.specs as mesa_copy
 pub use Rattle.mesa_write_turns.specs.mesa_file_records as mesa_file_records

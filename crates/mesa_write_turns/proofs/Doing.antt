@@ -3,10 +3,10 @@ use Rattle.std.proofs.Common.{◌≡◌, ℕ, ◌+◌, ◌<◌, List, [], ◌∷
 use Rattle.std.proofs.lemmas.Simd.{map-map}
 use Rattle.mesa_batch.specs.Batch.{Placed, batch_of}
 use Rattle.mesa_batch.specs.declared.words.RowWords.{RowWords}
-use Rattle.mesa_schema.specs.declared.changes.Change.{Change as ColumnChange}
-use Rattle.mesa_schema.specs.Changes.{columns_of, epoch_of}
-use Rattle.mesa_schema.specs.Columns.{place_of}
-use Rattle.mesa_schema.specs.Views.{max_views, view_checked}
+use Rattle.mesa_columns.specs.declared.changes.Change.{Change as ColumnChange}
+use Rattle.mesa_file_records.specs.mesa_schema.Changes.{columns_of, epoch_of}
+use Rattle.mesa_columns.specs.Columns.{place_of}
+use Rattle.mesa_file_records.specs.mesa_schema.Views.{max_views, view_checked}
 use Rattle.mesa_disk.specs.Story.{Story}
 use Rattle.mesa_model.specs.declared.commands.AlterWords.{AlterWords}
 use Rattle.mesa_model.specs.declared.commands.Command.{Command}

@@ -1,8 +1,8 @@
 -- What a turn writes for its command.
 use Rattle.std.specs.Prelude.{◌≡◌, ℕ, ◌+◌, ◌<◌, ◌^◌, List, length, true, Option, None, Some, Ok}
 use Rattle.mesa_batch.specs.Batch.{Placed, batch_of}
-use Rattle.mesa_schema.specs.declared.changes.Change.{Change as ColumnChange}
-use Rattle.mesa_schema.specs.Changes.{columns_of, epoch_of}
+use Rattle.mesa_columns.specs.declared.changes.Change.{Change as ColumnChange}
+use Rattle.mesa_file_records.specs.mesa_schema.Changes.{columns_of, epoch_of}
 use Rattle.mesa_disk.specs.Files.{HasDistinctIds, files_of}
 use Rattle.mesa_disk.specs.Image.{Image, file_of}
 use Rattle.mesa_disk.specs.declared.moving.Adoption.{Adoption}

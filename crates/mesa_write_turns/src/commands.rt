@@ -12,11 +12,11 @@ ghost use Rattle.mesa_write_turns.specs.Writing.{KeepsFiles};
 
 use crate::deciding::decide;
 use crate::ruling::{rule_alter, rule_expire, rule_table, rule_view};
+use mesa_columns::Words;
 use mesa_disk::{Disk, Made};
 use mesa_engine::{Engine, Naming, Who};
 use mesa_io::Sink;
 use mesa_model::{AlterWords, TableWords, ViewWords};
-use mesa_columns::Words;
 use std::alloc::Global;
 
 /// The turn that makes a table.

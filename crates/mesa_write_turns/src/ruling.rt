@@ -3,9 +3,9 @@ ghost use Rattle.std.specs.Prelude.{IfErr, IfOk};
 ghost use Rattle.mesa_model.specs.declared.commands.Command.TheVariants as command;
 ghost use Rattle.mesa_write_turns.specs.Ruling.{IsAllowed, IsRefused};
 
+use mesa_columns::Words;
 use mesa_engine::{Failure, Metadata};
 use mesa_model::{AlterWords, TableWords, ViewWords};
-use mesa_columns::Words;
 use mesa_validate::Ruled;
 use std::alloc::Global;
 

@@ -1,7 +1,7 @@
 // Keys that filters take, and short keys between which there may be such.
 ghost use Rattle.std.specs.Prelude.{◌≡◌, [], ◌∷◌};
 ghost use Rattle.mesa_key.specs.declared.KeyType.TheVariants as types;
-ghost use Rattle.mesa_schema.specs.Columns.{kinds_of};
+ghost use Rattle.mesa_print.specs.mesa_columns.Columns.{kinds_of};
 
 use crate::expected::expect_same;
 use crate::filter::places::{key, schema};

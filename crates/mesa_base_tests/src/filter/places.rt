@@ -2,7 +2,7 @@
 ghost use Rattle.std.specs.Prelude.{◌≡◌, [], ◌∷◌, IfOk, IsTrue};
 ghost use Rattle.mesa_key.specs.declared.KeyType.TheVariants as types;
 ghost use Rattle.mesa_key.specs.Spelling.{is_spelling};
-ghost use Rattle.mesa_schema.specs.Columns.{kinds_of};
+ghost use Rattle.mesa_print.specs.mesa_columns.Columns.{kinds_of};
 
 use crate::schema::columns::{key_columns, value_columns};
 use mesa_key::{KeyText, encode_int, encode_text, reads_back};

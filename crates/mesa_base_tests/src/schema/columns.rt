@@ -1,7 +1,7 @@
 // Names and columns from words.
 ghost use Rattle.std.specs.Prelude.{◌≡◌, [], ◌∷◌, map};
 ghost use Rattle.mesa_key.specs.declared.KeyType.TheVariants as types;
-ghost use Rattle.mesa_schema.specs.declared.columns.KeyColumn.{KeyColumn as Column};
+ghost use Rattle.mesa_print.specs.mesa_columns.declared.columns.KeyColumn.{KeyColumn as Column};
 
 use mesa_key::KeyType;
 use mesa_schema::{KeyColumn, Name, ValueColumn};

@@ -3,8 +3,8 @@ ghost use Rattle.std.specs.Prelude.{◌≡◌, IsTrue};
 ghost use Rattle.std.specs.List.{AllByRecursion};
 ghost use Rattle.mesa_value.specs.Agg.{IsNarrow};
 ghost use Rattle.mesa_key.specs.Spelling.{IsKey, key_of, key_spelling};
-ghost use Rattle.mesa_schema.specs.Columns.{kinds_of};
-ghost use Rattle.mesa_schema.specs.Rows.{AreRowsOf, IsRowOf};
+ghost use Rattle.mesa_print.specs.mesa_columns.Columns.{kinds_of};
+ghost use Rattle.mesa_print.specs.mesa_columns.Rows.{AreRowsOf, IsRowOf};
 
 use crate::expected::expect_same;
 use crate::schema::columns::name;

@@ -3,7 +3,7 @@ ghost use Rattle.std.specs.Prelude.{[], ◌∷◌, IfOk, IfSome, IsTrue};
 ghost use Rattle.std.specs.List.{AllByRecursion};
 ghost use Rattle.mesa_key.specs.Spelling.{IsKey, is_spelling};
 ghost use Rattle.mesa_key.specs.Text.{is_key_text};
-ghost use Rattle.mesa_schema.specs.declared.rows.Row.{Row as AnyRow};
+ghost use Rattle.mesa_print.specs.mesa_columns.declared.rows.Row.{Row as AnyRow};
 
 use crate::expected::expect_same;
 use mesa_key::{Amount, Key, KeyBytes, KeyText, KeyType, KeyValue, encode, reads_back};

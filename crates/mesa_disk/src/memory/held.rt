@@ -6,7 +6,7 @@ ghost use Rattle.mesa_disk.specs.Image.{area_of, with_area, overwritten, file_of
 ghost use Rattle.mesa_disk.specs.Recorded.{held_image, given_image, start_image};
 
 use crate::{Area, ByteList, FileId};
-use mesa_list::TryCopy;
+use mesa_file::TryCopy;
 use std::alloc::{AllocError, Global};
 use std::collections::BTreeMap;
 use std::sync::Arc;

@@ -1,6 +1,6 @@
 // The file of one row is written, and read again.
 ghost use Rattle.std.specs.Prelude.{[], ◌∷◌};
-ghost use Rattle.mesa_schema.specs.Lent.{lent};
+ghost use Rattle.mesa_query.specs.mesa_columns.Lent.{lent};
 ghost use Rattle.mesa_delta.specs.Writing.{HasTaken};
 ghost use Rattle.mesa_block.specs.Rows.{IsRow};
 ghost use Rattle.mesa_key.specs.declared.Format.TheVariants.{Two};

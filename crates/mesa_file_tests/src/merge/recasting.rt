@@ -1,7 +1,7 @@
 // What comes of recasting a table: its rows are grouped by the second of its key columns.
 ghost use Rattle.std.specs.Prelude.{◌≡◌, []};
 ghost use Rattle.mesa_schema.specs.Changes.{columns_of};
-ghost use Rattle.mesa_schema.specs.Columns.{Columns};
+ghost use Rattle.mesa_query.specs.mesa_columns.Columns.{Columns};
 ghost use Rattle.mesa_open_files.specs.Inputs.{AreInputsTo};
 ghost use Rattle.mesa_open_files.specs.Recasts.{AreRangesOf, IsRecastTask, IsRecasted, IsRecastedSoFar, own, recast_table};
 ghost use Rattle.mesa_open_files.specs.declared.recasting.Recasted.{Recasted as AnyRecasted};

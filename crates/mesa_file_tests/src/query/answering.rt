@@ -1,7 +1,7 @@
 // Queries of a table, answered from two of its files.
 ghost use Rattle.std.specs.List.{AllByRecursion};
 ghost use Rattle.mesa_schema.specs.Changes.{columns_of};
-ghost use Rattle.mesa_schema.specs.Columns.{Columns};
+ghost use Rattle.mesa_query.specs.mesa_columns.Columns.{Columns};
 ghost use Rattle.mesa_filter.specs.Query.{IsQueryOf};
 ghost use Rattle.mesa_open_files.specs.Pins.{IsPinnedInput};
 

@@ -2,7 +2,7 @@
 ghost use Rattle.std.specs.Prelude.{◌≡◌, [], None};
 ghost use Rattle.std.specs.List.{AllByRecursion};
 ghost use Rattle.mesa_schema.specs.Changes.{columns_of};
-ghost use Rattle.mesa_schema.specs.Columns.{Columns};
+ghost use Rattle.mesa_query.specs.mesa_columns.Columns.{Columns};
 ghost use Rattle.mesa_open_files.specs.Pins.{IsPinned, IsPinnedInput};
 
 use crate::query::answering::{Asked, by_a, query_of};

@@ -1,7 +1,7 @@
 // Inputs over files that are spelled.
 ghost use Rattle.std.specs.Prelude.{◌≡◌, ◌≤◌, [], ◌∷◌, ◌++◌, ℕ, Option, Some};
 ghost use Rattle.mesa_schema.specs.Changes.{columns_of};
-ghost use Rattle.mesa_schema.specs.Columns.{Columns};
+ghost use Rattle.mesa_query.specs.mesa_columns.Columns.{Columns};
 ghost use Rattle.mesa_scan.specs.Cursors.{IsInput};
 ghost use Rattle.mesa_open_files.specs.Pins.{HasViewOf, IsPinnedInput, view_at};
 

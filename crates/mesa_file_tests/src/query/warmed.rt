@@ -1,5 +1,5 @@
 // Queries answered through caches of two pages, and then without them.
-ghost use Rattle.mesa_schema.specs.Columns.{Columns};
+ghost use Rattle.mesa_query.specs.mesa_columns.Columns.{Columns};
 ghost use Rattle.mesa_open_files.specs.Pins.{IsPinned};
 
 use crate::query::answering::{Asked, query_of};

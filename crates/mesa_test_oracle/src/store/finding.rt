@@ -1,6 +1,6 @@
 // What stands in a store, found by names and numbers.
 ghost use Rattle.std.specs.Prelude.{◌≡◌, ◌<◌, ◌≤◌, ◌⊎◌, [], length, slice_get, slice_index_or, option_map, IfSome};
-ghost use Rattle.mesa_schema.specs.Rows.{AreRowsOf};
+ghost use Rattle.mesa_answer.specs.mesa_columns.Rows.{AreRowsOf};
 ghost use Rattle.mesa_schema.specs.Changes.{columns_of};
 ghost use Rattle.mesa_answer.specs.Answering.{KeepsSums};
 ghost use Rattle.mesa_model.specs.Relations.{is_taken as taken, relation_of, table_number};

@@ -1,7 +1,7 @@
 // Schemas that are changed.
 ghost use Rattle.std.specs.Prelude.{◌≡◌, ◌≢◌, ◌<◌, Ok, Err, IfOk, IfErr, OnOk, OnErr, length};
-ghost use Rattle.mesa_schema.specs.declared.changes.ChangeError.{ChangeError as WhyNot};
-ghost use Rattle.mesa_schema.specs.declared.changes.ChangeError.TheVariants as change_error;
+ghost use Rattle.mesa_answer.specs.mesa_columns.declared.changes.ChangeError.{ChangeError as WhyNot};
+ghost use Rattle.mesa_answer.specs.mesa_columns.declared.changes.ChangeError.TheVariants as change_error;
 ghost use Rattle.mesa_schema.specs.Changes.{change_checked};
 ghost use Rattle.mesa_model.specs.Step.{done_or_refused};
 ghost use Rattle.mesa_model.specs.Tables.{alter_table, changed_name as name_of};

@@ -3,9 +3,9 @@ ghost use Rattle.std.specs.Prelude.{◌≡◌, ◌<◌, length, None, Ok, Err, I
 ghost use Rattle.std.specs.List.{AllByRecursion};
 ghost use Rattle.mesa_list.specs.Checks.{refused_as};
 ghost use Rattle.mesa_key.specs.Spelling.{is_spelling};
-ghost use Rattle.mesa_schema.specs.declared.rows.Row.{Row as AnyRow};
+ghost use Rattle.mesa_answer.specs.mesa_columns.declared.rows.Row.{Row as AnyRow};
 ghost use Rattle.mesa_schema.specs.Changes.{epoch_of};
-ghost use Rattle.mesa_schema.specs.Rows.{AreRowsOf};
+ghost use Rattle.mesa_answer.specs.mesa_columns.Rows.{AreRowsOf};
 ghost use Rattle.mesa_answer.specs.Answering.{grouped_columns};
 ghost use Rattle.mesa_filter.specs.Query.{IsQueryOf, group_kinds, query_of};
 ghost use Rattle.mesa_model.specs.Page.{page_of};

@@ -1,5 +1,5 @@
 use Rattle.std.proofs.Common.{◌∙◌, ap}
-use Rattle.mesa_schema.specs.Folded.{grouped}
+use Rattle.mesa_model.specs.mesa_fold.Folded.{grouped}
 use Rattle.mesa_filter.specs.Filter.{filtered}
 use Rattle.mesa_model.specs.Page.{page_of}
 use Rattle.mesa_answer.specs.Gathering.{Wanted}

@@ -2,9 +2,9 @@ use Rattle.std.proofs.Common.{◌≡◌, ◌∙◌, ◌+◌, ◌∷◌, ◌++◌
 use Rattle.std.specs.Prelude.{filter}
 use Rattle.std.proofs.lemmas.List.Elements.{All-from_recursion}
 use Rattle.mesa_key.specs.Spelling.{key_of}
-use Rattle.mesa_schema.specs.declared.rows.Row.{Row as AnyRow}
-use Rattle.mesa_schema.specs.Columns.{kinds_of}
-use Rattle.mesa_schema.specs.Rows.{IsRowOf}
+use Rattle.mesa_model.specs.mesa_columns.declared.rows.Row.{Row as AnyRow}
+use Rattle.mesa_model.specs.mesa_columns.Columns.{kinds_of}
+use Rattle.mesa_model.specs.mesa_columns.Rows.{IsRowOf}
 use Rattle.mesa_filter.specs.Filter.{meets}
 use Rattle.mesa_answer.specs.Answering.{KeepsSums}
 use Rattle.mesa_answer.specs.Gathered.{HasPut, wanted_of}

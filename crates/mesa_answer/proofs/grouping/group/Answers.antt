@@ -1,6 +1,6 @@
 use Rattle.std.proofs.Common.{◌^◌, ◌-◌, arith, sym, subst}
-use Rattle.mesa_schema.specs.Rows.{AreRowsOf}
-use Rattle.mesa_schema.proofs.GroupKeys.{groups_form}
+use Rattle.mesa_model.specs.mesa_columns.Rows.{AreRowsOf}
+use Rattle.mesa_model.proofs.mesa_fold.GroupKeys.{groups_form}
 use Rattle.mesa_answer.specs.Answering.{KeepsSums, grouped_columns}
 use Rattle.mesa_answer.specs.Gathered.{wanted_of}
 use Rattle.mesa_answer.proofs.Bounds.{sums_grouped}

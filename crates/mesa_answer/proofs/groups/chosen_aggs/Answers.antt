@@ -1,5 +1,5 @@
 use Rattle.std.proofs.Common.{◌∙◌, ap}
-use Rattle.mesa_schema.specs.Columns.{aggs_of}
+use Rattle.mesa_model.specs.mesa_columns.Columns.{aggs_of}
 use Rattle.mesa_filter.proofs.PlacesAsked.{chosen_more, chosen_same}
 use Rattle.mesa_answer.proofs.Picked.{agg_nowhere, agg_there}
 use Rattle.mesa_answer.proofs.groups.chosen_aggs.Goals as goal

@@ -1,5 +1,5 @@
 use Rattle.std.proofs.Common.{◌≡◌, ◌++◌, drop}
-use Rattle.mesa_schema.specs.Columns.{aggs_of, chosen}
+use Rattle.mesa_model.specs.mesa_columns.Columns.{aggs_of, chosen}
 use Rattle.mesa_answer.proofs.groups.chosen_aggs.Given as goal
 
 -- the aggregations so far and those at the places that are left are all

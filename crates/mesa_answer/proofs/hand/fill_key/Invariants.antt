@@ -1,7 +1,7 @@
 use Rattle.std.proofs.Common.{◌≡◌, ◌++◌, drop, true}
 use Rattle.std.specs.List.{concat}
 use Rattle.mesa_key.specs.Spelling.{columns_of, is_spelling}
-use Rattle.mesa_schema.specs.Columns.{chosen}
+use Rattle.mesa_model.specs.mesa_columns.Columns.{chosen}
 use Rattle.mesa_answer.proofs.hand.fill_key.Given as goal
 
 -- the columns so far and those at the places that are left are all, and those from a place on are left of the key

@@ -1,6 +1,6 @@
 use Rattle.std.proofs.Common.{◌≡◌, ◌∙◌, ◌++◌, ◌∷◌, [], List, length, ap, arith, sym, subst}
 use Rattle.std.specs.BTreeMap.{insert_entry}
-use Rattle.mesa_schema.specs.declared.rows.Row.{Row}
+use Rattle.mesa_model.specs.mesa_columns.declared.rows.Row.{Row}
 use Rattle.mesa_answer.specs.Held.{ArePlaced, Entry, key_cmp, rows_in}
 use Rattle.std.specs.List.Sorted.{IsStrictlySortedBy}
 use Rattle.std.specs.Map.{keys_of}

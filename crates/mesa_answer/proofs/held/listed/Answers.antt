@@ -2,7 +2,7 @@ use Rattle.std.proofs.Common.{◌≡◌, ◌∙◌, List, [], ◌∷◌, ◌++�
 use Rattle.std.specs.List.Sorted.{IsStrictlySortedBy}
 use Rattle.std.specs.Map.{keys_of}
 use Rattle.std.proofs.lemmas.Map.Keys.{sorted_head, sorted_tail}
-use Rattle.mesa_schema.specs.declared.rows.Row.{Row}
+use Rattle.mesa_model.specs.mesa_columns.declared.rows.Row.{Row}
 use Rattle.mesa_answer.specs.Held.{Entry, key_cmp, row_in, rows_in}
 use Rattle.mesa_answer.proofs.Entries.{Stand, apart, rows_beside, stand_with}
 use Rattle.mesa_answer.proofs.held.listed.Goals as goal

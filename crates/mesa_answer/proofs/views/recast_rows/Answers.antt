@@ -1,5 +1,5 @@
 use Rattle.std.proofs.Common.{refl, []}
-use Rattle.mesa_schema.specs.declared.views.View.{View}
+use Rattle.mesa_model.specs.mesa_columns.declared.views.View.{View}
 use Rattle.mesa_answer.proofs.Results.{if_ok}
 use Rattle.mesa_answer.proofs.ViewColumns.{seen_form, seen_rows, seen_sums, seen_view}
 use Rattle.mesa_answer.proofs.views.recast_rows.Goals as goal

@@ -1,8 +1,8 @@
 use Rattle.std.proofs.Common.{◌≡◌, ℕ, List, ◌∙◌, ap, sym, subst, length, map}
 use Rattle.std.specs.Prelude.{IfOk, unwrap_or}
-use Rattle.mesa_schema.specs.declared.columns.ValueColumn.{ValueColumn}
-use Rattle.mesa_schema.specs.declared.changes.Change.{Change}
-use Rattle.mesa_schema.specs.Columns.{place_of}
+use Rattle.mesa_schema.specs.mesa_columns.declared.columns.ValueColumn.{ValueColumn}
+use Rattle.mesa_schema.specs.mesa_columns.declared.changes.Change.{Change}
+use Rattle.mesa_schema.specs.mesa_columns.Columns.{place_of}
 use Rattle.mesa_batch.specs.Totals.{totals_after, totals_without}
 use Rattle.mesa_batch.proofs.changing.totals_changed.Goals as goal
 

@@ -1,9 +1,9 @@
 use Rattle.std.proofs.Common.{◌≡◌, ◌≤◌, ◌+◌, suc, ◌++◌, [], ◌∷◌, length, drop, refl, sym, ◌∙◌, ap, add-one, arith, length-drop}
 use Rattle.std.proofs.Math.Seq.{drop-cons}
 use Rattle.std.proofs.lemmas.List.{drop-drop, drop_all}
-use Rattle.mesa_schema.specs.declared.rows.Row.{Row}
-use Rattle.mesa_schema.specs.Put.{put_rows}
-use Rattle.mesa_schema.proofs.Folds.{both_false}
+use Rattle.mesa_schema.specs.mesa_columns.declared.rows.Row.{Row}
+use Rattle.mesa_schema.specs.mesa_fold.Put.{put_rows}
+use Rattle.mesa_schema.proofs.mesa_fold.Folds.{both_false}
 use Rattle.mesa_batch.proofs.Kept.{put_rows-fold, rising-IsFold}
 use Rattle.mesa_batch.proofs.Sums.{abs_total-next}
 use Rattle.mesa_batch.proofs.Merged.{AreFull-put_rows, IsFold-put_rows, abs_total-drop, abs_total-put_rows, drop-whole, full-drop, rising-drop}

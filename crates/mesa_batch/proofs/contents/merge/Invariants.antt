@@ -1,7 +1,7 @@
 use Rattle.std.proofs.Common.{◌≡◌, ◌≤◌, ◌++◌, drop, length}
-use Rattle.mesa_schema.specs.Laws.{AreFull}
+use Rattle.mesa_schema.specs.mesa_fold.Laws.{AreFull}
 use Rattle.mesa_batch.specs.Bound.{KeepsBound}
-use Rattle.mesa_schema.specs.Put.{put_rows}
+use Rattle.mesa_schema.specs.mesa_fold.Put.{put_rows}
 use Rattle.mesa_batch.specs.Put.{AreRising}
 use Rattle.mesa_batch.proofs.contents.merge.Given as goal
 

@@ -1,9 +1,9 @@
 use Rattle.std.proofs.Common.{◌≡◌, suc, ◌++◌, ◌∷◌, get_or, take, drop, sym, subst, ◌∙◌, ap, add-one}
 use Rattle.std.specs.declared.cmp.Ordering.TheVariants.{Equal}
 use Rattle.mesa_schema.specs.mesa_key.Order.{byte_cmp}
-use Rattle.mesa_schema.specs.declared.rows.Row.{Row}
-use Rattle.mesa_schema.specs.Folded.{AllCombine, row_combined}
-use Rattle.mesa_schema.specs.Put.{put_rows}
+use Rattle.mesa_schema.specs.mesa_columns.declared.rows.Row.{Row}
+use Rattle.mesa_schema.specs.mesa_fold.Folded.{AllCombine, row_combined}
+use Rattle.mesa_schema.specs.mesa_fold.Put.{put_rows}
 use Rattle.mesa_batch.proofs.Place.{comparisons-rise}
 use Rattle.mesa_batch.proofs.Sums.{AllCombine-at}
 use Rattle.mesa_batch.proofs.Merged.{added_behind, merged-found, merged-missing}

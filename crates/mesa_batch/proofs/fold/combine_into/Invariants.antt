@@ -1,5 +1,5 @@
 use Rattle.std.proofs.Common.{◌≡◌, ◌++◌, length, drop, take}
-use Rattle.mesa_schema.specs.Folded.{AllCombine, row_combined}
+use Rattle.mesa_schema.specs.mesa_fold.Folded.{AllCombine, row_combined}
 use Rattle.mesa_batch.proofs.fold.combine_into.Given as goal
 
 -- the columns before the one at hand are combined, and the others are as they were

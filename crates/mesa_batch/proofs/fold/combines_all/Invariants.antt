@@ -1,5 +1,5 @@
 use Rattle.std.proofs.Common.{drop}
-use Rattle.mesa_schema.specs.Folded.{AllCombine}
+use Rattle.mesa_schema.specs.mesa_fold.Folded.{AllCombine}
 use Rattle.mesa_batch.proofs.fold.combines_all.Given as goal
 
 -- all combine where those do that are left

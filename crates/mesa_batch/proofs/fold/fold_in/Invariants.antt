@@ -2,9 +2,9 @@ use Rattle.std.proofs.Common.{◌≡◌, ◌+◌, ◌≤◌, ℕ, length, vec_le
 use Rattle.std.specs.Prelude.{Some, slice_get}
 use Rattle.std.specs.Vec.Iter.{into_iter_items, into_iter_len}
 use Rattle.mesa_schema.specs.mesa_value.declared.Agg.TheVariants.{Sum}
-use Rattle.mesa_schema.specs.Laws.{AreFull}
+use Rattle.mesa_schema.specs.mesa_fold.Laws.{AreFull}
 use Rattle.mesa_batch.specs.Totals.{abs_total}
-use Rattle.mesa_schema.specs.Put.{put_rows}
+use Rattle.mesa_schema.specs.mesa_fold.Put.{put_rows}
 use Rattle.mesa_batch.specs.Put.{IsFold}
 use Rattle.mesa_batch.proofs.fold.fold_in.Given as goal
 

@@ -2,7 +2,7 @@ use Rattle.std.proofs.Common.{◌≡◌, ◌<◌, ◌≤◌, ◌∙◌, get_or, 
 use Rattle.std.specs.Prelude.{is_ok, true}
 use Rattle.std.specs.declared.cmp.Ordering.TheVariants.{Equal}
 use Rattle.mesa_schema.specs.mesa_key.Order.{byte_cmp}
-use Rattle.mesa_schema.specs.Folded.{row_combined}
+use Rattle.mesa_schema.specs.mesa_fold.Folded.{row_combined}
 use Rattle.mesa_batch.proofs.Kept.{rising-IsFold}
 use Rattle.mesa_batch.proofs.Place.{comparisons-rise, put_row-found, put_row-missing}
 use Rattle.mesa_batch.proofs.Sums.{AllCombine-at}

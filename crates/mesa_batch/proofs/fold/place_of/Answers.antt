@@ -1,7 +1,7 @@
 use Rattle.std.proofs.Common.{rules, tests}
 use Rattle.std.proofs.lemmas.Fn.{always_returns_same}
 use Rattle.mesa_schema.specs.mesa_key.Order.{byte_cmp}
-use Rattle.mesa_schema.specs.declared.rows.Row.{Row as RowOf}
+use Rattle.mesa_schema.specs.mesa_columns.declared.rows.Row.{Row as RowOf}
 use Rattle.mesa_batch.proofs.fold.place_of.Goals as goal
 
 pub returns-clause-place : goal.returns-clause-place

@@ -2,7 +2,7 @@ use Rattle.std.proofs.Common.{◌∙◌, ap, sym, take, map}
 use Rattle.std.specs.Option.{option_or}
 use Rattle.std.specs.Bool.{then_some}
 use Rattle.mesa_list.specs.Bytes.{same_bytes}
-use Rattle.mesa_schema.specs.Columns.{place_of}
+use Rattle.mesa_schema.specs.mesa_columns.Columns.{place_of}
 use Rattle.mesa_batch.specs.declared.glance.Glanced.{Glanced}
 use Rattle.mesa_batch.proofs.NameNumbers.{names_next}
 use Rattle.mesa_batch.proofs.glance.numbered.Goals as goal

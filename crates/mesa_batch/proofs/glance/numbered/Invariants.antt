@@ -1,5 +1,5 @@
 use Rattle.std.proofs.Common.{◌≡◌, ℕ, List, map, take}
-use Rattle.mesa_schema.specs.Columns.{place_of}
+use Rattle.mesa_schema.specs.mesa_columns.Columns.{place_of}
 use Rattle.mesa_batch.specs.declared.glance.Glanced.{Glanced}
 use Rattle.mesa_batch.specs.Numbers.{number_at}
 use Rattle.mesa_batch.proofs.glance.numbered.Given as goal

@@ -1,6 +1,6 @@
 use Rattle.std.proofs.Common.{◌≡◌, ◌++◌, drop, map}
-use Rattle.mesa_schema.specs.declared.columns.ValueColumn.{ValueColumn}
-use Rattle.mesa_schema.specs.Columns.{places_in}
+use Rattle.mesa_schema.specs.mesa_columns.declared.columns.ValueColumn.{ValueColumn}
+use Rattle.mesa_schema.specs.mesa_columns.Columns.{places_in}
 use Rattle.mesa_batch.specs.Totals.{chosen_totals}
 use Rattle.mesa_batch.proofs.recasting.totals_recast.Given as goal
 

@@ -1,5 +1,5 @@
 use Rattle.std.proofs.Common.{◌≡◌, ◌++◌, map, drop}
-use Rattle.mesa_schema.specs.Columns.{aggs_of}
+use Rattle.mesa_schema.specs.mesa_columns.Columns.{aggs_of}
 use Rattle.mesa_batch.specs.Flat.{rows_over}
 use Rattle.mesa_batch.specs.Totals.{abs_total, abs_totals, capped, sum_places}
 use Rattle.mesa_batch.proofs.totals.absolute_totals.Given as goal

@@ -1,7 +1,7 @@
 use Rattle.std.proofs.Common.{◌<◌, ◌^◌, ◌∙◌, ap, sym, subst, arith}
-use Rattle.mesa_schema.specs.declared.rows.Row.{Row}
-use Rattle.mesa_schema.specs.Lent.{lent}
-use Rattle.mesa_schema.specs.Rows.{IsRowOf}
+use Rattle.mesa_open_files.specs.mesa_columns.declared.rows.Row.{Row}
+use Rattle.mesa_open_files.specs.mesa_columns.Lent.{lent}
+use Rattle.mesa_open_files.specs.mesa_columns.Rows.{IsRowOf}
 use Rattle.mesa_answer.specs.Gathering.{Wanted}
 use Rattle.mesa_bench.proofs.answering.put_page.Goals as goal
 

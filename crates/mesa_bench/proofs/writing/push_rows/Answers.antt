@@ -1,5 +1,5 @@
 use Rattle.std.proofs.Common.{◌≡◌, ℕ, refl, sym, subst, ◌∙◌, arith}
-use Rattle.mesa_schema.specs.Lent.{lent}
+use Rattle.mesa_open_files.specs.mesa_columns.Lent.{lent}
 use Rattle.mesa_delta.specs.Writing.{HasTaken, IsNext}
 use Rattle.mesa_bench.specs.Made.{HasColumns, rows_below}
 use Rattle.mesa_bench.proofs.Following.{next_row, with_row}

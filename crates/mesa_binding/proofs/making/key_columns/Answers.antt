@@ -3,8 +3,8 @@ use Rattle.std.proofs.Math.Seq.{drop-cons}
 use Rattle.std.specs.List.{list_all}
 use Rattle.std.proofs.lemmas.Result.{err_from_is_err_and}
 use Rattle.mesa_list.specs.Checks.{refuse_unless}
-use Rattle.mesa_schema.specs.declared.columns.KeyColumn.{KeyColumn}
-use Rattle.mesa_schema.specs.Names.{is_name}
+use Rattle.mesa_model.specs.mesa_columns.declared.columns.KeyColumn.{KeyColumn}
+use Rattle.mesa_model.specs.mesa_columns.Names.{is_name}
 use Rattle.mesa_model.specs.declared.commands.KeyWords.{KeyWords}
 use Rattle.mesa_model.specs.declared.replies.SchemaFault.TheVariants as fault
 use Rattle.mesa_model.specs.Refusals.{bad_schema}

@@ -1,7 +1,7 @@
 use Rattle.std.proofs.Common.{◌≡◌, ◌++◌, drop, map}
 use Rattle.std.specs.List.{list_all}
-use Rattle.mesa_schema.specs.declared.columns.KeyColumn.{KeyColumn}
-use Rattle.mesa_schema.specs.Names.{is_name}
+use Rattle.mesa_model.specs.mesa_columns.declared.columns.KeyColumn.{KeyColumn}
+use Rattle.mesa_model.specs.mesa_columns.Names.{is_name}
 use Rattle.mesa_binding.specs.Asked.{keys_asked}
 use Rattle.mesa_binding.proofs.making.key_columns.Given as goal
 

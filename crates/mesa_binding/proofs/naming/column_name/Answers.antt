@@ -2,8 +2,8 @@ use Rattle.std.proofs.Common.{◌≡◌, ◌∙◌, ap, sym, map, false}
 use Rattle.std.specs.Prelude.{is_some}
 use Rattle.mesa_list.specs.Bytes.{same_bytes}
 use Rattle.mesa_list.specs.Checks.{refuse_unless}
-use Rattle.mesa_schema.specs.Names.{has_name}
-use Rattle.mesa_schema.proofs.Maps.{is_some_position}
+use Rattle.mesa_model.specs.mesa_columns.Names.{has_name}
+use Rattle.mesa_model.proofs.mesa_columns.Maps.{is_some_position}
 use Rattle.mesa_model.specs.declared.replies.Refusal.TheVariants as no
 use Rattle.mesa_binding.proofs.Namings.{column_named}
 use Rattle.mesa_binding.proofs.naming.column_name.Goals as goal

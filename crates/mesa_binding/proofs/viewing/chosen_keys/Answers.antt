@@ -2,11 +2,11 @@ use Rattle.std.proofs.Common.{◌∙◌, List, ap, subst, map}
 use Rattle.std.specs.List.{list_all}
 use Rattle.std.proofs.lemmas.Result.{err_from_is_err_and}
 use Rattle.mesa_list.specs.Checks.{refuse_unless}
-use Rattle.mesa_schema.specs.declared.columns.KeyColumn.{KeyColumn}
-use Rattle.mesa_schema.specs.declared.views.ViewError.TheVariants as view
+use Rattle.mesa_model.specs.mesa_columns.declared.columns.KeyColumn.{KeyColumn}
+use Rattle.mesa_model.specs.mesa_columns.declared.views.ViewError.TheVariants as view
 use Rattle.mesa_schema.specs.Changes.{columns_of}
-use Rattle.mesa_schema.specs.Columns.{Columns, key_names}
-use Rattle.mesa_schema.specs.Names.{has_name}
+use Rattle.mesa_model.specs.mesa_columns.Columns.{Columns, key_names}
+use Rattle.mesa_model.specs.mesa_columns.Names.{has_name}
 use Rattle.mesa_model.specs.declared.replies.Refusal.TheVariants as no
 use Rattle.mesa_binding.specs.Told.{IsDue}
 use Rattle.mesa_binding.proofs.Viewings.{choice_missing}

@@ -2,10 +2,10 @@ use Rattle.std.proofs.Common.{◌∙◌, List, ap, subst, map}
 use Rattle.std.specs.List.{list_all}
 use Rattle.std.proofs.lemmas.Result.{err_from_is_err_and}
 use Rattle.mesa_list.specs.Checks.{refuse_unless}
-use Rattle.mesa_schema.specs.declared.columns.ValueColumn.{ValueColumn}
+use Rattle.mesa_model.specs.mesa_columns.declared.columns.ValueColumn.{ValueColumn}
 use Rattle.mesa_schema.specs.Changes.{columns_of}
-use Rattle.mesa_schema.specs.Columns.{Columns}
-use Rattle.mesa_schema.specs.Names.{has_name}
+use Rattle.mesa_model.specs.mesa_columns.Columns.{Columns}
+use Rattle.mesa_model.specs.mesa_columns.Names.{has_name}
 use Rattle.mesa_model.specs.declared.replies.Refusal.TheVariants as no
 use Rattle.mesa_binding.specs.Told.{IsDue}
 use Rattle.mesa_binding.proofs.Viewings.{values_missing}

@@ -2,7 +2,7 @@ use Rattle.std.proofs.Common.{◌≡◌, ◌∙◌, ◌+◌, ◌++◌, ◌∷◌
 use Rattle.std.proofs.Math.Seq.{drop-cons}
 use Rattle.std.proofs.lemmas.Result.{err_from_is_err_and}
 use Rattle.mesa_list.specs.Checks.{refuse_unless}
-use Rattle.mesa_schema.specs.Names.{has_name}
+use Rattle.mesa_model.specs.mesa_columns.Names.{has_name}
 use Rattle.mesa_model.specs.declared.replies.Refusal.TheVariants as no
 use Rattle.mesa_binding.specs.Told.{IsDue}
 use Rattle.mesa_binding.proofs.Viewings.{word_missing}

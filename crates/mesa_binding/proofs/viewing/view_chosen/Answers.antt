@@ -1,9 +1,9 @@
 use Rattle.std.proofs.Common.{◌∙◌, List, ℕ, ap, sym, subst}
 use Rattle.std.proofs.lemmas.Result.{err_from_is_err_and}
 use Rattle.mesa_list.specs.Checks.{◌>>◌, refused_as}
-use Rattle.mesa_schema.specs.declared.views.ViewError.TheVariants as view
+use Rattle.mesa_model.specs.mesa_columns.declared.views.ViewError.TheVariants as view
 use Rattle.mesa_schema.specs.Changes.{columns_of}
-use Rattle.mesa_schema.specs.Columns.{Columns, key_names}
+use Rattle.mesa_model.specs.mesa_columns.Columns.{Columns, key_names}
 use Rattle.mesa_schema.specs.Views.{choice_checked, chosen_values_checked}
 use Rattle.mesa_model.specs.Refusals.{view_refusal}
 use Rattle.mesa_binding.specs.Told.{IsDue}

@@ -1,5 +1,5 @@
 use Rattle.std.proofs.Common.{◌≡◌, ℕ, ◌<◌, [], get_or, true}
-use Rattle.mesa_schema.specs.mesa_key.Spelling.{is_key_text}
+use Rattle.mesa_columns.specs.mesa_key.Spelling.{is_key_text}
 use Rattle.mesa_block.proofs.checking.bad_cell.Given as goal
 
 -- the cells before are texts

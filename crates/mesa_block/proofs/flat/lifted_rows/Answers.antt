@@ -1,7 +1,7 @@
 use Rattle.std.proofs.Common.{◌≡◌, ◌∙◌, ◌++◌, ◌∷◌, [], ℕ, ℤ, List, ap, length, subst, sym}
 use Rattle.std.specs.Prelude.{Some, slice_get}
-use Rattle.mesa_schema.specs.declared.rows.Row.{Row}
-use Rattle.mesa_schema.specs.Lent.{lent}
+use Rattle.mesa_columns.specs.declared.rows.Row.{Row}
+use Rattle.mesa_columns.specs.Lent.{lent}
 use Rattle.mesa_block.proofs.Lifting.{lifted_more, values_count}
 use Rattle.mesa_block.proofs.flat.lifted_rows.Goals as goal
 

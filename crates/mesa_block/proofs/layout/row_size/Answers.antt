@@ -1,6 +1,6 @@
 use Rattle.std.proofs.Common.{◌≡◌, ◌+◌, ◌*◌, ◌<◌, ◌≤◌, ℕ, List, ◌∙◌, arith, ap, get_or, length, take}
 use Rattle.std.proofs.lemmas.List.{length-map, length-take}
-use Rattle.mesa_schema.specs.declared.columns.ValueColumn.{ValueColumn}
+use Rattle.mesa_columns.specs.declared.columns.ValueColumn.{ValueColumn}
 use Rattle.mesa_block.specs.Layout.{size_of, values_size, width_of, widths_in}
 use Rattle.mesa_block.proofs.Alone.{few_columns}
 use Rattle.mesa_block.proofs.Cells.{size_more, size_most, values_most}

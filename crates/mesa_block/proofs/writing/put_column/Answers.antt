@@ -1,7 +1,7 @@
 use Rattle.std.proofs.Common.{◌≡◌, ◌∙◌, ◌++◌, ◌∷◌, Bor, List, ℕ, [], ap, sym, subst, map, take, get_or}
 use Rattle.std.specs.Prelude.{IsTrue}
 use Rattle.std.proofs.lemmas.List.{map-append, take_all}
-use Rattle.mesa_schema.specs.mesa_key.Spelling.{is_spelling}
+use Rattle.mesa_columns.specs.mesa_key.Spelling.{is_spelling}
 use Rattle.mesa_block.proofs.Laying.{at_mapped}
 use Rattle.mesa_block.proofs.Putting.{Put, at_next, put_more, put_none, put_whole}
 use Rattle.mesa_block.proofs.writing.put_column.Goals as goal

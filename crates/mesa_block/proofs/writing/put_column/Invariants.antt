@@ -1,5 +1,5 @@
 use Rattle.std.proofs.Common.{◌≡◌, List, ◌∷◌, map, take}
-use Rattle.mesa_schema.specs.mesa_key.declared.KeyType.{KeyType}
+use Rattle.mesa_columns.specs.mesa_key.declared.KeyType.{KeyType}
 use Rattle.mesa_block.proofs.Putting.{Put}
 use Rattle.mesa_block.proofs.writing.put_column.Given as goal
 

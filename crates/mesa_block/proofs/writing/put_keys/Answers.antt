@@ -1,8 +1,8 @@
 use Rattle.std.proofs.Common.{◌≡◌, ◌++◌, List, ℕ, Bor, map, length, arith, sym, ap, subst}
 use Rattle.std.specs.Prelude.{IsTrue}
 use Rattle.std.specs.List.{AllByRecursion}
-use Rattle.mesa_schema.specs.mesa_key.declared.KeyType.{KeyType}
-use Rattle.mesa_schema.specs.mesa_key.Spelling.{is_spelling}
+use Rattle.mesa_columns.specs.mesa_key.declared.KeyType.{KeyType}
+use Rattle.mesa_columns.specs.mesa_key.Spelling.{is_spelling}
 use Rattle.mesa_block.specs.Spelling.{columns}
 use Rattle.mesa_block.proofs.Putting.{column_more, columns_end, others_good}
 use Rattle.mesa_block.proofs.writing.put_keys.Goals as goal

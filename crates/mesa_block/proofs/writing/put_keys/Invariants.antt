@@ -1,7 +1,7 @@
 use Rattle.std.proofs.Common.{◌≡◌, ◌++◌, map, length}
 use Rattle.std.specs.Prelude.{IsTrue}
 use Rattle.std.specs.List.{AllByRecursion}
-use Rattle.mesa_schema.specs.mesa_key.Spelling.{is_spelling}
+use Rattle.mesa_columns.specs.mesa_key.Spelling.{is_spelling}
 use Rattle.mesa_block.specs.Spelling.{columns}
 use Rattle.mesa_block.proofs.writing.put_keys.Given as goal
 

@@ -1,6 +1,6 @@
 use Rattle.std.proofs.Common.{◌∙◌, sym, length}
 use Rattle.std.specs.Prelude.{replicate}
-use Rattle.mesa_schema.specs.Columns.{Columns}
+use Rattle.mesa_store_spec.specs.mesa_columns.Columns.{Columns}
 use Rattle.mesa_catalog_table.proofs.Counts.{counts_begun}
 use Rattle.mesa_catalog_table.proofs.Tests.{if_ok}
 use Rattle.mesa_catalog_table.proofs.counting.first_widths.Goals as goal

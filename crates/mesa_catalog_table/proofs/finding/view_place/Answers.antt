@@ -3,7 +3,7 @@ use Rattle.std.proofs.lemmas.Iterator.Adapters.{position_from-zero}
 use Rattle.std.proofs.lemmas.List.{length-map}
 use Rattle.std.proofs.lemmas.Option.{get_or_from_slice_get, slice_get_within}
 use Rattle.mesa_list.specs.Bytes.{same_bytes}
-use Rattle.mesa_schema.specs.declared.views.View.{View}
+use Rattle.mesa_store_spec.specs.mesa_columns.declared.views.View.{View}
 use Rattle.mesa_catalog_table.specs.Lookups.{view_names}
 use Rattle.mesa_catalog_table.proofs.Places.{place_here, place_later, place_nowhere}
 use Rattle.mesa_catalog_table.proofs.finding.view_place.Goals as goal

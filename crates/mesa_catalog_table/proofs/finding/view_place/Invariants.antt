@@ -1,7 +1,7 @@
 use Rattle.std.proofs.Common.{◌≡◌, drop}
 use Rattle.std.specs.List.{position_from}
 use Rattle.mesa_list.specs.Bytes.{same_bytes}
-use Rattle.mesa_schema.specs.Columns.{place_of}
+use Rattle.mesa_store_spec.specs.mesa_columns.Columns.{place_of}
 use Rattle.mesa_catalog_table.specs.Lookups.{view_names}
 use Rattle.mesa_catalog_table.proofs.finding.view_place.Given as goal
 

@@ -1,8 +1,9 @@
 use Rattle.std.proofs.Common.{◌≡◌, ◌≤◌, ◌+◌, ◌-◌, ◌∙◌, ap, arith, length, take}
 use Rattle.std.specs.Prelude.{min, slice_index_or}
 use Rattle.std.proofs.lemmas.List.{take_min}
-use Rattle.mesa_schema.specs.Changes.{columns_after, columns_at, epoch_of}
-use Rattle.mesa_schema.specs.Columns.{Columns}
+use Rattle.mesa_store_spec.specs.mesa_columns.Changes.{columns_after}
+use Rattle.mesa_schema.specs.Changes.{columns_at, epoch_of}
+use Rattle.mesa_store_spec.specs.mesa_columns.Columns.{Columns}
 use Rattle.mesa_catalog_table.proofs.Counts.{width_at, width_there}
 use Rattle.mesa_catalog_table.proofs.recording.count_columns.Goals as goal
 

@@ -3,7 +3,7 @@ use Rattle.std.specs.Prelude.{min}
 use Rattle.std.proofs.lemmas.Option.{slice_get_past}
 use Rattle.mesa_store_spec.specs.Fitting.{columns_seen}
 use Rattle.mesa_schema.specs.Changes.{columns_of}
-use Rattle.mesa_schema.specs.Columns.{Columns}
+use Rattle.mesa_store_spec.specs.mesa_columns.Columns.{Columns}
 use Rattle.mesa_catalog_table.proofs.Counts.{view_depth, view_width}
 use Rattle.mesa_catalog_table.proofs.recording.count_seen.Goals as goal
 

@@ -4,8 +4,8 @@ use Rattle.std.specs.List.{AllByRecursion}
 use Rattle.mesa_batch.specs.Totals.{abs_totals}
 use Rattle.mesa_store_spec.specs.Sound.{all_parts}
 use Rattle.mesa_schema.specs.Changes.{columns_of}
-use Rattle.mesa_schema.specs.Columns.{Columns}
-use Rattle.mesa_schema.specs.Folded.{rows_of}
+use Rattle.mesa_pick_files.specs.mesa_columns.Columns.{Columns}
+use Rattle.mesa_open_files.specs.mesa_fold.Folded.{rows_of}
 use Rattle.mesa_catalog_table.specs.Meaning.{meta_of}
 use Rattle.mesa_check_file.specs.Sums.{counted}
 use Rattle.mesa_check.specs.Found.{rows_found}

@@ -1,6 +1,6 @@
 use Rattle.std.proofs.Common.{◌+◌, ◌∙◌, ◌∷◌, [], sym, subst, take, ◌++◌}
 use Rattle.std.specs.List.{AllByRecursion}
-use Rattle.mesa_schema.proofs.Lists.{all_map}
+use Rattle.mesa_check_file.proofs.mesa_columns.Lists.{all_map}
 use Rattle.mesa_store_spec.proofs.Lists.{all_back, all_front, all_unmap}
 use Rattle.mesa_store_spec.specs.Fitting.{LiveFile, view_live}
 use Rattle.mesa_record.specs.declared.record.ViewRef.{ViewRef}

@@ -3,7 +3,7 @@ use Rattle.std.specs.Prelude.{IfSome, is_some, slice_get}
 use Rattle.mesa_store_spec.specs.Fitting.{LiveFile}
 use Rattle.mesa_pick_files.specs.Files.{own_lineage}
 use Rattle.mesa_schema.specs.Changes.{Lineage}
-use Rattle.mesa_schema.specs.declared.views.View.{View}
+use Rattle.mesa_pick_files.specs.mesa_columns.declared.views.View.{View}
 use Rattle.mesa_check.specs.Found.{IsFoundAs}
 use Rattle.mesa_check.specs.Tested.{HasRows}
 use Rattle.mesa_check.proofs.Recorded.{view_live_file, view_there}

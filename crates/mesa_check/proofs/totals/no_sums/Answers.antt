@@ -1,7 +1,7 @@
 use Rattle.std.proofs.Common.{◌∙◌, ap, map}
 use Rattle.std.specs.Prelude.{replicate}
-use Rattle.mesa_schema.specs.Columns.{aggs_of}
-use Rattle.mesa_schema.specs.declared.columns.ValueColumn.{ValueColumn}
+use Rattle.mesa_pick_files.specs.mesa_columns.Columns.{aggs_of}
+use Rattle.mesa_pick_files.specs.mesa_columns.declared.columns.ValueColumn.{ValueColumn}
 use Rattle.mesa_batch.specs.Totals.{sum_places, sums_in}
 use Rattle.mesa_check.proofs.Sums.{none_counted}
 use Rattle.mesa_check.proofs.totals.no_sums.Goals as goal

@@ -4,8 +4,8 @@ use Rattle.std.specs.FinMap.{slice_cmp-IsAntisymmetric, nat_cmp-IsAntisymmetric}
 use Rattle.std.specs.Ordering.{int_eq, is_gt, is_lt}
 use Rattle.std.specs.declared.cmp.Ordering.TheVariants.{Less, Greater}
 use Rattle.mesa_key.specs.Order.{byte_cmp}
-use Rattle.mesa_schema.specs.declared.rows.Row.{Row as AnyRow}
-use Rattle.mesa_schema.specs.Lent.{lent}
+use Rattle.mesa_open_files.specs.mesa_columns.declared.rows.Row.{Row as AnyRow}
+use Rattle.mesa_open_files.specs.mesa_columns.Lent.{lent}
 use Rattle.mesa_check_file.proofs.Same.{flipped_back, is_greater, is_less, is_neither, other_values, same_parts}
 use Rattle.mesa_check_file.proofs.Differences.{lesser_here, lesser_there}
 use Rattle.mesa_check_file.proofs.Differences.{other_values as values_apart}

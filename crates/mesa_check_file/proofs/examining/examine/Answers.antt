@@ -1,6 +1,6 @@
 use Rattle.std.proofs.Common.{refl, ap, subst, ◌∙◌}
 use Rattle.mesa_schema.specs.Changes.{columns_at, columns_of}
-use Rattle.mesa_schema.specs.Columns.{Columns}
+use Rattle.mesa_open_files.specs.mesa_columns.Columns.{Columns}
 use Rattle.mesa_open_files.specs.Opening.{IsUnsound}
 use Rattle.mesa_check_file.proofs.Judged.{examined, not_damaged}
 use Rattle.mesa_check_file.proofs.examining.examine.Goals as goal

@@ -1,8 +1,8 @@
 use Rattle.std.proofs.Common.{◌≡◌, ℕ, List, length, map, sym, ap, subst, ◌∙◌}
 use Rattle.std.proofs.lemmas.Bool.{false≢true}
 use Rattle.mesa_schema.specs.Changes.{columns_of}
-use Rattle.mesa_schema.specs.Columns.{Columns}
-use Rattle.mesa_schema.specs.Lifting.{lifted_with}
+use Rattle.mesa_open_files.specs.mesa_columns.Columns.{Columns}
+use Rattle.mesa_open_files.specs.mesa_columns.Lifting.{lifted_with}
 use Rattle.mesa_open_files.specs.mesa_batch.Totals.{abs_totals}
 use Rattle.mesa_check_file.specs.Sums.{AreTotals, counted}
 use Rattle.mesa_check_file.specs.Tallies.{IsToldOf}

@@ -1,5 +1,5 @@
 use Rattle.std.proofs.Common.{◌≡◌, ℕ, [], List}
-use Rattle.mesa_schema.specs.declared.rows.Row.{Row}
+use Rattle.mesa_open_files.specs.mesa_columns.declared.rows.Row.{Row}
 use Rattle.mesa_scan.specs.Cursors.{HasGiven, IsInput, IsSameInput, reader_in}
 use Rattle.mesa_check_file.specs.Tallies.{Tallies}
 use Rattle.mesa_check_file.proofs.examining.tally_rows.Given as goal

@@ -1,5 +1,5 @@
 use Rattle.std.proofs.Common.{◌≡◌, ◌++◌, List}
-use Rattle.mesa_schema.specs.declared.rows.Row.{Row}
+use Rattle.mesa_open_files.specs.mesa_columns.declared.rows.Row.{Row}
 use Rattle.std.specs.Prelude.{None}
 use Rattle.mesa_scan.specs.Cursors.{HasGiven, IsInput, IsSameInput, low_of, reader_in}
 use Rattle.mesa_check_file.proofs.finishing.finish_input.Given as goal

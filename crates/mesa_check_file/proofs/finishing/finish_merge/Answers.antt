@@ -1,9 +1,9 @@
 use Rattle.std.proofs.Common.{◌≡◌, ◌∷◌, [], ◌++◌, List, refl, sym, ap, subst, ◌∙◌, append_assoc}
 use Rattle.std.proofs.lemmas.Bool.{false≢true}
-use Rattle.mesa_schema.specs.declared.rows.Row.{Row}
-use Rattle.mesa_schema.specs.Folded.{rows_of}
+use Rattle.mesa_open_files.specs.mesa_columns.declared.rows.Row.{Row}
+use Rattle.mesa_open_files.specs.mesa_fold.Folded.{rows_of}
 use Rattle.mesa_open_files.specs.mesa_batch.Bound.{KeepsBound}
-use Rattle.mesa_schema.specs.Columns.{aggs_of}
+use Rattle.mesa_open_files.specs.mesa_columns.Columns.{aggs_of}
 use Rattle.mesa_merge.specs.Inputs.{AreAll, AreTold, lifted_parts}
 use Rattle.mesa_merge.specs.Merged.{row_in}
 use Rattle.std.specs.Prelude.{Ok, Err}

@@ -1,9 +1,9 @@
 use Rattle.std.proofs.Common.{◌≡◌, List, map, refl, sym, ap, subst, ◌∙◌}
 use Rattle.std.proofs.lemmas.Result.{err_from_is_err_and}
 use Rattle.std.specs.Prelude.{Err, IsTrue, slice_get}
-use Rattle.mesa_schema.specs.declared.rows.Row.{Row}
+use Rattle.mesa_open_files.specs.mesa_columns.declared.rows.Row.{Row}
 use Rattle.mesa_schema.specs.Changes.{columns_of}
-use Rattle.mesa_schema.specs.Rows.{keys_rise}
+use Rattle.mesa_open_files.specs.mesa_columns.Rows.{keys_rise}
 use Rattle.mesa_schema.specs.Views.{view_key_places, view_rows, view_value_places}
 use Rattle.mesa_scan.specs.Cursors.{lift_by}
 use Rattle.mesa_delta.specs.declared.error.FileError.TheVariants.{Memory, Read}

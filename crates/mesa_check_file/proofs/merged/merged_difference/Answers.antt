@@ -2,12 +2,12 @@ use Rattle.std.proofs.Common.{◌≡◌, [], ◌∷◌, ◌++◌, List, map, ref
 use Rattle.std.proofs.lemmas.Result.{err_from_is_err_and}
 use Rattle.std.specs.Bool.{then_some}
 use Rattle.std.specs.Prelude.{Option, None, Err, IsTrue, option_map, option_to_list}
-use Rattle.mesa_schema.specs.declared.rows.Row.{Row}
+use Rattle.mesa_open_files.specs.mesa_columns.declared.rows.Row.{Row}
 use Rattle.mesa_schema.specs.Changes.{columns_of}
-use Rattle.mesa_schema.specs.Columns.{Columns, aggs_of}
-use Rattle.mesa_schema.specs.Folded.{folded, rows_of}
-use Rattle.mesa_schema.specs.Lent.{lent}
-use Rattle.mesa_schema.specs.Rows.{keys_rise}
+use Rattle.mesa_open_files.specs.mesa_columns.Columns.{Columns, aggs_of}
+use Rattle.mesa_open_files.specs.mesa_fold.Folded.{folded, rows_of}
+use Rattle.mesa_open_files.specs.mesa_columns.Lent.{lent}
+use Rattle.mesa_open_files.specs.mesa_columns.Rows.{keys_rise}
 use Rattle.mesa_open_files.specs.mesa_batch.Bound.{KeepsBound}
 use Rattle.mesa_delta.specs.declared.error.FileError.TheVariants.{Memory, Read}
 use Rattle.mesa_delta.specs.Reading.{IsIndexed}

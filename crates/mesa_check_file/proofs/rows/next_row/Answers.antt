@@ -1,8 +1,8 @@
 use Rattle.std.proofs.Common.{◌≡◌, ◌∷◌, ◌++◌, List, drop, ap, subst, sym, ◌∙◌}
 use Rattle.std.specs.Prelude.{None}
-use Rattle.mesa_schema.specs.declared.rows.Row.{Row}
+use Rattle.mesa_open_files.specs.mesa_columns.declared.rows.Row.{Row}
 use Rattle.mesa_schema.specs.Changes.{columns_of}
-use Rattle.mesa_schema.specs.Rows.{AreRowsOf, IsRowOf}
+use Rattle.mesa_open_files.specs.mesa_columns.Rows.{AreRowsOf, IsRowOf}
 use Rattle.mesa_scan.specs.Cursors.{at_hand}
 use Rattle.mesa_scan.proofs.Taken.{taken}
 use Rattle.mesa_check_file.proofs.Streams.{form_in}

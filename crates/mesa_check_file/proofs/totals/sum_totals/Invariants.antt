@@ -1,6 +1,6 @@
 use Rattle.std.proofs.Common.{◌≡◌, ◌++◌, List, length, map, drop}
-use Rattle.mesa_schema.specs.declared.rows.Row.{Row}
-use Rattle.mesa_schema.specs.Columns.{aggs_of}
+use Rattle.mesa_open_files.specs.mesa_columns.declared.rows.Row.{Row}
+use Rattle.mesa_open_files.specs.mesa_columns.Columns.{aggs_of}
 use Rattle.mesa_open_files.specs.mesa_batch.Totals.{abs_total, abs_totals, sum_places}
 use Rattle.mesa_check_file.specs.Sums.{AreTotals, counted}
 use Rattle.mesa_check_file.proofs.totals.sum_totals.Given as goal

@@ -1,7 +1,7 @@
 use Rattle.std.proofs.Common.{◌≡◌, ℕ, [], List, length}
 use Rattle.std.specs.Prelude.{Option, slice_get, Some}
 use Rattle.std.specs.List.{AllByRecursion}
-use Rattle.mesa_schema.specs.declared.views.View.{View}
+use Rattle.mesa_open_files.specs.mesa_columns.declared.views.View.{View}
 use Rattle.mesa_answer.specs.declared.groups.Groups.{Groups}
 use Rattle.mesa_open_files.specs.declared.merging.TaskView.{TaskView}
 use Rattle.mesa_compact.specs.Grouping.{HavePut, TakesRows, wanted_in}

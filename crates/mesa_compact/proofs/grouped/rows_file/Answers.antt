@@ -1,6 +1,6 @@
 use Rattle.std.proofs.Common.{◌≡◌, [], refl, sym, ◌∙◌, subst}
-use Rattle.mesa_schema.specs.Columns.{Columns}
-use Rattle.mesa_schema.specs.Rows.{AreRowsOf}
+use Rattle.mesa_open_files.specs.mesa_columns.Columns.{Columns}
+use Rattle.mesa_open_files.specs.mesa_columns.Rows.{AreRowsOf}
 use Rattle.mesa_delta.specs.Writing.{columns_of}
 use Rattle.mesa_open_files.specs.Made.{IsMadeFile}
 use Rattle.mesa_compact.proofs.Causing.{caused_bench, caused_on, same_end}

@@ -1,10 +1,10 @@
 use Rattle.std.proofs.Common.{◌≡◌, ◌++◌, ◌∷◌, [], map, take, sym, ◌∙◌, subst, refl}
 use Rattle.mesa_open_files.specs.mesa_block.Rows.{Rise}
 use Rattle.mesa_open_files.specs.mesa_block.Spelling.{key_of}
-use Rattle.mesa_schema.specs.declared.rows.Row.{Row}
-use Rattle.mesa_schema.specs.Columns.{Columns}
-use Rattle.mesa_schema.specs.Lent.{lent}
-use Rattle.mesa_schema.specs.Rows.{IsRowOf}
+use Rattle.mesa_open_files.specs.mesa_columns.declared.rows.Row.{Row}
+use Rattle.mesa_open_files.specs.mesa_columns.Columns.{Columns}
+use Rattle.mesa_open_files.specs.mesa_columns.Lent.{lent}
+use Rattle.mesa_open_files.specs.mesa_columns.Rows.{IsRowOf}
 use Rattle.mesa_delta.specs.Writing.{columns_of}
 use Rattle.mesa_merge.specs.Sums.{sum_damage}
 use Rattle.mesa_compact.proofs.Causing.{caused_damage, caused_ok, caused_write}

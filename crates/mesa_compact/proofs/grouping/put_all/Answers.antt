@@ -1,5 +1,5 @@
 use Rattle.std.proofs.Common.{◌++◌, ◌∷◌, [], sym, ◌∙◌, subst, set, arith, add-one}
-use Rattle.mesa_schema.specs.Lent.{lent}
+use Rattle.mesa_open_files.specs.mesa_columns.Lent.{lent}
 use Rattle.mesa_compact.specs.Grouping.{HasPutIn, TakesRows}
 use Rattle.mesa_compact.proofs.Putting.{AllUpTo, all_at, map_set, takes_kept, upto_all, upto_at, upto_set}
 use Rattle.mesa_compact.proofs.grouping.put_all.Goals as goal

@@ -1,6 +1,6 @@
 use Rattle.std.proofs.Common.{◌≡◌, ◌++◌, ◌∷◌, [], List, map}
-use Rattle.mesa_schema.specs.declared.rows.Row.{Row}
-use Rattle.mesa_schema.specs.Lent.{lent}
+use Rattle.mesa_open_files.specs.mesa_columns.declared.rows.Row.{Row}
+use Rattle.mesa_open_files.specs.mesa_columns.Lent.{lent}
 use Rattle.mesa_compact.specs.Grouping.{HasPutIn, HavePut, wanted_in}
 use Rattle.mesa_compact.proofs.Putting.{AllUpTo}
 use Rattle.mesa_compact.proofs.grouping.put_all.Given as goal

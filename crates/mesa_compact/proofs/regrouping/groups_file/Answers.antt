@@ -1,7 +1,7 @@
 use Rattle.std.proofs.Common.{◌≡◌, ◌<◌, true, false, refl, sym, ◌∙◌, ap, subst, inl, inr}
 use Rattle.std.specs.Prelude.{nat_le}
 use Rattle.std.specs.List.{AllByRecursion, list_any}
-use Rattle.mesa_schema.specs.Columns.{Columns}
+use Rattle.mesa_open_files.specs.mesa_columns.Columns.{Columns}
 use Rattle.mesa_batch.specs.Totals.{abs_totals, capped, sum_bound}
 use Rattle.mesa_merge.specs.Sums.{sum_damage}
 use Rattle.mesa_compact.proofs.Causing.{caused_damage, caused_memory, caused_ok, caused_on}

@@ -1,10 +1,10 @@
 use Rattle.std.proofs.Common.{◌≡◌, ◌++◌, ◌∷◌, [], inl, inr, List, refl, sym, ◌∙◌, ap, subst}
 use Rattle.std.specs.Prelude.{None}
-use Rattle.mesa_schema.specs.declared.rows.Row.{Row}
-use Rattle.mesa_schema.specs.Columns.{Columns, aggs_of}
-use Rattle.mesa_schema.specs.Folded.{folded}
-use Rattle.mesa_schema.specs.Lent.{lent}
-use Rattle.mesa_schema.specs.Rows.{IsRowOf}
+use Rattle.mesa_open_files.specs.mesa_columns.declared.rows.Row.{Row}
+use Rattle.mesa_open_files.specs.mesa_columns.Columns.{Columns, aggs_of}
+use Rattle.mesa_open_files.specs.mesa_fold.Folded.{folded}
+use Rattle.mesa_open_files.specs.mesa_columns.Lent.{lent}
+use Rattle.mesa_open_files.specs.mesa_columns.Rows.{IsRowOf}
 use Rattle.mesa_delta.specs.declared.error.FileError.TheVariants.{Damaged}
 use Rattle.mesa_answer.specs.Answering.{KeepsSums}
 use Rattle.mesa_answer.specs.Gathered.{HasPut, wanted_of}

@@ -1,9 +1,9 @@
 use Rattle.std.proofs.Common.{inl, inr, ◌≡◌, ◌⊎◌, ◌<◌, ◌+◌, ℕ, List, [], ◌++◌, length, map, refl, sym, ◌∙◌, ap, arith, subst, length-append, true}
 use Rattle.std.proofs.lemmas.List.{length-map}
-use Rattle.mesa_schema.specs.declared.rows.Row.{Row}
-use Rattle.mesa_schema.specs.Columns.{Columns, aggs_of, chosen}
-use Rattle.mesa_schema.specs.Folded.{folded, grouped, regrouped}
-use Rattle.mesa_schema.specs.Rows.{AreRowsOf, keys_rise}
+use Rattle.mesa_open_files.specs.mesa_columns.declared.rows.Row.{Row}
+use Rattle.mesa_open_files.specs.mesa_columns.Columns.{Columns, aggs_of, chosen}
+use Rattle.mesa_open_files.specs.mesa_fold.Folded.{folded, grouped, regrouped}
+use Rattle.mesa_open_files.specs.mesa_columns.Rows.{AreRowsOf, keys_rise}
 use Rattle.mesa_batch.specs.Totals.{abs_totals}
 use Rattle.mesa_answer.specs.Answering.{KeepsSums, grouped_columns}
 use Rattle.mesa_answer.proofs.Bounds.{sums_grouped}

@@ -1,7 +1,7 @@
 use Rattle.std.proofs.Common.{List, inl, inr, length, map, refl, sym, ◌∙◌, ap, subst}
 use Rattle.std.specs.Prelude.{Option, flat_map}
 use Rattle.std.specs.List.{AllByRecursion}
-use Rattle.mesa_schema.specs.Columns.{Columns}
+use Rattle.mesa_open_files.specs.mesa_columns.Columns.{Columns}
 use Rattle.mesa_schema.specs.Changes.{columns_of}
 use Rattle.mesa_answer.specs.declared.groups.Groups.{Groups}
 use Rattle.mesa_merge.specs.Inputs.{knowns_of}

@@ -1,6 +1,6 @@
 use Rattle.std.proofs.Common.{Global, Vec, List, sym, subst}
 use Rattle.std.specs.Prelude.{Option, IfSome}
-use Rattle.mesa_schema.specs.declared.rows.Row.{Row}
+use Rattle.mesa_open_files.specs.mesa_columns.declared.rows.Row.{Row}
 use Rattle.mesa_delta.specs.declared.input.Input.{Input}
 use Rattle.mesa_open_files.specs.Inputs.{IsMergeOf}
 use Rattle.mesa_open_files.specs.Made.{IsMadeFile}

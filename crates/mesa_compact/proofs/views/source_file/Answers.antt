@@ -8,7 +8,7 @@ use Rattle.mesa_compact.specs.Sources.{IsSourceOf}
 use Rattle.mesa_compact.proofs.Causing.{caused_on, same_end}
 use Rattle.mesa_compact.proofs.Viewing.{grouped_merged, own_merged}
 use Rattle.mesa_compact.proofs.Whole.{if_ok_map}
-use Rattle.mesa_schema.specs.Columns.{Columns}
+use Rattle.mesa_open_files.specs.mesa_columns.Columns.{Columns}
 use Rattle.mesa_compact.specs.Bounded.{AreOwnBounded}
 use Rattle.mesa_compact.proofs.Whole.{if_err_map}
 use Rattle.mesa_compact.proofs.views.source_file.Goals as goal

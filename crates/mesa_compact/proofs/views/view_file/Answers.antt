@@ -1,6 +1,6 @@
 use Rattle.std.proofs.Common.{◌≡◌, inl, inr, refl, sym, ap, subst, arith}
 use Rattle.std.specs.Prelude.{Option, IfSome}
-use Rattle.mesa_schema.specs.declared.views.View.{View}
+use Rattle.mesa_open_files.specs.mesa_columns.declared.views.View.{View}
 use Rattle.mesa_schema.specs.Changes.{columns_of}
 use Rattle.mesa_schema.specs.Views.{view_columns}
 use Rattle.mesa_open_files.specs.Tasks.{IsMergedView}

@@ -1,10 +1,10 @@
 use Rattle.std.proofs.Common.{◌≡◌, ◌<◌, ℕ, List, [], ◌∷◌, ◌++◌, length, refl, sym, ◌∙◌, ap, subst, arith}
 use Rattle.std.specs.Prelude.{IsTrue}
 use Rattle.std.specs.List.{AllByRecursion}
-use Rattle.mesa_schema.specs.declared.rows.Row.{Row}
+use Rattle.mesa_compact.specs.mesa_columns.declared.rows.Row.{Row}
 use Rattle.mesa_schema.specs.Changes.{columns_of}
-use Rattle.mesa_schema.specs.Columns.{Columns}
-use Rattle.mesa_schema.specs.Folded.{grouped}
+use Rattle.mesa_compact.specs.mesa_columns.Columns.{Columns}
+use Rattle.mesa_open_files.specs.mesa_fold.Folded.{grouped}
 use Rattle.mesa_schema.specs.Recasts.{Recast, recast_columns, recast_rows}
 use Rattle.mesa_batch.specs.Totals.{abs_totals}
 use Rattle.mesa_filter.specs.Query.{are_places}

@@ -1,6 +1,6 @@
 use Rattle.std.proofs.Common.{◌<◌, [], sym, ◌∙◌, ap, subst}
 use Rattle.std.specs.List.{AllByRecursion}
-use Rattle.mesa_schema.specs.Columns.{Columns, aggs_of}
+use Rattle.mesa_compact.specs.mesa_columns.Columns.{Columns, aggs_of}
 use Rattle.mesa_batch.specs.Totals.{abs_totals, sum_bound, sum_places}
 use Rattle.mesa_copy.proofs.Counting.{none_passes, none_whole}
 use Rattle.mesa_copy.proofs.range.rewrite_none.Goals as goal

@@ -2,7 +2,7 @@ use Rattle.std.proofs.Common.{◌≡◌, ◌++◌, ◌<◌, suc, zero, [], ◌�
 use Rattle.std.specs.Prelude.{Option, Some, None, Err, option_map, option_to_list}
 use Rattle.std.specs.List.{AllByRecursion}
 use Rattle.mesa_schema.specs.Changes.{columns_of}
-use Rattle.mesa_schema.specs.Columns.{Columns}
+use Rattle.mesa_compact.specs.mesa_columns.Columns.{Columns}
 use Rattle.mesa_schema.specs.Recasts.{Recast, recast_columns}
 use Rattle.mesa_batch.specs.Totals.{abs_totals, sum_bound}
 use Rattle.mesa_delta.specs.declared.input.Input.{Input}

@@ -3,7 +3,7 @@ use Rattle.std.proofs.lemmas.List.{take-append-le, take_all}
 use Rattle.std.specs.Prelude.{Err}
 use Rattle.std.specs.Vec.{with_items}
 use Rattle.mesa_schema.specs.Changes.{Lineage, columns_of}
-use Rattle.mesa_schema.specs.Columns.{Columns}
+use Rattle.mesa_compact.specs.mesa_columns.Columns.{Columns}
 use Rattle.mesa_schema.specs.Recasts.{recast_keys, recast_values}
 use Rattle.mesa_compact.specs.mesa_merge.Faults.{faults_of}
 use Rattle.mesa_compact.proofs.mesa_merge.Handing.{refill}

@@ -1,8 +1,8 @@
 use Rattle.std.proofs.Common.{◌≡◌, ◌∙◌, rules, sym, ap, true, false}
 use Rattle.std.proofs.lemmas.Option.{get_or_from_slice_get}
-use Rattle.mesa_schema.specs.declared.rows.Row.{Row}
+use Rattle.mesa_block.specs.mesa_columns.declared.rows.Row.{Row}
 use Rattle.mesa_block.specs.Layout.{Layout}
-use Rattle.mesa_schema.specs.Lent.{lent}
+use Rattle.mesa_block.specs.mesa_columns.Lent.{lent}
 use Rattle.mesa_delta.specs.declared.place.Entry.{Entry}
 use Rattle.mesa_delta.specs.Packing.{goes_on}
 use Rattle.mesa_delta.proofs.Going.{never_allowed, never_counted, one_more_of}

@@ -1,7 +1,7 @@
 use Rattle.std.proofs.Common.{◌≡◌, ◌+◌, ◌-◌, ◌/◌, ◌≤◌, ◌<◌, length, sym, ◌∙◌, arith, get_or, ap, List, ℕ, [], zero, suc, ◌∷◌, refl}
 use Rattle.std.specs.Ordering.{is_le}
 use Rattle.std.proofs.lemmas.List.{length-map}
-use Rattle.mesa_key.specs.Order.{byte_cmp}
+use Rattle.mesa_block.specs.mesa_key.Order.{byte_cmp}
 use Rattle.mesa_delta.specs.declared.place.Entry.{Entry}
 use Rattle.mesa_delta.specs.Places.{shorts_of, short_of}
 use Rattle.mesa_delta.proofs.Searching.{above, below, within}

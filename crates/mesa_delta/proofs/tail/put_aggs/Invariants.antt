@@ -1,5 +1,5 @@
 use Rattle.std.proofs.Common.{◌≡◌, ◌++◌, map, drop}
-use Rattle.mesa_schema.specs.Codes.{agg_byte}
+use Rattle.mesa_block.specs.mesa_columns.Codes.{agg_byte}
 use Rattle.mesa_delta.proofs.Adding.{agg_of}
 use Rattle.mesa_delta.proofs.tail.put_aggs.Given as goal
 

@@ -1,5 +1,5 @@
 use Rattle.std.proofs.Common.{◌≡◌, ◌++◌, map, drop}
-use Rattle.mesa_schema.specs.Codes.{kind_byte}
+use Rattle.mesa_block.specs.mesa_columns.Codes.{kind_byte}
 use Rattle.mesa_delta.proofs.Adding.{kind_of}
 use Rattle.mesa_delta.proofs.tail.put_kinds.Given as goal
 

@@ -1,6 +1,6 @@
 use Rattle.std.proofs.Common.{◌≡◌, ◌<◌, length, pos, get_or, arith, refl, sym, rules, ◌∙◌, true}
 use Rattle.std.proofs.lemmas.Bool.{false≢true}
-use Rattle.mesa_value.specs.Agg.{Combines}
+use Rattle.mesa_block.specs.mesa_value.Agg.{Combines}
 use Rattle.mesa_delta.proofs.Adding.{sums_at, sums_end, sums_onto}
 use Rattle.mesa_delta.proofs.tally.all_combine.Goals as goal
 

@@ -5,8 +5,8 @@ use Rattle.std.proofs.lemmas.List.{length-map}
 use mir.Val.{SFits}
 use mir.Syntax.{w128}
 use Rattle.mesa_key.specs.Spelling.{columns_of, is_spelling}
-use Rattle.mesa_schema.specs.Columns.{kinds_of}
-use Rattle.mesa_schema.specs.declared.columns.KeyColumn.{KeyColumn}
+use Rattle.mesa_columns.specs.Columns.{kinds_of}
+use Rattle.mesa_columns.specs.declared.columns.KeyColumn.{KeyColumn}
 use Rattle.mesa_digest.specs.Digests.{amount_bytes}
 use Rattle.mesa_digest.proofs.Spelling.{if_ok_items, joined, key_column, on_ok, row_spells, value_column}
 use Rattle.mesa_digest.proofs.naming.add_cell.Goals as goal

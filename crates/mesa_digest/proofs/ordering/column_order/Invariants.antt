@@ -1,7 +1,7 @@
 use Rattle.std.proofs.Common.{◌≡◌, ◌<◌, map, take}
 use Rattle.std.specs.List.{AllByRecursion}
-use Rattle.mesa_schema.specs.declared.rows.Row.{Row}
-use Rattle.mesa_schema.specs.Rows.{IsRowOf}
+use Rattle.mesa_columns.specs.declared.rows.Row.{Row}
+use Rattle.mesa_columns.specs.Rows.{IsRowOf}
 use Rattle.mesa_digest.specs.Digests.{cells, in_order}
 use Rattle.mesa_digest.specs.Places.{cell_at}
 use Rattle.mesa_digest.proofs.ordering.column_order.Given as goal

@@ -1,7 +1,7 @@
 use Rattle.std.proofs.Common.{◌≡◌, ◌∙◌, ℕ, ◌<◌, ◌≤◌, List, length, true, ap, sym, subst}
-use Rattle.mesa_schema.specs.Columns.{Columns, aggs_of}
-use Rattle.mesa_schema.specs.Changes.{columns_of, epoch_of}
-use Rattle.mesa_schema.specs.Schema.{is_schema}
+use Rattle.mesa_columns.specs.Columns.{Columns, aggs_of}
+use Rattle.mesa_pick_files.specs.mesa_schema.Changes.{columns_of, epoch_of}
+use Rattle.mesa_columns.specs.Schema.{is_schema}
 use Rattle.mesa_batch.specs.Totals.{sum_places}
 use Rattle.mesa_engine.specs.mesa_store_spec.Catalog.{Catalog, meta_at}
 use Rattle.mesa_engine.specs.mesa_store_spec.Shape.{IsCatalog, IsShaped}

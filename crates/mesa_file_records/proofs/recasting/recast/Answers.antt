@@ -1,6 +1,6 @@
 use Rattle.std.proofs.Common.{◌≡◌, ◌+◌, ◌++◌, ◌≤◌, length, refl, sym, ◌∙◌, ap, subst, arith, List}
 use Rattle.mesa_disk.specs.Files.{files_of}
-use Rattle.mesa_schema.specs.Changes.{columns_of}
+use Rattle.mesa_pick_files.specs.mesa_schema.Changes.{columns_of}
 use Rattle.mesa_engine.specs.mesa_store_spec.Catalog.{Catalog, meta_at}
 use Rattle.mesa_engine.specs.EngineState.{next_id}
 use Rattle.mesa_file_records.specs.Adopted.{told_under}

@@ -1,5 +1,5 @@
 use Rattle.std.proofs.Common.{◌≡◌, true}
-use Rattle.mesa_schema.specs.mesa_key.Spelling.{is_spelling}
+use Rattle.mesa_fold.specs.mesa_key.Spelling.{is_spelling}
 use Rattle.mesa_filter.specs.Walk.{all_meet}
 use Rattle.mesa_filter.proofs.matching.columns_meet.Given as goal
 

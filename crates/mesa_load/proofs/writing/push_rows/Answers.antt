@@ -1,7 +1,7 @@
 use Rattle.std.proofs.Common.{◌≡◌, ◌<◌, ◌+◌, ◌++◌, ◌∷◌, [], ◌∙◌, ap, length, rules, take, subst, sym, add-one}
 use Rattle.std.proofs.Math.Seq.{take-suc}
 use Rattle.std.proofs.lemmas.Option.{get_or_from_slice_get}
-use Rattle.mesa_schema.specs.Lent.{lent}
+use Rattle.mesa_open_files.specs.mesa_columns.Lent.{lent}
 use Rattle.mesa_delta.specs.Writing.{HasTaken, columns_of}
 use Rattle.mesa_load.specs.Filing.{file_rows}
 use Rattle.mesa_load.proofs.Follows.{next_row}

@@ -1,8 +1,8 @@
 use Rattle.std.proofs.Common.{◌≡◌, inl, inr, ◌<◌, ◌+◌, ◌++◌, ◌∷◌, [], ℕ, get_or, length, set, refl, sym, ◌∙◌, ap, subst, arith, rules}
-use Rattle.mesa_schema.specs.declared.rows.Row.{Row}
-use Rattle.mesa_schema.specs.Columns.{aggs_of}
-use Rattle.mesa_schema.specs.Folded.{AllCombine, row_combined}
-use Rattle.mesa_schema.specs.Rows.{AreRowsOf}
+use Rattle.mesa_scan.specs.mesa_columns.declared.rows.Row.{Row}
+use Rattle.mesa_scan.specs.mesa_columns.Columns.{aggs_of}
+use Rattle.mesa_scan.specs.mesa_fold.Folded.{AllCombine, row_combined}
+use Rattle.mesa_scan.specs.mesa_columns.Rows.{AreRowsOf}
 use Rattle.mesa_scan.specs.Cursors.{at_hand}
 use Rattle.mesa_delta.specs.declared.error.FileError.TheVariants.{Damaged, Read}
 use Rattle.mesa_merge.specs.Damaged.{IsBlockOf}

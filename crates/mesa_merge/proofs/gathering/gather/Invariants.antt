@@ -1,8 +1,8 @@
 use Rattle.std.proofs.Common.{◌≡◌, ℕ, ◌+◌, ◌-◌, ◌<◌, List, length}
 use Rattle.std.specs.Prelude.{Option}
 use Rattle.std.specs.List.{AllByRecursion}
-use Rattle.mesa_schema.specs.declared.rows.Row.{Row}
-use Rattle.mesa_schema.specs.Columns.{Columns, aggs_of}
+use Rattle.mesa_scan.specs.mesa_columns.declared.rows.Row.{Row}
+use Rattle.mesa_scan.specs.mesa_columns.Columns.{Columns, aggs_of}
 use Rattle.mesa_scan.specs.Cursors.{IsInput}
 use Rattle.mesa_merge.specs.Faults.{faults_of}
 use Rattle.mesa_merge.specs.Hands.{hands_of}

@@ -1,6 +1,6 @@
 use Rattle.std.proofs.Common.{◌≡◌, sym, ◌∙◌, ap}
-use Rattle.mesa_schema.specs.declared.rows.Row.{Row}
-use Rattle.mesa_schema.specs.Lent.{lent}
+use Rattle.mesa_scan.specs.mesa_columns.declared.rows.Row.{Row}
+use Rattle.mesa_scan.specs.mesa_columns.Lent.{lent}
 use Rattle.mesa_merge.proofs.Hands.{hand_at}
 use Rattle.mesa_merge.proofs.Orders.{ahead_all, ahead_none}
 use Rattle.mesa_merge.proofs.Steps.{heads_same}

@@ -2,8 +2,8 @@ use Rattle.std.proofs.Common.{◌≡◌, [], ◌∷◌, get_or, ◌∙◌, arith
 use Rattle.std.specs.declared.cmp.Ordering.TheVariants.{Equal, Greater}
 use Rattle.std.proofs.lemmas.Grind.{common_steps}
 use Rattle.mesa_key.specs.Order.{byte_cmp}
-use Rattle.mesa_schema.specs.declared.rows.Row.{Row}
-use Rattle.mesa_schema.specs.Lent.{lent}
+use Rattle.mesa_scan.specs.mesa_columns.declared.rows.Row.{Row}
+use Rattle.mesa_scan.specs.mesa_columns.Lent.{lent}
 use Rattle.mesa_merge.specs.Hands.{hands_of}
 use Rattle.mesa_merge.proofs.Hands.{hand_at}
 use Rattle.mesa_merge.proofs.Orders.{before_by, greater_before, same_before}

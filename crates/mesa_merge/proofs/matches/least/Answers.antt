@@ -1,6 +1,6 @@
 use Rattle.std.proofs.Common.{◌≡◌, ◌<◌, get_or, length, sym, ◌∙◌, ap, subst, arith}
 use Rattle.std.proofs.lemmas.Grind.{common_steps}
-use Rattle.mesa_schema.specs.Lent.{lent}
+use Rattle.mesa_scan.specs.mesa_columns.Lent.{lent}
 use Rattle.mesa_merge.specs.Hands.{IsLeastAt, hands_of}
 use Rattle.mesa_merge.proofs.Hands.{hand_at, hands_length}
 use Rattle.mesa_merge.proofs.Trees.{winner_least, winner_none}

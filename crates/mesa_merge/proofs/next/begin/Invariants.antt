@@ -1,7 +1,7 @@
 use Rattle.std.proofs.Common.{◌≡◌, ◌≤◌, ℕ, [], List, length, get_or}
 use Rattle.std.specs.Prelude.{Option}
 use Rattle.std.specs.List.{AllByRecursion}
-use Rattle.mesa_schema.specs.declared.rows.Row.{Row}
+use Rattle.mesa_scan.specs.mesa_columns.declared.rows.Row.{Row}
 use Rattle.mesa_delta.specs.Ahead.{AreAhead}
 use Rattle.mesa_scan.specs.Cursors.{IsInput}
 use Rattle.mesa_merge.specs.Faults.{faults_of}

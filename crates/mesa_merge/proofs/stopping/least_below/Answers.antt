@@ -1,6 +1,6 @@
 use Rattle.std.proofs.Common.{◌≡◌, [], get_or, false, sym, ◌∙◌, ap}
-use Rattle.mesa_schema.specs.declared.rows.Row.{Row}
-use Rattle.mesa_schema.specs.Lent.{lent}
+use Rattle.mesa_scan.specs.mesa_columns.declared.rows.Row.{Row}
+use Rattle.mesa_scan.specs.mesa_columns.Lent.{lent}
 use Rattle.mesa_scan.specs.Cut.{is_under}
 use Rattle.mesa_merge.specs.Hands.{hands_of}
 use Rattle.mesa_merge.proofs.Hands.{hand_at}

@@ -1,6 +1,6 @@
 use Rattle.std.proofs.Common.{inl, inr, ◌≡◌, ◌≢◌, ◌<◌, ℕ, [], ◌∷◌, ◌++◌, get_or, length, set, refl, sym, ◌∙◌, subst, arith}
 use Rattle.std.proofs.lemmas.List.{length-set}
-use Rattle.mesa_schema.specs.Rows.{AreRowsOf}
+use Rattle.mesa_scan.specs.mesa_columns.Rows.{AreRowsOf}
 use Rattle.mesa_scan.specs.Cursors.{at_hand}
 use Rattle.mesa_scan.proofs.Taken.{stepped, taken}
 use Rattle.mesa_merge.specs.Fronts.{HasFront}

@@ -1,5 +1,5 @@
 use Rattle.std.proofs.Common.{subst}
-use Rattle.mesa_schema.specs.Columns.{Columns}
+use Rattle.mesa_history_spec.specs.mesa_columns.Columns.{Columns}
 use Rattle.mesa_open_files.specs.Opening.{IsDamageOf}
 use Rattle.mesa_open_files.proofs.opening.open_one.Goals as goal
 

@@ -1,6 +1,6 @@
 use Rattle.std.proofs.Common.{◌+◌, drop, length, map, true, Some, None, sym, ◌∙◌, ap, subst, arith}
 use Rattle.std.proofs.lemmas.List.{length-set}
-use Rattle.mesa_schema.specs.Columns.{place_of, places_in}
+use Rattle.mesa_model.specs.mesa_columns.Columns.{place_of, places_in}
 use Rattle.mesa_order.proofs.Marks.{Marks, all_left, mark_more, marked_all, none_yet}
 use Rattle.mesa_order.proofs.Scores.{names_next}
 use Rattle.mesa_order.proofs.marking.marks.Goals as goal

@@ -1,5 +1,5 @@
 use Rattle.std.proofs.Common.{◌≡◌, drop, length, map}
-use Rattle.mesa_schema.specs.Columns.{places_in}
+use Rattle.mesa_model.specs.mesa_columns.Columns.{places_in}
 use Rattle.mesa_order.proofs.Marks.{Marks}
 use Rattle.mesa_order.proofs.marking.marks.Given as goal
 

@@ -1,11 +1,11 @@
 use Rattle.std.proofs.Common.{◌≡◌, true, map, sym, ◌∙◌, ap, subst, Option}
 use Rattle.std.specs.Prelude.{IfSome, IsTrue}
 use Rattle.std.specs.List.{AllByRecursion}
-use Rattle.mesa_schema.specs.declared.columns.KeyColumn.{KeyColumn}
-use Rattle.mesa_schema.specs.declared.columns.ValueColumn.{ValueColumn}
-use Rattle.mesa_schema.specs.declared.views.View.{View}
+use Rattle.mesa_model.specs.mesa_columns.declared.columns.KeyColumn.{KeyColumn}
+use Rattle.mesa_model.specs.mesa_columns.declared.columns.ValueColumn.{ValueColumn}
+use Rattle.mesa_model.specs.mesa_columns.declared.views.View.{View}
 use Rattle.mesa_schema.specs.Changes.{columns_of}
-use Rattle.mesa_schema.specs.Columns.{Columns, places_in}
+use Rattle.mesa_model.specs.mesa_columns.Columns.{Columns, places_in}
 use Rattle.mesa_schema.specs.Views.{view_columns, view_key_places, view_value_places}
 use Rattle.mesa_filter.specs.declared.terms.Term.{Term}
 use Rattle.mesa_filter.specs.Among.{Holds, query_among}

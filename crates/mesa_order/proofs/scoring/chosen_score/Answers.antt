@@ -1,6 +1,6 @@
 use Rattle.std.proofs.Common.{◌+◌, drop, map, sym, ◌∙◌, ap, arith}
-use Rattle.mesa_schema.specs.declared.columns.KeyColumn.{KeyColumn}
-use Rattle.mesa_schema.specs.Columns.{place_of, places_in}
+use Rattle.mesa_model.specs.mesa_columns.declared.columns.KeyColumn.{KeyColumn}
+use Rattle.mesa_model.specs.mesa_columns.Columns.{place_of, places_in}
 use Rattle.mesa_model.specs.Orders.{leading}
 use Rattle.mesa_order.proofs.Scores.{chosen_all, chosen_ends, chosen_leads, chosen_past}
 use Rattle.mesa_order.proofs.scoring.chosen_score.Goals as goal

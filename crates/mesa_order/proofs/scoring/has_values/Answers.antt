@@ -1,6 +1,6 @@
 use Rattle.std.proofs.Common.{◌≡◌, ℕ, length, get_or, false, map, ◌∙◌, ap, arith}
-use Rattle.mesa_schema.specs.declared.columns.ValueColumn.{ValueColumn}
-use Rattle.mesa_schema.specs.Columns.{places_in}
+use Rattle.mesa_model.specs.mesa_columns.declared.columns.ValueColumn.{ValueColumn}
+use Rattle.mesa_model.specs.mesa_columns.Columns.{places_in}
 use Rattle.mesa_schema.specs.Views.{view_value_places}
 use Rattle.mesa_schema.proofs.ViewSchemas.{few_columns}
 use Rattle.mesa_model.specs.Orders.{has_place}

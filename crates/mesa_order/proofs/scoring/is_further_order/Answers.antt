@@ -1,7 +1,7 @@
 use Rattle.std.proofs.Common.{◌≡◌, ℕ, length, get_or, false, map, ◌∙◌, ap, arith}
 use Rattle.std.specs.List.{list_all, range_with_len}
-use Rattle.mesa_schema.specs.declared.columns.KeyColumn.{KeyColumn}
-use Rattle.mesa_schema.specs.Columns.{places_in}
+use Rattle.mesa_model.specs.mesa_columns.declared.columns.KeyColumn.{KeyColumn}
+use Rattle.mesa_model.specs.mesa_columns.Columns.{places_in}
 use Rattle.mesa_schema.specs.Views.{view_key_places}
 use Rattle.mesa_schema.proofs.ViewSchemas.{few_columns}
 use Rattle.mesa_model.specs.Orders.{has_place}

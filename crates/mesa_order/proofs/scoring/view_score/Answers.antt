@@ -1,6 +1,6 @@
 use Rattle.std.proofs.Common.{cond, map, sym, ◌∙◌, ap}
-use Rattle.mesa_schema.specs.declared.columns.KeyColumn.{KeyColumn}
-use Rattle.mesa_schema.specs.Columns.{places_in}
+use Rattle.mesa_model.specs.mesa_columns.declared.columns.KeyColumn.{KeyColumn}
+use Rattle.mesa_model.specs.mesa_columns.Columns.{places_in}
 use Rattle.mesa_schema.specs.Views.{view_key_places}
 use Rattle.mesa_model.specs.Orders.{leading}
 use Rattle.mesa_order.proofs.scoring.view_score.Goals as goal

@@ -1,6 +1,6 @@
 use Rattle.std.proofs.Common.{length, ◌∙◌, ap, arith}
 use Rattle.mesa_schema.specs.Changes.{columns_of}
-use Rattle.mesa_schema.specs.Columns.{Columns}
+use Rattle.mesa_model.specs.mesa_columns.Columns.{Columns}
 use Rattle.mesa_schema.proofs.ViewSchemas.{few_columns}
 use Rattle.mesa_model.specs.Orders.{choice}
 use Rattle.mesa_order.specs.Told.{kept_places}

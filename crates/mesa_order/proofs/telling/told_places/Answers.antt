@@ -1,5 +1,5 @@
 use Rattle.std.proofs.Common.{◌+◌, ◌++◌, drop, sym, ◌∙◌, ap, arith}
-use Rattle.mesa_schema.specs.Columns.{is_replace}
+use Rattle.mesa_model.specs.mesa_columns.Columns.{is_replace}
 use Rattle.mesa_order.specs.Told.{kept_places}
 use Rattle.mesa_order.proofs.KeptPlaces.{told_all, told_more, told_same}
 use Rattle.mesa_order.proofs.telling.told_places.Goals as goal

@@ -1,5 +1,5 @@
 use Rattle.std.proofs.Common.{◌≡◌, ◌≤◌, drop}
-use Rattle.mesa_schema.specs.Numbers.{digits_from}
+use Rattle.mesa_columns.specs.Numbers.{digits_from}
 use Rattle.mesa_parse.proofs.numbers.number_in.Given as goal
 
 -- the digits that are left go on from the number so far

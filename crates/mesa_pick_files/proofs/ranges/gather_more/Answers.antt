@@ -1,7 +1,7 @@
 use Rattle.std.proofs.Common.{◌≡◌, subst, None}
 use Rattle.std.specs.Prelude.{IfOk, IfSome, Option}
 use Rattle.mesa_file.specs.declared.damage.Damage.{Damage}
-use Rattle.mesa_schema.proofs.Lists.{all_append}
+use Rattle.mesa_validate.proofs.mesa_columns.Lists.{all_append}
 use Rattle.mesa_validate.specs.mesa_store_spec.Catalog.{start_in}
 use Rattle.mesa_catalog_table.specs.Meaning.{meta_of}
 use Rattle.mesa_open_files.proofs.Counts.{counted_more, unmoved_more}

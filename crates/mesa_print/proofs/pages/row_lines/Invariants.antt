@@ -1,7 +1,7 @@
 use Rattle.std.proofs.Common.{◌≡◌, drop, take, true}
 use Rattle.std.specs.List.{AllByRecursion, flat_map}
 use Rattle.mesa_key.specs.Spelling.{is_spelling}
-use Rattle.mesa_schema.specs.declared.rows.Row.{Row}
+use Rattle.mesa_columns.specs.declared.rows.Row.{Row}
 use Rattle.mesa_script.specs.Rows.{row_line}
 use Rattle.mesa_print.specs.Writing.{IsBetween, lines_written}
 use Rattle.mesa_print.proofs.pages.row_lines.Given as goal

@@ -1,7 +1,7 @@
 use Rattle.std.proofs.Common.{List, subst, sym, arith}
 use Rattle.std.proofs.lemmas.List.{with_items_is}
 use Rattle.std.specs.List.{AllByRecursion}
-use Rattle.mesa_schema.specs.Folded.{rows_of}
+use Rattle.mesa_open_files.specs.mesa_fold.Folded.{rows_of}
 use Rattle.mesa_merge.specs.Inputs.{AreTold, knowns_of}
 use Rattle.std.specs.Prelude.{◌⊎◌}
 use Rattle.mesa_answer.specs.Answering.{KeepsSums}

@@ -1,9 +1,9 @@
 use Rattle.std.proofs.Common.{◌∙◌, ap, subst, sym, refl}
 use Rattle.std.proofs.lemmas.Result.{err_from_is_err_and}
 use Rattle.mesa_delta.specs.declared.error.FileError.TheVariants as file_error
-use Rattle.mesa_schema.specs.Columns.{Columns, kinds_of}
-use Rattle.mesa_schema.specs.Folded.{rows_of}
-use Rattle.mesa_schema.specs.Rows.{AreRowsOf}
+use Rattle.mesa_open_files.specs.mesa_columns.Columns.{Columns, kinds_of}
+use Rattle.mesa_open_files.specs.mesa_fold.Folded.{rows_of}
+use Rattle.mesa_open_files.specs.mesa_columns.Rows.{AreRowsOf}
 use Rattle.mesa_filter.specs.Query.{IsQueryOf}
 use Rattle.mesa_merge.proofs.Causing.{cause_other, cause_quiet}
 use Rattle.mesa_answer.specs.Answering.{grouped_columns}

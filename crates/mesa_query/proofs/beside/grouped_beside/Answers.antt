@@ -4,9 +4,9 @@ use Rattle.std.proofs.lemmas.Option.{IfSome_then}
 use Rattle.std.proofs.lemmas.Result.{err_from_is_err_and}
 use Rattle.std.specs.List.{AllByRecursion}
 use Rattle.std.specs.Prelude.{flat_map, map}
-use Rattle.mesa_schema.specs.declared.lifting.Lift.{Lift}
-use Rattle.mesa_schema.specs.declared.rows.Row.{Row}
-use Rattle.mesa_schema.specs.Folded.{rows_of}
+use Rattle.mesa_open_files.specs.mesa_columns.declared.lifting.Lift.{Lift}
+use Rattle.mesa_open_files.specs.mesa_columns.declared.rows.Row.{Row}
+use Rattle.mesa_open_files.specs.mesa_fold.Folded.{rows_of}
 use Rattle.mesa_filter.specs.Filter.{filtered}
 use Rattle.mesa_delta.specs.declared.error.FileError.TheVariants as file_error
 use Rattle.mesa_merge.specs.Inputs.{AreTold, Known, knowns_of}

@@ -1,7 +1,7 @@
 use Rattle.std.proofs.Common.{◌≡◌, ◌∙◌, List, ap, inl, inr, subst, sym}
 use Rattle.std.proofs.lemmas.Result.{err_from_is_err_and, on_ok_weaker}
-use Rattle.mesa_schema.specs.declared.rows.Row.{Row}
-use Rattle.mesa_schema.specs.Folded.{rows_of}
+use Rattle.mesa_open_files.specs.mesa_columns.declared.rows.Row.{Row}
+use Rattle.mesa_open_files.specs.mesa_fold.Folded.{rows_of}
 use Rattle.mesa_filter.specs.Filter.{filtered}
 use Rattle.mesa_delta.specs.declared.error.FileError.TheVariants as file_error
 use Rattle.mesa_merge.specs.Faults.{HaveFaultCause, faults_of}

@@ -1,5 +1,5 @@
 use Rattle.std.proofs.Common.{refl, sym, ◌∙◌, ap, subst}
-use Rattle.mesa_schema.specs.Columns.{kinds_of}
+use Rattle.mesa_open_files.specs.mesa_columns.Columns.{kinds_of}
 use Rattle.mesa_merge.specs.Inputs.{AreAlike}
 use Rattle.mesa_answer.specs.Gathering.{Wanted}
 use Rattle.mesa_query.specs.declared.jobs.Job.{Job}

@@ -1,7 +1,7 @@
 use Rattle.std.proofs.Common.{◌≡◌, ◌∙◌, ◌++◌, List, ap, drop, subst, sym}
 use Rattle.std.specs.Prelude.{slice_get}
-use Rattle.mesa_schema.specs.Columns.{kinds_of}
-use Rattle.mesa_schema.specs.Rows.{AreRowsOf}
+use Rattle.mesa_open_files.specs.mesa_columns.Columns.{kinds_of}
+use Rattle.mesa_open_files.specs.mesa_columns.Rows.{AreRowsOf}
 use Rattle.mesa_filter.proofs.PlacesAsked.{slot_there}
 use Rattle.mesa_delta.specs.Ahead.{AreAhead, Untested}
 use Rattle.mesa_answer.specs.Gathered.{wanted_of}

@@ -1,8 +1,8 @@
 use Rattle.std.proofs.Common.{◌≡◌, ◌∙◌, ◌<◌, ◌≤◌, [], List, Some, ap, arith, get_or, length, refl, subst, sym, true}
 use Rattle.std.specs.Prelude.{slice_get}
 use Rattle.std.specs.List.{AllByRecursion}
-use Rattle.mesa_schema.specs.declared.rows.Row.{Row}
-use Rattle.mesa_schema.specs.Columns.{kinds_of}
+use Rattle.mesa_open_files.specs.mesa_columns.declared.rows.Row.{Row}
+use Rattle.mesa_open_files.specs.mesa_columns.Columns.{kinds_of}
 use Rattle.mesa_filter.specs.Filter.{filtered}
 use Rattle.mesa_merge.specs.Inputs.{Known, known_of, knowns_of}
 use Rattle.mesa_merge.proofs.Inputs.{known_get}

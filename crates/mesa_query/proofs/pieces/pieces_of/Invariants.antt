@@ -1,7 +1,7 @@
 use Rattle.std.proofs.Common.{◌≡◌, List}
 use Rattle.std.specs.List.{AllByRecursion}
-use Rattle.mesa_schema.specs.declared.rows.Row.{Row}
-use Rattle.mesa_schema.specs.Columns.{Columns}
+use Rattle.mesa_open_files.specs.mesa_columns.declared.rows.Row.{Row}
+use Rattle.mesa_open_files.specs.mesa_columns.Columns.{Columns}
 use Rattle.mesa_merge.specs.Inputs.{AreTold, knowns_of}
 use Rattle.mesa_open_files.specs.Pins.{IsPinnedInput}
 use Rattle.mesa_query.specs.Files.{inputs_in}

@@ -1,5 +1,5 @@
 use Rattle.std.proofs.Common.{◌≡◌, ◌++◌, List, map, take}
-use Rattle.mesa_schema.specs.declared.rows.Row.{Row}
+use Rattle.mesa_open_files.specs.mesa_columns.declared.rows.Row.{Row}
 use Rattle.mesa_answer.specs.Gathered.{HasPut, wanted_of}
 use Rattle.mesa_answer.specs.Regrouping.{row_under}
 use Rattle.mesa_scan.specs.MatchingRows.{matching_rows}

@@ -1,8 +1,8 @@
 use Rattle.std.proofs.Common.{◌≡◌, ◌∙◌, ◌-◌, ◌^◌, ap, subst, sym, refl, false}
 use Rattle.std.proofs.lemmas.Result.{err_from_is_err_and}
 use Rattle.mesa_delta.specs.declared.error.FileError.TheVariants as file_error
-use Rattle.mesa_schema.specs.Columns.{Columns, kinds_of}
-use Rattle.mesa_schema.specs.Folded.{rows_of}
+use Rattle.mesa_open_files.specs.mesa_columns.Columns.{Columns, kinds_of}
+use Rattle.mesa_open_files.specs.mesa_fold.Folded.{rows_of}
 use Rattle.mesa_filter.specs.Query.{are_places}
 use Rattle.mesa_merge.proofs.Causing.{cause_other, cause_quiet}
 use Rattle.mesa_answer.specs.Gathered.{wanted_of}

@@ -22,8 +22,8 @@ use Rattle.mesa_pick_files.specs.Files.{want_in}
 use Rattle.mesa_validate.proofs.ReadBy.{read_table}
 use Rattle.mesa_validate.specs.Found.{columns_at}
 use Rattle.mesa_validate.specs.declared.found.Found.{Found}
-use Rattle.mesa_schema.specs.Changes.{epoch_of}
-use Rattle.mesa_schema.specs.Columns.{Columns}
+use Rattle.mesa_pick_files.specs.mesa_schema.Changes.{epoch_of}
+use Rattle.mesa_columns.specs.Columns.{Columns}
 use Rattle.mesa_open_files.specs.Pins.{IsPinned}
 use Rattle.mesa_open_files.specs.declared.querying.Pinned.{Pinned}
 use Rattle.mesa_read_turns.proofs.query_files.open_found.Goals as goal

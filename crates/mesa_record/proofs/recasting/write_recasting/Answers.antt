@@ -1,4 +1,4 @@
-use Rattle.mesa_list.proofs.Whole.{both}
+use Rattle.mesa_record_fields.proofs.mesa_list.Whole.{both}
 use Rattle.mesa_record.specs.Rules.{are_recast_columns, are_recast_deltas}
 use Rattle.mesa_record.proofs.recasting.write_recasting.Goals as goal
 

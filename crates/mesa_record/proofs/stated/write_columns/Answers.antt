@@ -1,8 +1,8 @@
 use Rattle.std.proofs.Common.{subst, Result, Ok, Err}
 use Rattle.std.specs.Prelude.{OnOk}
 use Rattle.std.specs.List.{AllByRecursion}
-use Rattle.mesa_schema.specs.declared.columns.KeyColumn.{KeyColumn}
-use Rattle.mesa_schema.specs.declared.columns.ValueColumn.{ValueColumn}
+use Rattle.mesa_record_fields.specs.mesa_columns.declared.columns.KeyColumn.{KeyColumn}
+use Rattle.mesa_record_fields.specs.mesa_columns.declared.columns.ValueColumn.{ValueColumn}
 use Rattle.mesa_record_fields.specs.Rules.{IsNamed, IsTotal, IsTypedChange}
 use Rattle.mesa_record.specs.Rules.{AreTypedColumns, IsTypedStatedView}
 use Rattle.mesa_record.proofs.stated.write_columns.Goals as goal

@@ -1,5 +1,5 @@
 use Rattle.std.proofs.Common.{sym, subst, arith}
-use Rattle.mesa_catalog_table.specs.mesa_key.Spelling.{AreBytes}
+use Rattle.mesa_store.specs.mesa_key.Spelling.{AreBytes}
 use Rattle.mesa_recover.proofs.framing.frame_bytes.Goals as goal
 
 pub returns-clause-bytes : goal.returns-clause-bytes

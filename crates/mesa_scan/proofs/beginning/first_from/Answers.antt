@@ -1,10 +1,10 @@
 use Rattle.std.proofs.Common.{◌≡◌, ◌+◌, ◌∙◌, ℕ, List, ◌∷◌, drop, ap, sym, true, false, ◌&&◌}
 use Rattle.std.specs.Prelude.{None, Some}
 use Rattle.std.specs.Ordering.{is_le}
-use Rattle.mesa_key.specs.Order.{byte_cmp}
-use Rattle.mesa_schema.specs.declared.rows.Row.{Row}
-use Rattle.mesa_schema.specs.Lent.{lent}
-use Rattle.mesa_schema.specs.Rows.{keys_rise}
+use Rattle.mesa_delta.specs.mesa_key.Order.{byte_cmp}
+use Rattle.mesa_delta.specs.mesa_columns.declared.rows.Row.{Row}
+use Rattle.mesa_delta.specs.mesa_columns.Lent.{lent}
+use Rattle.mesa_delta.specs.mesa_columns.Rows.{keys_rise}
 use Rattle.mesa_scan.specs.Cut.{cut, lies_in}
 use Rattle.mesa_scan.proofs.Cuts.{from_stay, rise_drop}
 use Rattle.mesa_scan.proofs.Cutting.{cut_none, no}

@@ -1,11 +1,11 @@
 use Rattle.std.proofs.Common.{◌≡◌, ◌<◌, List, length, sym, subst, ap, ◌∙◌, arith}
 use Rattle.std.proofs.lemmas.List.{length-map}
 use Rattle.std.specs.Prelude.{map, take, None, Some}
-use Rattle.mesa_key.specs.Order.{short_key}
-use Rattle.mesa_schema.specs.declared.rows.Row.{Row}
+use Rattle.mesa_delta.specs.mesa_key.Order.{short_key}
+use Rattle.mesa_delta.specs.mesa_columns.declared.rows.Row.{Row}
 use Rattle.mesa_schema.specs.Changes.{columns_of}
-use Rattle.mesa_schema.specs.Columns.{Columns}
-use Rattle.mesa_schema.specs.Folded.{rows_of}
+use Rattle.mesa_delta.specs.mesa_columns.Columns.{Columns}
+use Rattle.mesa_delta.specs.mesa_fold.Folded.{rows_of}
 use Rattle.mesa_schema.specs.Lineages.{IsLineage}
 use Rattle.mesa_delta.specs.Indexed.{Indexed, IsIndex}
 use Rattle.mesa_delta.specs.Places.{shorts_of}

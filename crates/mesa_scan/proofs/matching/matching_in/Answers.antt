@@ -1,11 +1,11 @@
 use Rattle.std.proofs.Common.{◌∙◌, ◌+◌, ◌<◌, ◌∷◌, [], ℕ, Bool, ap, arith, subst, sym}
 use Rattle.std.proofs.lemmas.List.{take_all}
 use Rattle.std.specs.List.{AllByRecursion}
-use Rattle.mesa_key.specs.Spelling.{key_of}
-use Rattle.mesa_schema.specs.declared.rows.Row.{Row}
-use Rattle.mesa_schema.specs.Columns.{chosen}
-use Rattle.mesa_schema.specs.Lent.{lent}
-use Rattle.mesa_schema.proofs.Lists.{all_append, all_so}
+use Rattle.mesa_delta.specs.mesa_key.Spelling.{key_of}
+use Rattle.mesa_delta.specs.mesa_columns.declared.rows.Row.{Row}
+use Rattle.mesa_delta.specs.mesa_columns.Columns.{chosen}
+use Rattle.mesa_delta.specs.mesa_columns.Lent.{lent}
+use Rattle.mesa_schema.proofs.mesa_columns.Lists.{all_append, all_so}
 use Rattle.mesa_filter.specs.Filter.{meets}
 use Rattle.mesa_scan.specs.MatchingRows.{matching_rows}
 use Rattle.mesa_scan.proofs.Chosen.{match_more, match_not}

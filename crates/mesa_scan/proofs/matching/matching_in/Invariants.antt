@@ -1,6 +1,6 @@
 use Rattle.std.proofs.Common.{◌≡◌, ◌<◌, take}
 use Rattle.std.specs.List.{AllByRecursion}
-use Rattle.mesa_schema.specs.Columns.{chosen}
+use Rattle.mesa_delta.specs.mesa_columns.Columns.{chosen}
 use Rattle.mesa_scan.specs.MatchingRows.{matching_rows}
 use Rattle.mesa_scan.proofs.matching.matching_in.Given as goal
 

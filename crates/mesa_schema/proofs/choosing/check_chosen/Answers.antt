@@ -1,7 +1,7 @@
 use Rattle.std.proofs.Common.{◌∙◌, ap, sym, true, false, map}
 use Rattle.std.specs.Prelude.{is_some}
 use Rattle.std.proofs.lemmas.List.{map-id}
-use Rattle.mesa_schema.specs.Names.{repeated}
+use Rattle.mesa_columns.specs.Names.{repeated}
 use Rattle.mesa_schema.proofs.Choices.{choice_left}
 use Rattle.mesa_schema.proofs.choosing.check_chosen.Goals as goal
 

@@ -1,5 +1,5 @@
 use Rattle.std.proofs.Common.{◌∙◌, ◌++◌, ◌∷◌, [], sym, ap, map}
-use Rattle.mesa_schema.specs.Columns.{place_of}
+use Rattle.mesa_columns.specs.Columns.{place_of}
 use Rattle.mesa_schema.proofs.Choices.{chosen_more, chosen_same}
 use Rattle.mesa_schema.proofs.choosing.chosen_columns.Goals as goal
 use Rattle.mesa_schema.proofs.choosing.chosen_columns.Goals.{in-Some+in_ok-copy+in_ok-push, in_default}

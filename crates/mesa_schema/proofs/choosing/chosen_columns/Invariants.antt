@@ -1,5 +1,5 @@
 use Rattle.std.proofs.Common.{◌≡◌, ◌++◌, drop, map}
-use Rattle.mesa_schema.specs.Columns.{chosen, places_in}
+use Rattle.mesa_columns.specs.Columns.{chosen, places_in}
 use Rattle.mesa_schema.proofs.choosing.chosen_columns.Given as goal
 
 -- the columns so far and those of the names that are left are those of all names

@@ -1,6 +1,6 @@
 use Rattle.std.proofs.Common.{◌∙◌, sym, ap, map}
-use Rattle.mesa_schema.specs.declared.columns.ValueColumn.{ValueColumn}
-use Rattle.mesa_schema.specs.Columns.{place_of}
+use Rattle.mesa_columns.specs.declared.columns.ValueColumn.{ValueColumn}
+use Rattle.mesa_columns.specs.Columns.{place_of}
 use Rattle.mesa_schema.proofs.Choices.{replace_found, replace_none, replace_not}
 use Rattle.mesa_schema.proofs.choosing.replace_place.Goals as goal
 use Rattle.mesa_schema.proofs.choosing.replace_place.Goals.{in-Some+else-is_replace, in_default}

@@ -1,7 +1,7 @@
 use Rattle.std.proofs.Common.{◌≡◌, drop, map}
 use Rattle.std.specs.Prelude.{find}
-use Rattle.mesa_schema.specs.declared.columns.ValueColumn.{ValueColumn}
-use Rattle.mesa_schema.specs.Columns.{chosen, is_replace, places_in}
+use Rattle.mesa_columns.specs.declared.columns.ValueColumn.{ValueColumn}
+use Rattle.mesa_columns.specs.Columns.{chosen, is_replace, places_in}
 use Rattle.mesa_schema.proofs.choosing.replace_place.Given as goal
 
 -- none of the columns so far is a replace column

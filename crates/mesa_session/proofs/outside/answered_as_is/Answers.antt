@@ -2,7 +2,7 @@ use Rattle.std.proofs.Common.{◌≡◌, sym, ap, subst}
 use Rattle.std.specs.Prelude.{IsTrue}
 use Rattle.std.specs.List.{AllByRecursion}
 use Rattle.mesa_key.specs.Spelling.{is_spelling}
-use Rattle.mesa_core.specs.mesa_schema.declared.rows.Row.{Row}
+use Rattle.mesa_core.specs.mesa_columns.declared.rows.Row.{Row}
 use Rattle.mesa_filter.specs.Query.{BuiltQuery, group_kinds}
 use Rattle.mesa_open_files.specs.declared.querying.Pinned.{Pinned}
 use Rattle.mesa_session.proofs.Pinned.{fault_closes, known_stays, page_closes}

@@ -2,7 +2,7 @@ use Rattle.std.proofs.Common.{◌≡◌, ◌∙◌, sym, ap, subst}
 use Rattle.std.specs.Prelude.{Err, IfOk, IsTrue}
 use Rattle.std.specs.List.{AllByRecursion}
 use Rattle.mesa_key.specs.Spelling.{is_spelling}
-use Rattle.mesa_core.specs.mesa_schema.declared.rows.Row.{Row}
+use Rattle.mesa_core.specs.mesa_columns.declared.rows.Row.{Row}
 use Rattle.mesa_filter.specs.Query.{BuiltQuery, group_kinds}
 use Rattle.mesa_script.specs.Rows.{rendered}
 use Rattle.mesa_open_files.specs.declared.querying.Pinned.{Pinned}

@@ -2,9 +2,9 @@ use Rattle.std.proofs.Common.{Global, Vec, ◌≡◌, [], List, sym, ap, ◌∙�
 use Rattle.std.specs.Prelude.{IfErr}
 use Rattle.std.specs.List.{AllByRecursion}
 use Rattle.mesa_file.specs.declared.damage.Damage.{Damage}
-use Rattle.mesa_schema.specs.declared.rows.Row.{Row}
-use Rattle.mesa_schema.specs.Columns.{aggs_of}
-use Rattle.mesa_schema.specs.Folded.{rows_of}
+use Rattle.mesa_compact.specs.mesa_columns.declared.rows.Row.{Row}
+use Rattle.mesa_compact.specs.mesa_columns.Columns.{aggs_of}
+use Rattle.mesa_open_files.specs.mesa_fold.Folded.{rows_of}
 use Rattle.mesa_batch.specs.Bound.{KeepsBound}
 use Rattle.mesa_delta.specs.declared.error.FileError.{FileError}
 use Rattle.mesa_delta.specs.declared.error.FileError.TheVariants.{Damaged, Read}

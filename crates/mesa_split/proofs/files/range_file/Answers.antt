@@ -1,5 +1,5 @@
 use Rattle.std.proofs.Common.{◌≡◌, ◌<◌, [], refl, sym, ap, subst, ◌∙◌}
-use Rattle.mesa_schema.specs.Columns.{Columns}
+use Rattle.mesa_compact.specs.mesa_columns.Columns.{Columns}
 use Rattle.mesa_delta.specs.Writing.{columns_of}
 use Rattle.mesa_open_files.specs.Made.{IsMadeFile}
 use Rattle.mesa_split.specs.Lending.{own_in}

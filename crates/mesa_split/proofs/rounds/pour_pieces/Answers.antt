@@ -1,6 +1,6 @@
 use Rattle.std.proofs.Common.{◌≡◌, ◌<◌, List, length, sym, ap, subst, ◌∙◌, arith}
 use Rattle.std.specs.Prelude.{None}
-use Rattle.mesa_schema.specs.declared.rows.Row.{Row}
+use Rattle.mesa_compact.specs.mesa_columns.declared.rows.Row.{Row}
 use Rattle.mesa_compact.specs.mesa_scan.Cut.{CutsRise}
 use Rattle.mesa_split.specs.Parts.{joined}
 use Rattle.mesa_split.proofs.Running.{more_some, none_more, run_form, run_given, run_last, run_made, run_memory, run_round, run_takes, runs_first, runs_lent, runs_next}

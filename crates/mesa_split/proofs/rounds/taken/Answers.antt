@@ -1,7 +1,7 @@
 use Rattle.std.proofs.Common.{◌+◌, ◌++◌, ◌≤◌, [], ◌∷◌, List, drop, get_or, length, length-append, set, refl, sym, ap, subst, ◌∙◌, arith, append_assoc}
 use Rattle.std.proofs.lemmas.List.{append-nil}
 use Rattle.std.specs.Prelude.{Result}
-use Rattle.mesa_schema.specs.declared.rows.Row.{Row}
+use Rattle.mesa_compact.specs.mesa_columns.declared.rows.Row.{Row}
 use Rattle.mesa_delta.specs.declared.error.FileError.{FileError}
 use Rattle.mesa_compact.proofs.Putting.{map_set}
 use Rattle.mesa_split.specs.Lending.{answers_of}

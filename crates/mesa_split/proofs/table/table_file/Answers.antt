@@ -1,8 +1,8 @@
 use Rattle.std.proofs.Common.{◌≡◌, ◌<◌, List, length, refl, sym, ap, subst, ◌∙◌, arith}
 use Rattle.std.specs.Prelude.{Option}
 use Rattle.std.specs.List.{AllByRecursion}
-use Rattle.mesa_schema.specs.declared.rows.Row.{Row}
-use Rattle.mesa_schema.specs.Columns.{Columns}
+use Rattle.mesa_compact.specs.mesa_columns.declared.rows.Row.{Row}
+use Rattle.mesa_compact.specs.mesa_columns.Columns.{Columns}
 use Rattle.mesa_schema.specs.Changes.{columns_of}
 use Rattle.mesa_delta.specs.declared.error.FileError.TheVariants.{Memory, Read}
 use Rattle.mesa_answer.specs.declared.groups.Groups.{Groups}

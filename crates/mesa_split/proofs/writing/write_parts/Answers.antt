@@ -1,8 +1,8 @@
 use Rattle.std.proofs.Common.{◌+◌, ◌++◌, [], take, refl, sym, ◌∙◌, ap, subst, arith}
 use Rattle.std.proofs.lemmas.List.{append-nil}
 use Rattle.std.specs.List.{AllByRecursion}
-use Rattle.mesa_schema.specs.Columns.{Columns}
-use Rattle.mesa_schema.specs.Rows.{AreRowsOf, IsRowOf, keys_rise}
+use Rattle.mesa_compact.specs.mesa_columns.Columns.{Columns}
+use Rattle.mesa_compact.specs.mesa_columns.Rows.{AreRowsOf, IsRowOf, keys_rise}
 use Rattle.mesa_delta.specs.Writing.{columns_of}
 use Rattle.mesa_answer.specs.Answering.{KeepsSums}
 use Rattle.mesa_compact.specs.Damaged.{LeavesAmong, RowLeaves}

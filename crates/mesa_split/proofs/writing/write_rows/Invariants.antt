@@ -1,7 +1,7 @@
 use Rattle.std.proofs.Common.{◌≡◌, ◌++◌, List, map, take}
 use Rattle.std.specs.Prelude.{IsTrue}
-use Rattle.mesa_schema.specs.declared.rows.Row.{Row}
-use Rattle.mesa_schema.specs.Rows.{keys_rise}
+use Rattle.mesa_compact.specs.mesa_columns.declared.rows.Row.{Row}
+use Rattle.mesa_compact.specs.mesa_columns.Rows.{keys_rise}
 use Rattle.mesa_delta.specs.Writing.{columns_of, draft_of, id_of}
 use Rattle.mesa_compact.specs.Grouping.{wanted_in}
 use Rattle.mesa_split.specs.Written.{HasPoured}

@@ -1,5 +1,5 @@
 use Rattle.std.proofs.Common.{◌≡◌, ap, subst, Ok}
-use Rattle.mesa_pick_files.specs.mesa_schema.Columns.{Columns}
+use Rattle.mesa_pick_files.specs.mesa_columns.Columns.{Columns}
 use Rattle.mesa_filter.specs.Asked.{asked_of}
 use Rattle.mesa_filter.specs.Query.{IsQueryOf}
 use Rattle.mesa_filter.specs.declared.words.QueryWords.{QueryWords}

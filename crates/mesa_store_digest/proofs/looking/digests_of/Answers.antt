@@ -8,8 +8,8 @@ use Rattle.mesa_query.proofs.mesa_merge.Causing.{cause_other, cause_quiet}
 use Rattle.mesa_query.proofs.Differing.{query_differs}
 use Rattle.mesa_query.specs.Whole.{all_wanted}
 use Rattle.mesa_validate.specs.Found.{columns_at}
-use Rattle.mesa_pick_files.specs.mesa_schema.Columns.{Columns}
-use Rattle.mesa_pick_files.specs.mesa_schema.Rows.{AreRowsOf}
+use Rattle.mesa_pick_files.specs.mesa_columns.Columns.{Columns}
+use Rattle.mesa_pick_files.specs.mesa_columns.Rows.{AreRowsOf}
 
 pub digests-requires : goal.digests-requires
 digests-requires g c =

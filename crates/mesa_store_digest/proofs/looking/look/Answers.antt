@@ -16,8 +16,8 @@ use Rattle.mesa_pick_files.specs.mesa_model.Relations.{relation_columns}
 use Rattle.mesa_pick_files.specs.Told.{TellContent}
 use Rattle.mesa_recover.specs.declared.opened.Opened.{Opened}
 use Rattle.mesa_validate.specs.Found.{columns_at}
-use Rattle.mesa_pick_files.specs.mesa_schema.Columns.{Columns}
-use Rattle.mesa_pick_files.specs.mesa_schema.declared.rows.Row.{Row}
+use Rattle.mesa_pick_files.specs.mesa_columns.Columns.{Columns}
+use Rattle.mesa_pick_files.specs.mesa_columns.declared.rows.Row.{Row}
 use Rattle.mesa_open_files.specs.Errors.{Differs}
 use Rattle.mesa_open_files.specs.GivingBack.{pinned_inputs}
 use Rattle.mesa_open_files.specs.Pins.{IsPinned}

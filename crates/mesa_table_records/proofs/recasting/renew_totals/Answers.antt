@@ -1,6 +1,6 @@
 use Rattle.std.proofs.Common.{◌∙◌, ap, map}
-use Rattle.mesa_schema.specs.declared.columns.ValueColumn.{ValueColumn}
-use Rattle.mesa_schema.specs.Columns.{Columns, places_in}
+use Rattle.mesa_catalog_table.specs.mesa_columns.declared.columns.ValueColumn.{ValueColumn}
+use Rattle.mesa_catalog_table.specs.mesa_columns.Columns.{Columns, places_in}
 use Rattle.mesa_schema.specs.Changes.{Lineage, columns_of}
 use Rattle.mesa_batch.specs.Totals.{chosen_totals}
 use Rattle.mesa_catalog_table.proofs.Tests.{if_ok}

@@ -1,7 +1,7 @@
 use Rattle.std.proofs.Common.{◌∙◌, ap}
 use Rattle.std.specs.Prelude.{count_by}
-use Rattle.mesa_schema.specs.declared.views.ViewError.TheVariants.{NoValue}
-use Rattle.mesa_schema.specs.Columns.{Columns, value_names}
+use Rattle.mesa_catalog_table.specs.mesa_columns.declared.views.ViewError.TheVariants.{NoValue}
+use Rattle.mesa_catalog_table.specs.mesa_columns.Columns.{Columns, value_names}
 use Rattle.mesa_schema.specs.Changes.{columns_of}
 use Rattle.mesa_schema.proofs.ChosenAgain.{choice_there}
 use Rattle.mesa_catalog_table.specs.mesa_store_spec.Catalog.{recast_in}

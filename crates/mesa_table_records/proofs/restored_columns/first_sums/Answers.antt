@@ -1,6 +1,6 @@
 use Rattle.std.proofs.Common.{◌∙◌, sym}
 use Rattle.std.specs.Prelude.{replicate}
-use Rattle.mesa_schema.specs.Columns.{Columns, aggs_of}
+use Rattle.mesa_catalog_table.specs.mesa_columns.Columns.{Columns, aggs_of}
 use Rattle.mesa_batch.specs.Totals.{sums_in}
 use Rattle.mesa_catalog_table.proofs.Counts.{counts_begun}
 use Rattle.mesa_catalog_table.proofs.Tests.{if_ok}

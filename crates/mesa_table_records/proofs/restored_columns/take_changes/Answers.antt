@@ -1,6 +1,6 @@
 use Rattle.std.proofs.Common.{◌∙◌, ap, length}
 use Rattle.mesa_schema.specs.Changes.{Lineage}
-use Rattle.mesa_schema.specs.Columns.{Columns, aggs_of}
+use Rattle.mesa_catalog_table.specs.mesa_columns.Columns.{Columns, aggs_of}
 use Rattle.mesa_batch.specs.Totals.{sums_in}
 use Rattle.mesa_table_records.proofs.Taken.{change_passes, changes_on, counts_on, few_on, lineage_on}
 use Rattle.mesa_table_records.proofs.restored_columns.take_changes.Goals as goal

@@ -1,6 +1,6 @@
 use Rattle.std.proofs.Common.{◌∙◌, ap, map, refl}
 use Rattle.std.specs.Prelude.{flat_map}
-use Rattle.mesa_schema.specs.Columns.{Columns}
+use Rattle.mesa_catalog_table.specs.mesa_columns.Columns.{Columns}
 use Rattle.mesa_schema.specs.Changes.{Lineage}
 use Rattle.mesa_catalog_table.specs.mesa_store_spec.Checkpoint.{stating_range}
 use Rattle.mesa_catalog_table.specs.Meaning.{tens_from}

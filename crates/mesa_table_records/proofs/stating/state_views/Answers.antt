@@ -1,7 +1,7 @@
 use Rattle.std.proofs.Common.{◌++◌, ◌∷◌, [], ◌∙◌, ap, sym, take}
 use Rattle.std.proofs.lemmas.List.{take_more}
 use Rattle.std.proofs.lemmas.Option.{get_or_from_slice_get, slice_get_within}
-use Rattle.mesa_schema.specs.declared.views.View.{View}
+use Rattle.mesa_catalog_table.specs.mesa_columns.declared.views.View.{View}
 use Rattle.mesa_table_records.proofs.stating.state_views.Goals as goal
 
 pub loop-view-preserved : goal.loop-view-preserved

@@ -2,8 +2,8 @@ use Rattle.std.proofs.Common.{◌≡◌, ◌∙◌, List, [], ap, get_or, map, s
 use Rattle.std.specs.declared.alloc.Global.{Global}
 use Rattle.std.specs.declared.sync.Arc.{Arc}
 use Rattle.std.proofs.lemmas.List.{length-map, map-set}
-use Rattle.mesa_schema.specs.declared.rows.Row.{Row}
-use Rattle.mesa_schema.specs.Lifting.{lifted_with}
+use Rattle.mesa_answer.specs.mesa_columns.declared.rows.Row.{Row}
+use Rattle.mesa_answer.specs.mesa_columns.Lifting.{lifted_with}
 use Rattle.mesa_test_oracle.specs.Kept.{shared}
 use Rattle.mesa_test_oracle.proofs.Changes.{content_there, lifted_past}
 use Rattle.mesa_test_oracle.proofs.changing.lifted_contents.Goals as goal

@@ -1,5 +1,5 @@
 use Rattle.std.proofs.Common.{◌≡◌, map, take}
-use Rattle.mesa_schema.specs.Lifting.{lifted_with}
+use Rattle.mesa_answer.specs.mesa_columns.Lifting.{lifted_with}
 use Rattle.mesa_test_oracle.proofs.changing.lifted_rows.Given as goal
 
 -- the rows so far are lifted

@@ -3,10 +3,10 @@ use Rattle.std.specs.declared.alloc.Global.{Global}
 use Rattle.std.specs.declared.sync.Arc.{Arc}
 use Rattle.std.proofs.lemmas.List.{length-map, map-append}
 use Rattle.std.proofs.lemmas.Option.{slice_get_within}
-use Rattle.mesa_schema.specs.declared.rows.Row.{Row}
-use Rattle.mesa_schema.specs.Columns.{aggs_of}
+use Rattle.mesa_answer.specs.mesa_columns.declared.rows.Row.{Row}
+use Rattle.mesa_answer.specs.mesa_columns.Columns.{aggs_of}
 use Rattle.mesa_schema.specs.Changes.{columns_of}
-use Rattle.mesa_schema.specs.Folded.{folded}
+use Rattle.mesa_answer.specs.mesa_fold.Folded.{folded}
 use Rattle.mesa_batch.specs.Gathered.{rows_at}
 use Rattle.mesa_batch.specs.Glance.{Known}
 use Rattle.mesa_batch.specs.Numbers.{known_of}

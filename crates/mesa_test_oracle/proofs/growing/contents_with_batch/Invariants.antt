@@ -1,8 +1,8 @@
 use Rattle.std.proofs.Common.{◌≡◌, ◌<◌, ℕ, [], ◌∷◌, length, map, Some}
 use Rattle.std.specs.Prelude.{slice_get}
-use Rattle.mesa_schema.specs.Columns.{aggs_of}
+use Rattle.mesa_answer.specs.mesa_columns.Columns.{aggs_of}
 use Rattle.mesa_schema.specs.Changes.{columns_of}
-use Rattle.mesa_schema.specs.Folded.{folded}
+use Rattle.mesa_answer.specs.mesa_fold.Folded.{folded}
 use Rattle.mesa_batch.specs.Gathered.{rows_at}
 use Rattle.mesa_batch.specs.Glance.{Known}
 use Rattle.mesa_batch.specs.Numbers.{known_of}

@@ -1,7 +1,7 @@
 use Rattle.std.proofs.Common.{◌≡◌, ◌∙◌, ◌+◌, ◌++◌, ◌∷◌, [], suc, ap, sym, drop, length, replicate, add-one}
 use Rattle.std.proofs.Math.Seq.{drop-cons}
 use Rattle.std.proofs.lemmas.List.{append-nil, drop_all}
-use Rattle.mesa_schema.specs.declared.columns.ValueColumn.{ValueColumn}
+use Rattle.mesa_answer.specs.mesa_columns.declared.columns.ValueColumn.{ValueColumn}
 use Rattle.mesa_test_oracle.proofs.Adding.{zero_more}
 use Rattle.mesa_batch.proofs.SumNames.{length-sum_names, sum_names}
 use Rattle.mesa_test_oracle.proofs.growing.zeros.Goals as goal

@@ -1,5 +1,5 @@
 use Rattle.std.proofs.Common.{◌≡◌, ◌++◌, drop, length, replicate}
-use Rattle.mesa_schema.specs.Columns.{aggs_of}
+use Rattle.mesa_answer.specs.mesa_columns.Columns.{aggs_of}
 use Rattle.mesa_batch.specs.Totals.{sums_in}
 use Rattle.mesa_batch.proofs.SumNames.{sum_names}
 use Rattle.mesa_test_oracle.proofs.growing.zeros.Given as goal

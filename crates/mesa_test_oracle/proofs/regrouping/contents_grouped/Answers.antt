@@ -2,9 +2,9 @@ use Rattle.std.proofs.Common.{◌≡◌, ◌∙◌, List, [], get_or, set, sym, 
 use Rattle.std.specs.declared.alloc.Global.{Global}
 use Rattle.std.specs.declared.sync.Arc.{Arc}
 use Rattle.std.proofs.lemmas.List.{length-map, map-set}
-use Rattle.mesa_schema.specs.declared.rows.Row.{Row}
+use Rattle.mesa_answer.specs.mesa_columns.declared.rows.Row.{Row}
 use Rattle.mesa_schema.specs.Recasts.{Recast, recast_rows}
-use Rattle.mesa_schema.specs.Rows.{AreRowsOf}
+use Rattle.mesa_answer.specs.mesa_columns.Rows.{AreRowsOf}
 use Rattle.mesa_answer.specs.Answering.{KeepsSums}
 use Rattle.mesa_test_oracle.specs.Kept.{shared}
 use Rattle.mesa_test_oracle.proofs.Changes.{content_there, with_past}

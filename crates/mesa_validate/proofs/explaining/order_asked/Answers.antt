@@ -1,7 +1,7 @@
 use Rattle.std.proofs.Common.{◌≡◌, ◌∙◌, [], Ok, ap, map, sym}
 use Rattle.std.specs.Prelude.{slice_get}
 use Rattle.std.proofs.lemmas.Option.{get_or_from_slice_get}
-use Rattle.mesa_schema.specs.declared.views.View.{View}
+use Rattle.mesa_catalog.specs.mesa_columns.declared.views.View.{View}
 use Rattle.mesa_schema.specs.Changes.{Lineage, columns_of}
 use Rattle.mesa_filter.specs.Filter.{filter_of}
 use Rattle.mesa_model.specs.Orders.{choice, order_asked, order_named, values_told}

@@ -1,7 +1,7 @@
 use Rattle.std.proofs.Common.{◌≡◌, drop}
 use Rattle.std.specs.List.{position_from}
 use Rattle.mesa_list.specs.Bytes.{same_bytes}
-use Rattle.mesa_schema.specs.Columns.{place_of}
+use Rattle.mesa_catalog.specs.mesa_columns.Columns.{place_of}
 use Rattle.mesa_catalog.specs.mesa_catalog_table.Lookups.{view_names}
 use Rattle.mesa_validate.proofs.lookups.view_place.Given as goal
 

@@ -2,7 +2,7 @@ use Rattle.std.proofs.Common.{◌≡◌, ◌∙◌, ap, sym, subst, None, Some}
 use Rattle.std.specs.Prelude.{IsOk}
 use Rattle.std.proofs.lemmas.Result.{err_from_is_err_and}
 use Rattle.mesa_list.specs.Checks.{refused_as}
-use Rattle.mesa_schema.specs.Columns.{Columns}
+use Rattle.mesa_catalog.specs.mesa_columns.Columns.{Columns}
 use Rattle.mesa_filter.specs.Asked.{asked_of}
 use Rattle.mesa_model.specs.Refusals.{query_refusal}
 use Rattle.mesa_catalog.specs.mesa_catalog_records.Names.{relation_of}

@@ -1,7 +1,7 @@
 use Rattle.std.proofs.Common.{◌∙◌, ap, sym, subst, Result, Ok}
 use Rattle.std.proofs.lemmas.Result.{err_from_is_err_and}
 use Rattle.mesa_list.specs.Checks.{refused_as}
-use Rattle.mesa_schema.specs.Columns.{Columns}
+use Rattle.mesa_catalog.specs.mesa_columns.Columns.{Columns}
 use Rattle.mesa_schema.specs.Changes.{epoch_of}
 use Rattle.mesa_filter.specs.Query.{BuiltQuery, IsQueryOf, query_of}
 use Rattle.mesa_model.specs.declared.replies.Refusal.{Refusal}

@@ -1,10 +1,10 @@
 use Rattle.std.proofs.Common.{◌≡◌, ◌<◌, ◌∙◌, ap, subst, sym, true, false, None, Some, Ok, length, arith, rules}
 use Rattle.std.specs.Prelude.{is_some}
 use Rattle.std.proofs.lemmas.Result.{err_from_is_err_and}
-use Rattle.mesa_schema.specs.declared.views.View.{View}
+use Rattle.mesa_catalog.specs.mesa_columns.declared.views.View.{View}
 use Rattle.mesa_schema.specs.Changes.{Lineage, columns_of}
-use Rattle.mesa_schema.specs.Names.{is_name}
-use Rattle.mesa_schema.specs.Schema.{is_schema}
+use Rattle.mesa_catalog.specs.mesa_columns.Names.{is_name}
+use Rattle.mesa_catalog.specs.mesa_columns.Schema.{is_schema}
 use Rattle.mesa_schema.specs.Views.{max_views}
 use Rattle.mesa_schema.proofs.LineageRules.{present_schema}
 use Rattle.mesa_record.specs.declared.record.Record.TheVariants as record_of

@@ -1,9 +1,9 @@
 use Rattle.std.proofs.Common.{◌≡◌, ◌∙◌, ap, inl, inr, subst}
 use Rattle.std.specs.Prelude.{map, slice_get}
-use Rattle.mesa_schema.specs.Changes.{Lineage, columns_of}
-use Rattle.mesa_schema.specs.Columns.{Columns}
-use Rattle.mesa_schema.specs.Folded.{grouped}
-use Rattle.mesa_schema.specs.Rows.{AreRowsOf}
+use Rattle.mesa_scan.specs.mesa_schema.Changes.{Lineage, columns_of}
+use Rattle.mesa_columns.specs.Columns.{Columns}
+use Rattle.mesa_scan.specs.mesa_fold.Folded.{grouped}
+use Rattle.mesa_columns.specs.Rows.{AreRowsOf}
 use Rattle.mesa_scan.specs.Cursors.{lift_by}
 use Rattle.mesa_answer.specs.Answering.{grouped_columns}
 use Rattle.mesa_answer.specs.Regrouping.{PlacesSeen}

@@ -1,6 +1,6 @@
 use Rattle.std.proofs.Common.{◌≡◌, [], List, ◌∙◌, ap, inr, sym}
 use Rattle.std.specs.Prelude.{map}
-use Rattle.mesa_schema.specs.Changes.{columns_of}
+use Rattle.mesa_scan.specs.mesa_schema.Changes.{columns_of}
 use Rattle.mesa_filter.specs.declared.terms.Term.{Term}
 use Rattle.mesa_filter.specs.Filter.{filtered}
 use Rattle.mesa_scan.specs.Cursors.{lift_by}

@@ -1,10 +1,10 @@
 use Rattle.std.proofs.Common.{◌≡◌, ◌∙◌, ◌-◌, ◌^◌, List, ap, subst, sym, arith, inl, inr}
 use Rattle.std.proofs.lemmas.Result.{err_from_is_err_and}
 use Rattle.std.specs.Prelude.{map}
-use Rattle.mesa_schema.specs.Changes.{columns_of}
-use Rattle.mesa_schema.specs.Folded.{grouped}
-use Rattle.mesa_schema.specs.Rows.{AreRowsOf}
-use Rattle.mesa_schema.proofs.GroupKeys.{groups_form}
+use Rattle.mesa_scan.specs.mesa_schema.Changes.{columns_of}
+use Rattle.mesa_scan.specs.mesa_fold.Folded.{grouped}
+use Rattle.mesa_columns.specs.Rows.{AreRowsOf}
+use Rattle.mesa_answer.proofs.mesa_fold.GroupKeys.{groups_form}
 use Rattle.mesa_filter.specs.declared.terms.Term.{Term}
 use Rattle.mesa_filter.specs.Filter.{filtered}
 use Rattle.mesa_scan.specs.Cursors.{lift_by}

@@ -1,9 +1,9 @@
 use Rattle.std.proofs.Common.{◌≡◌, ◌∙◌, ◌++◌, List, append_assoc, ap, subst, sym, refl}
 use Rattle.std.proofs.lemmas.Result.{err_from_is_err_and}
-use Rattle.mesa_schema.specs.declared.rows.Row.{Row}
-use Rattle.mesa_schema.specs.Changes.{columns_of}
-use Rattle.mesa_schema.specs.Columns.{Columns}
-use Rattle.mesa_schema.specs.Rows.{AreRowsOf}
+use Rattle.mesa_columns.specs.declared.rows.Row.{Row}
+use Rattle.mesa_scan.specs.mesa_schema.Changes.{columns_of}
+use Rattle.mesa_columns.specs.Columns.{Columns}
+use Rattle.mesa_columns.specs.Rows.{AreRowsOf}
 use Rattle.mesa_scan.specs.Cursors.{reader_in}
 use Rattle.mesa_scan.proofs.Onwards.{damaged_before, same_input}
 use Rattle.mesa_answer.specs.Answering.{KeepsSums}

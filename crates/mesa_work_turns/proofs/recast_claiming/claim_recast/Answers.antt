@@ -1,7 +1,7 @@
 use Rattle.std.proofs.Common.{◌≡◌, ◌∙◌, ◌+◌, ◌-◌, sym, ap, subst, Ok}
 use Rattle.std.proofs.lemmas.Result.{err_from_is_err_and}
-use Rattle.mesa_engine.specs.mesa_binding.Told.{IsDue}
-use Rattle.mesa_engine.specs.mesa_binding.declared.recasting.RecastNames.{RecastNames}
+use Rattle.mesa_write_turns.specs.mesa_binding.Told.{IsDue}
+use Rattle.mesa_write_turns.specs.mesa_binding.declared.recasting.RecastNames.{RecastNames}
 use Rattle.mesa_engine.specs.mesa_store_spec.Catalog.{Catalog, start_in, meta_at}
 use Rattle.mesa_model.specs.Tables.{recast_asked}
 use Rattle.mesa_validate.specs.Recastings.{recast_due}

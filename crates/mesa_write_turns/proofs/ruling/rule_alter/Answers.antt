@@ -1,7 +1,7 @@
 use Rattle.std.proofs.Common.{◌≡◌, ℕ, ◌+◌, sym, ◌∙◌, ap, refl, subst, Some, Ok}
 use Rattle.std.proofs.lemmas.Result.{err_from_is_err_and}
-use Rattle.mesa_schema.specs.declared.changes.Change.{Change}
-use Rattle.mesa_schema.specs.Changes.{columns_of, epoch_of}
+use Rattle.mesa_columns.specs.declared.changes.Change.{Change}
+use Rattle.mesa_file_records.specs.mesa_schema.Changes.{columns_of, epoch_of}
 use Rattle.mesa_model.specs.Tables.{alter_table, change_asked}
 use Rattle.mesa_model.specs.declared.replies.Reply.TheVariants as reply
 use Rattle.mesa_record.specs.declared.record.Record.TheVariants as record_of

@@ -1,9 +1,9 @@
 use Rattle.std.proofs.Common.{◌≡◌, ◌∙◌, List, ap, subst, sym, take}
 use Rattle.mesa_value.specs.declared.Agg.{Agg}
-use Rattle.mesa_schema.specs.Columns.{Columns, aggs_of, chosen}
-use Rattle.mesa_schema.specs.Laws.{AreFull}
-use Rattle.mesa_schema.specs.Put.{put_rows}
-use Rattle.mesa_schema.specs.Rows.{AreRowsOf}
+use Rattle.mesa_model.specs.mesa_columns.Columns.{Columns, aggs_of, chosen}
+use Rattle.mesa_model.specs.mesa_fold.Laws.{AreFull}
+use Rattle.mesa_model.specs.mesa_fold.Put.{put_rows}
+use Rattle.mesa_model.specs.mesa_columns.Rows.{AreRowsOf}
 use Rattle.mesa_answer.specs.Gathered.{wanted_of}
 use Rattle.mesa_answer.specs.Gathering.{Wanted, first_groups}
 use Rattle.mesa_answer.proofs.Joined.{forms_append, joins_first}

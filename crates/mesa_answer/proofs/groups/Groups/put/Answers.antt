@@ -1,7 +1,7 @@
 use Rattle.std.proofs.Common.{◌∙◌, subst, Option}
 use Rattle.std.specs.Prelude.{IfSome}
-use Rattle.mesa_schema.specs.Columns.{kinds_of}
-use Rattle.mesa_schema.specs.Lent.{lent}
+use Rattle.mesa_model.specs.mesa_columns.Columns.{kinds_of}
+use Rattle.mesa_model.specs.mesa_columns.Lent.{lent}
 use Rattle.mesa_answer.specs.declared.window.Window.{Window}
 use Rattle.mesa_answer.specs.Window.{IsWindow}
 use Rattle.mesa_answer.proofs.groups.Groups.put.Goals as goal

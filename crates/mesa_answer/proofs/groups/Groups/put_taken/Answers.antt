@@ -2,12 +2,12 @@ use Rattle.std.proofs.Common.{◌≡◌, ◌∙◌, ◌∷◌, [], ℕ, List, le
 use Rattle.std.specs.List.{concat}
 use Rattle.mesa_value.specs.declared.Agg.{Agg}
 use Rattle.mesa_key.specs.Spelling.{columns_of}
-use Rattle.mesa_schema.specs.declared.rows.Row.{Row}
-use Rattle.mesa_schema.specs.Columns.{aggs_of, chosen}
-use Rattle.mesa_schema.specs.Folded.{regrouped}
-use Rattle.mesa_schema.specs.Laws.{AreFull}
-use Rattle.mesa_schema.specs.Lent.{lent}
-use Rattle.mesa_schema.specs.Rows.{IsRowOf}
+use Rattle.mesa_model.specs.mesa_columns.declared.rows.Row.{Row}
+use Rattle.mesa_model.specs.mesa_columns.Columns.{aggs_of, chosen}
+use Rattle.mesa_model.specs.mesa_fold.Folded.{regrouped}
+use Rattle.mesa_model.specs.mesa_fold.Laws.{AreFull}
+use Rattle.mesa_model.specs.mesa_columns.Lent.{lent}
+use Rattle.mesa_model.specs.mesa_columns.Rows.{IsRowOf}
 use Rattle.mesa_answer.specs.Gathered.{wanted_of}
 use Rattle.mesa_answer.specs.Held.{is_behind}
 use Rattle.mesa_answer.specs.Sums.{SumLeaves}

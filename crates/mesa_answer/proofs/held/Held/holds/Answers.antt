@@ -1,6 +1,6 @@
 use Rattle.std.proofs.Common.{◌∙◌, ap}
 use Rattle.std.specs.Prelude.{is_some}
-use Rattle.mesa_schema.specs.declared.rows.Row.{Row}
+use Rattle.mesa_model.specs.mesa_columns.declared.rows.Row.{Row}
 use Rattle.std.specs.Prelude.{List}
 use Rattle.mesa_answer.specs.Held.{value_at}
 use Rattle.mesa_answer.proofs.Entries.{same_there}

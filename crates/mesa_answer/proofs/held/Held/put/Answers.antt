@@ -1,6 +1,6 @@
 use Rattle.std.proofs.Common.{◌<◌, ◌∙◌, List, ap, arith, length, sym, subst}
-use Rattle.mesa_schema.specs.declared.rows.Row.{Row}
-use Rattle.mesa_schema.specs.Put.{put_row}
+use Rattle.mesa_model.specs.mesa_columns.declared.rows.Row.{Row}
+use Rattle.mesa_model.specs.mesa_fold.Put.{put_row}
 use Rattle.mesa_answer.specs.Held.{StandsAt, values_in}
 use Rattle.mesa_answer.proofs.Entries.{Meets, found_at, length-rows_in, met_full, met_placed, met_put, met_value, put_room}
 use Rattle.mesa_answer.proofs.Results.{if_on_err, on_ok}

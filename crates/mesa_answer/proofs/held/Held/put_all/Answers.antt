@@ -1,7 +1,7 @@
 use Rattle.std.proofs.Common.{◌≡◌, ◌≤◌, ◌∙◌, List, length, subst, sym, take}
-use Rattle.mesa_schema.specs.declared.rows.Row.{Row}
-use Rattle.mesa_schema.specs.Laws.{AreFull}
-use Rattle.mesa_schema.specs.Put.{put_row}
+use Rattle.mesa_model.specs.mesa_columns.declared.rows.Row.{Row}
+use Rattle.mesa_model.specs.mesa_fold.Laws.{AreFull}
+use Rattle.mesa_model.specs.mesa_fold.Put.{put_row}
 use Rattle.mesa_batch.proofs.Sums.{full-at}
 use Rattle.mesa_answer.proofs.Joined.{put_full, put_next, put_short}
 use Rattle.mesa_answer.proofs.held.Held.put_all.Goals as goal

@@ -1,6 +1,6 @@
 use Rattle.std.proofs.Common.{◌≡◌, ◌≤◌, length, take}
-use Rattle.mesa_schema.specs.Laws.{AreFull}
-use Rattle.mesa_schema.specs.Put.{put_rows}
+use Rattle.mesa_model.specs.mesa_fold.Laws.{AreFull}
+use Rattle.mesa_model.specs.mesa_fold.Put.{put_rows}
 use Rattle.mesa_answer.proofs.held.Held.put_all.Given as goal
 
 -- the rows so far are put

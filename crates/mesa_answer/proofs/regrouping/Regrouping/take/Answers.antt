@@ -1,13 +1,13 @@
 use Rattle.std.proofs.Common.{◌≡◌, ◌∙◌, ap, sym, subst}
 use Rattle.std.specs.List.{concat}
 use Rattle.mesa_key.specs.Spelling.{columns_of}
-use Rattle.mesa_schema.specs.declared.rows.Row.{Row}
-use Rattle.mesa_schema.specs.Columns.{chosen}
-use Rattle.mesa_schema.specs.Lent.{lent}
-use Rattle.mesa_schema.specs.Rows.{IsRowOf}
+use Rattle.mesa_model.specs.mesa_columns.declared.rows.Row.{Row}
+use Rattle.mesa_model.specs.mesa_columns.Columns.{chosen}
+use Rattle.mesa_model.specs.mesa_columns.Lent.{lent}
+use Rattle.mesa_model.specs.mesa_columns.Rows.{IsRowOf}
 use Rattle.mesa_schema.specs.Views.{view_columns, view_key_places, view_value_places}
 use Rattle.mesa_answer.specs.Regrouping.{PlacesSeen, row_under}
-use Rattle.mesa_schema.proofs.GroupKeys.{regrouped_form}
+use Rattle.mesa_model.proofs.mesa_fold.GroupKeys.{regrouped_form}
 use Rattle.mesa_answer.proofs.Results.{on_ok}
 use Rattle.mesa_answer.proofs.regrouping.Regrouping.take.Goals as goal
 

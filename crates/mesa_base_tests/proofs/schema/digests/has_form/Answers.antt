@@ -3,7 +3,7 @@ use Rattle.std.specs.List.{AllByRecursion}
 use Rattle.mesa_value.specs.Agg.{IsNarrow}
 use Rattle.mesa_key.specs.declared.KeyType.{KeyType}
 use Rattle.mesa_key.specs.Spelling.{IsKey, key_of, key_spelling}
-use Rattle.mesa_schema.specs.Columns.{aggs_of}
+use Rattle.mesa_print.specs.mesa_columns.Columns.{aggs_of}
 use Rattle.mesa_base_tests.proofs.Forms.{of_columns}
 use Rattle.mesa_base_tests.proofs.schema.digests.has_form.Goals as goal
 

@@ -1,6 +1,6 @@
 use Rattle.std.proofs.Common.{◌++◌, [], ◌∷◌, ◌∙◌, ap, sym, take, get_or, add-one}
 use Rattle.std.proofs.Math.Seq.{take-suc}
-use Rattle.mesa_schema.specs.Lent.{lent}
+use Rattle.mesa_schema.specs.mesa_columns.Lent.{lent}
 use Rattle.mesa_batch.specs.Gathered.{rows_at}
 use Rattle.mesa_batch.proofs.LoadedRows.{some_at}
 use Rattle.mesa_batch.proofs.batch.Batch.rows.Goals as goal

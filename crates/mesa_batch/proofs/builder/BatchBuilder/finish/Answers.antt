@@ -6,7 +6,7 @@ use Rattle.mesa_batch.specs.Gathered.{Batched, Gathered, each_once}
 use Rattle.mesa_batch.specs.Heads.{IsSpot, place_of}
 use Rattle.mesa_batch.specs.Totals.{abs_totals}
 use Rattle.mesa_batch.specs.Batch.{rows_for}
-use Rattle.mesa_schema.specs.Folded.{folded}
+use Rattle.mesa_schema.specs.mesa_fold.Folded.{folded}
 use Rattle.mesa_batch.proofs.Finished.{AreParts, finished-fold, finished-rows, finished-totals, places-parted, spots-there}
 use Rattle.mesa_batch.proofs.Twice.{all_once, first_refused}
 use Rattle.mesa_batch.proofs.builder.BatchBuilder.finish.Goals as goal

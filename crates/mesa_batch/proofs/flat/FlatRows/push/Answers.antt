@@ -1,5 +1,5 @@
 use Rattle.std.proofs.Common.{◌≡◌, ◌<◌, ◌^◌, ◌∙◌, ◌++◌, ◌∷◌, [], ◌+◌, ap, arith, length}
-use Rattle.mesa_schema.specs.Lent.{lent}
+use Rattle.mesa_schema.specs.mesa_columns.Lent.{lent}
 use Rattle.mesa_batch.proofs.Flats.{flat_more, row_pushed}
 use Rattle.mesa_batch.proofs.flat.FlatRows.push.Goals as goal
 

@@ -1,5 +1,5 @@
 use Rattle.std.proofs.Common.{◌∙◌, ap}
-use Rattle.mesa_schema.specs.Columns.{place_of}
+use Rattle.mesa_schema.specs.mesa_columns.Columns.{place_of}
 use Rattle.mesa_batch.specs.Glance.{Sight, names_in}
 use Rattle.mesa_batch.proofs.NameNumbers.{names_known, found_there}
 use Rattle.mesa_batch.proofs.glance.Glance.find.Goals as goal

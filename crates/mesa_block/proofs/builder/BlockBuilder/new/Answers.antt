@@ -1,5 +1,5 @@
 use Rattle.std.proofs.Common.{ap, sym, ◌∙◌}
-use Rattle.mesa_schema.specs.Columns.{Columns, kinds_of}
+use Rattle.mesa_columns.specs.Columns.{Columns, kinds_of}
 use Rattle.mesa_block.specs.Layout.{values_size, widths_in}
 use Rattle.mesa_block.proofs.Held.{held_none}
 use Rattle.mesa_block.proofs.builder.BlockBuilder.new.Goals as goal

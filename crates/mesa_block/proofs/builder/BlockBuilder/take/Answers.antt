@@ -1,7 +1,7 @@
 use Rattle.std.proofs.Common.{◌≡◌, ◌∙◌, ◌++◌, ◌∷◌, List, ℕ, length, arith, ap, subst}
 use Rattle.std.specs.Int.{w16, to_be_bytes}
 use Rattle.std.proofs.lemmas.List.{length-map}
-use Rattle.mesa_schema.specs.declared.columns.ValueColumn.{ValueColumn}
+use Rattle.mesa_columns.specs.declared.columns.ValueColumn.{ValueColumn}
 use Rattle.mesa_block.specs.Layout.{width_of}
 use Rattle.mesa_block.specs.Fill.{AreOver, Built}
 use Rattle.mesa_block.specs.Spelling.{block}

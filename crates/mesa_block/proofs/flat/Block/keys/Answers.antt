@@ -1,5 +1,5 @@
 use Rattle.std.proofs.Common.{List, map, sym, ap, ◌∙◌}
-use Rattle.mesa_schema.specs.declared.rows.Row.{Row}
+use Rattle.mesa_columns.specs.declared.rows.Row.{Row}
 use Rattle.mesa_block.specs.Spelling.{key_of}
 use Rattle.mesa_block.proofs.Held.{keys_over}
 use Rattle.mesa_block.proofs.flat.Block.keys.Goals as goal

@@ -1,5 +1,5 @@
 use Rattle.std.proofs.Common.{◌++◌, ◌∷◌, [], ◌∙◌, ap, refl, sym, length}
-use Rattle.mesa_schema.specs.Columns.{Columns}
+use Rattle.mesa_table_records.specs.mesa_columns.Columns.{Columns}
 use Rattle.mesa_schema.specs.Changes.{Lineage, columns_of}
 use Rattle.mesa_table_records.specs.mesa_batch.Totals.{totals_after}
 use Rattle.mesa_table_records.specs.mesa_store_spec.Catalog.{TableMeta}

@@ -1,7 +1,7 @@
 use Rattle.std.proofs.Common.{List, ◌∷◌, [], ◌++◌, ◌∙◌, ap, refl, sym, length, map}
 use Rattle.std.specs.Prelude.{replicate}
-use Rattle.mesa_schema.specs.declared.columns.ValueColumn.{ValueColumn}
-use Rattle.mesa_schema.specs.Columns.{Columns, aggs_of}
+use Rattle.mesa_table_records.specs.mesa_columns.declared.columns.ValueColumn.{ValueColumn}
+use Rattle.mesa_table_records.specs.mesa_columns.Columns.{Columns, aggs_of}
 use Rattle.mesa_schema.specs.Changes.{Lineage, columns_of}
 use Rattle.mesa_table_records.specs.mesa_batch.Totals.{sums_in}
 use Rattle.mesa_catalog_records.proofs.Made.{new_made}

@@ -1,5 +1,5 @@
 use Rattle.std.proofs.Common.{◌∙◌, ap, refl, sym, arith, length}
-use Rattle.mesa_schema.specs.declared.views.View.{View}
+use Rattle.mesa_table_records.specs.mesa_columns.declared.views.View.{View}
 use Rattle.mesa_schema.specs.Changes.{Lineage}
 use Rattle.mesa_table_records.specs.mesa_store_spec.Catalog.{TableMeta}
 use Rattle.mesa_catalog_records.specs.Meaning.{catalogue_of}

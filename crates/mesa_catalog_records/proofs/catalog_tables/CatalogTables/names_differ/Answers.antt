@@ -1,7 +1,7 @@
 use Rattle.std.proofs.Common.{List, ℕ, ◌∙◌, ap, sym}
 use Rattle.std.specs.Prelude.{flat_map, is_some, not}
 use Rattle.std.proofs.lemmas.List.{map-id}
-use Rattle.mesa_schema.specs.Names.{repeated}
+use Rattle.mesa_table_records.specs.mesa_columns.Names.{repeated}
 use Rattle.mesa_catalog_records.specs.Names.{table_names}
 use Rattle.mesa_catalog_records.proofs.Relations.{turned}
 use Rattle.mesa_catalog_records.proofs.Names.{names_held, none_not}

@@ -1,7 +1,7 @@
 use Rattle.std.proofs.Common.{◌≡◌, ◌∷◌, [], ◌++◌, ℕ, List, length, map, sym, ap, subst, ◌∙◌, arith}
 use Rattle.std.proofs.lemmas.List.{take_at}
-use Rattle.mesa_schema.specs.Lifting.{lifted_with}
-use Rattle.mesa_schema.specs.declared.rows.Row.{Row}
+use Rattle.mesa_open_files.specs.mesa_columns.Lifting.{lifted_with}
+use Rattle.mesa_open_files.specs.mesa_columns.declared.rows.Row.{Row}
 use Rattle.mesa_check_file.specs.Sums.{AreTotals}
 use Rattle.mesa_check_file.proofs.Tallying.{kept_totals, lifted_more}
 use Rattle.mesa_check_file.proofs.tally.Tally.add.Goals as goal

@@ -1,5 +1,5 @@
 use Rattle.std.proofs.Common.{◌≡◌, rules, ap, sym, ◌∙◌, Some, None}
-use Rattle.mesa_schema.specs.Lent.{lent}
+use Rattle.mesa_block.specs.mesa_columns.Lent.{lent}
 use Rattle.mesa_block.specs.Fill.{Built}
 use Rattle.mesa_delta.specs.Begun.{begun}
 use Rattle.mesa_delta.proofs.Placing.{begun_first}

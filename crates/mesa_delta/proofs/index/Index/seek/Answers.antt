@@ -1,6 +1,6 @@
 use Rattle.std.proofs.Common.{◌≡◌, arith, ap, ◌∙◌}
 use Rattle.std.proofs.lemmas.List.{length-map}
-use Rattle.mesa_key.specs.Order.{short_key}
+use Rattle.mesa_block.specs.mesa_key.Order.{short_key}
 use Rattle.mesa_delta.specs.Places.{short_of, shorts_of}
 use Rattle.mesa_delta.specs.Seeking.{seek_in}
 use Rattle.mesa_delta.specs.declared.index.Held.{Held}

@@ -1,7 +1,7 @@
 use Rattle.std.proofs.Common.{◌≡◌, refl, arith, rules, ◌∙◌, ap, length}
 use Rattle.std.proofs.lemmas.List.{take_at}
-use Rattle.mesa_schema.specs.Columns.{aggs_of}
-use Rattle.mesa_schema.specs.Lent.{lent}
+use Rattle.mesa_block.specs.mesa_columns.Columns.{aggs_of}
+use Rattle.mesa_block.specs.mesa_columns.Lent.{lent}
 use Rattle.mesa_delta.specs.Totals.{added}
 use Rattle.mesa_delta.proofs.Adding.{goes_on}
 use Rattle.mesa_delta.proofs.tally.Tally.go_on.Goals as goal

@@ -1,4 +1,4 @@
-use Rattle.mesa_schema.specs.Lent.{lent}
+use Rattle.mesa_block.specs.mesa_columns.Lent.{lent}
 use Rattle.mesa_block.proofs.Cells.{wide_cells}
 use Rattle.mesa_delta.proofs.Taking.{may_push, one_more}
 use Rattle.mesa_delta.proofs.writer.DeltaWriter.push.Goals as goal

@@ -1,13 +1,13 @@
 use Rattle.std.proofs.Common.{◌≡◌, ◌∷◌, ◌++◌, [], length, true, false, ◌||◌, not, refl, sym, ◌∙◌, subst, arith, Some}
-use Rattle.mesa_catalog.specs.mesa_history_spec.Refused.{is_refusal}
-use Rattle.mesa_catalog.specs.mesa_history_spec.Replay.{closes}
-use Rattle.mesa_catalog.specs.mesa_history_spec.Run.{Finished}
+use Rattle.mesa_invariant_spec.specs.mesa_history_spec.Refused.{is_refusal}
+use Rattle.mesa_invariant_spec.specs.mesa_history_spec.Replay.{closes}
+use Rattle.mesa_invariant_spec.specs.mesa_history_spec.Run.{Finished}
 use Rattle.mesa_engine.specs.EngineState.{books_of}
 use Rattle.mesa_engine.specs.Vault.{Starts, IsVault, outset_of}
 use Rattle.mesa_engine.proofs.BeforeTurns.{vault_at_seen}
 use Rattle.mesa_engine.specs.Failure.{cause_in}
-use Rattle.mesa_catalog.specs.mesa_history_spec.Output.{block}
-use Rattle.mesa_catalog.specs.mesa_history_spec.Rows.{no_rows}
+use Rattle.mesa_invariant_spec.specs.mesa_history_spec.Output.{block}
+use Rattle.mesa_invariant_spec.specs.mesa_history_spec.Rows.{no_rows}
 use Rattle.mesa_invariant_spec.specs.Causes.{outcome_of, reply_of, told_at}
 use Rattle.mesa_invariant_spec.specs.Printing.{IsPut}
 use Rattle.mesa_invariant_spec.specs.Turns.{AnswersDisk, AnswersDraft, Shown, Takes, entry}

@@ -1,5 +1,5 @@
 use Rattle.std.proofs.Common.{◌≡◌, ◌+◌, false, ◌∙◌, subst}
-use Rattle.mesa_catalog.specs.mesa_history_spec.Run.{begins}
+use Rattle.mesa_invariant_spec.specs.mesa_history_spec.Run.{begins}
 use Rattle.mesa_invariant_spec.specs.Sight.{schema_changes}
 use Rattle.mesa_engine.specs.Engine.{Standing}
 use Rattle.mesa_engine.proofs.engine.Engine.generation.Goals as goal

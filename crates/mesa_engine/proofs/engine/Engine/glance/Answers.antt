@@ -2,7 +2,7 @@ use Rattle.std.proofs.Common.{◌≡◌, false, ◌∙◌, ap}
 use Rattle.mesa_batch.specs.Glance.{Sight, tables_of}
 use Rattle.mesa_catalog.specs.Lookups.{sight_of}
 use Rattle.mesa_engine.specs.Vault.{Starts, outset_of}
-use Rattle.mesa_catalog.specs.mesa_history_spec.Rows.{no_rows}
+use Rattle.mesa_invariant_spec.specs.mesa_history_spec.Rows.{no_rows}
 use Rattle.mesa_invariant_spec.specs.Sight.{tables_seen}
 use Rattle.mesa_invariant_spec.specs.Invariant.{run_at}
 use Rattle.mesa_engine.specs.Engine.{Standing, starts_of}

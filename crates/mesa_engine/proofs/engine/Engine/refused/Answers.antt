@@ -1,6 +1,6 @@
 use Rattle.std.proofs.Common.{◌≡◌, false, subst}
-use Rattle.mesa_catalog.specs.mesa_history_spec.Refused.{some_refused}
-use Rattle.mesa_catalog.specs.mesa_history_spec.Run.{begins}
+use Rattle.mesa_invariant_spec.specs.mesa_history_spec.Refused.{some_refused}
+use Rattle.mesa_invariant_spec.specs.mesa_history_spec.Run.{begins}
 use Rattle.mesa_engine.specs.Engine.{Standing}
 use Rattle.mesa_engine.proofs.engine.Engine.refused.Goals as goal
 

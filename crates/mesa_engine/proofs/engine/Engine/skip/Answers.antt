@@ -3,7 +3,7 @@ use Rattle.mesa_model.specs.Entry.{IsShort}
 use Rattle.mesa_model.specs.declared.entries.Outcome.TheVariants as outcome
 use Rattle.mesa_engine.specs.Vault.{Starts, outset_of}
 use Rattle.mesa_engine.proofs.BeforeTurns.{vault_at_seen}
-use Rattle.mesa_catalog.specs.mesa_history_spec.Rows.{Rows, no_rows}
+use Rattle.mesa_invariant_spec.specs.mesa_history_spec.Rows.{Rows, no_rows}
 use Rattle.mesa_invariant_spec.specs.Turns.{AnswersDisk, AnswersDraft, Shown, Takes, entry}
 use Rattle.mesa_invariant_spec.specs.Invariant.{run_at}
 use Rattle.mesa_invariant_spec.proofs.Faulting.{disk_never}

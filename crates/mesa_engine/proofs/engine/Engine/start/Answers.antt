@@ -1,7 +1,7 @@
 use Rattle.std.proofs.Common.{◌≡◌, ◌≤◌, [], true, false, sym, ap, subst, arith}
 use Rattle.std.specs.List.{AllByRecursion}
 use Rattle.mesa_engine.specs.Memory.{Memory}
-use Rattle.mesa_catalog.specs.mesa_history_spec.Rows.{no_rows}
+use Rattle.mesa_invariant_spec.specs.mesa_history_spec.Rows.{no_rows}
 use Rattle.mesa_model.specs.declared.entries.Entry.{Entry}
 use Rattle.mesa_engine.specs.Vault.{Starts, IsVault, outset_of}
 use Rattle.mesa_invariant_spec.specs.Undamaged.{NoneDamaged}

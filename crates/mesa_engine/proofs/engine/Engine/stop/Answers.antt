@@ -1,10 +1,10 @@
 use Rattle.std.proofs.Common.{◌≡◌, true, false, not, refl, subst, IsTrue}
 use Rattle.mesa_io.specs.Causes.{Rose}
-use Rattle.mesa_catalog.specs.mesa_history_spec.Legal.{fits_sink}
-use Rattle.mesa_catalog.specs.mesa_history_spec.Run.{begins}
+use Rattle.mesa_invariant_spec.specs.mesa_history_spec.Legal.{fits_sink}
+use Rattle.mesa_invariant_spec.specs.mesa_history_spec.Run.{begins}
 use Rattle.mesa_invariant_spec.specs.Printing.{IsPrinted, IsPrintedButRows}
 use Rattle.mesa_invariant_spec.specs.Invariant.{run_at}
-use Rattle.mesa_catalog.specs.mesa_history_spec.Rows.{no_rows}
+use Rattle.mesa_invariant_spec.specs.mesa_history_spec.Rows.{no_rows}
 use Rattle.mesa_engine.specs.Vault.{Starts}
 use Rattle.mesa_engine.specs.Engine.{Standing, starts_of}
 use Rattle.mesa_engine.proofs.DiskState.{reads_state}

@@ -1,5 +1,5 @@
 use Rattle.std.proofs.Common.{◌≡◌, [], length, sym, ◌∙◌, ap, subst}
-use Rattle.mesa_catalog.specs.mesa_history_spec.Replay.{no_rows}
+use Rattle.mesa_invariant_spec.specs.mesa_history_spec.Replay.{no_rows}
 use Rattle.mesa_engine.specs.Failure.{cause_in}
 use Rattle.mesa_engine.specs.Printing.{PrintsBlock}
 use Rattle.mesa_engine.proofs.Printing.{no_body}

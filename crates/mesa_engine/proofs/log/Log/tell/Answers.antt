@@ -1,5 +1,5 @@
 use Rattle.std.proofs.Common.{subst}
-use Rattle.mesa_catalog.specs.mesa_history_spec.Run.{Told}
+use Rattle.mesa_invariant_spec.specs.mesa_history_spec.Run.{Told}
 use Rattle.mesa_engine.specs.Printing.{PrintsBlock}
 use Rattle.mesa_engine.proofs.Printing.{tells}
 use Rattle.mesa_engine.proofs.log.Log.tell.Goals as goal

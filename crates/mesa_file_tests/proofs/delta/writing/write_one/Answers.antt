@@ -2,9 +2,9 @@ use Rattle.std.proofs.Common.{◌≡◌, [], ◌∷◌, List, subst}
 use Rattle.std.specs.Prelude.{Some, slice_get}
 use Rattle.std.specs.List.{AllByRecursion}
 use Rattle.std.proofs.lemmas.Option.{get_or_from_slice_get}
-use Rattle.mesa_schema.specs.declared.rows.Row.{Row}
+use Rattle.mesa_query.specs.mesa_columns.declared.rows.Row.{Row}
 use Rattle.mesa_block.specs.Layout.{Layout}
-use Rattle.mesa_schema.specs.Lent.{lent}
+use Rattle.mesa_query.specs.mesa_columns.Lent.{lent}
 use Rattle.mesa_block.specs.Rows.{IsRow}
 use Rattle.mesa_key.specs.declared.Format.TheVariants.{Two}
 use Rattle.mesa_file_tests.proofs.delta.writing.write_one.Goals as goal

@@ -2,7 +2,7 @@ use Rattle.std.proofs.Common.{◌≡◌, suc, List, take, refl, sym, subst, add-
 use Rattle.std.specs.Prelude.{None}
 use Rattle.std.specs.List.{AllByRecursion}
 use Rattle.std.proofs.lemmas.List.{take_all}
-use Rattle.mesa_schema.specs.declared.views.View.{View}
+use Rattle.mesa_query.specs.mesa_columns.declared.views.View.{View}
 use Rattle.mesa_schema.specs.Changes.{columns_of}
 use Rattle.mesa_open_files.specs.Tasks.{AreTaskViews}
 use Rattle.mesa_open_files.specs.declared.merging.TaskView.{TaskView}

@@ -1,6 +1,6 @@
 use Rattle.std.proofs.Common.{◌∙◌, ap, subst}
 use Rattle.mesa_schema.specs.Changes.{Lineage, columns_of}
-use Rattle.mesa_schema.specs.Columns.{Columns}
+use Rattle.mesa_query.specs.mesa_columns.Columns.{Columns}
 use Rattle.mesa_filter.specs.Query.{IsQueryOf}
 use Rattle.mesa_file_tests.proofs.query.answering.query_of.Goals as goal
 

@@ -2,8 +2,8 @@ use Rattle.std.proofs.Common.{◌≡◌, ◌<◌, [], ℕ, List, length, get_or,
 use Rattle.std.specs.Prelude.{IsTrue, Option}
 use Rattle.std.specs.Bool.{then_some}
 use Rattle.std.specs.List.{AllByRecursion}
-use Rattle.mesa_schema.specs.Columns.{aggs_of}
-use Rattle.mesa_schema.specs.Folded.{folded, rows_of}
+use Rattle.mesa_scan.specs.mesa_columns.Columns.{aggs_of}
+use Rattle.mesa_scan.specs.mesa_fold.Folded.{folded, rows_of}
 use Rattle.mesa_batch.specs.Bound.{KeepsBound}
 use Rattle.mesa_scan.specs.declared.cursor.Cursor.{Cursor}
 use Rattle.mesa_scan.specs.Cursors.{IsInput}

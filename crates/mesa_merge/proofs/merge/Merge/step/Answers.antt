@@ -1,8 +1,8 @@
 use Rattle.std.proofs.Common.{inl, ◌≡◌, [], ℕ, List, length, get_or, refl, sym, ◌∙◌, ap, subst, arith}
 use Rattle.std.proofs.lemmas.Bool.{false≢true}
 use Rattle.std.specs.List.{AllByRecursion}
-use Rattle.mesa_schema.specs.Columns.{aggs_of}
-use Rattle.mesa_schema.specs.Folded.{rows_of}
+use Rattle.mesa_scan.specs.mesa_columns.Columns.{aggs_of}
+use Rattle.mesa_scan.specs.mesa_fold.Folded.{rows_of}
 use Rattle.mesa_batch.specs.Bound.{KeepsBound}
 use Rattle.mesa_scan.specs.declared.cursor.Cursor.{Cursor}
 use Rattle.mesa_scan.specs.Cursors.{IsInput}

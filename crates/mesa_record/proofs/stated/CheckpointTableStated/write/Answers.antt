@@ -1,4 +1,4 @@
-use Rattle.mesa_list.proofs.Whole.{both}
+use Rattle.mesa_record_fields.proofs.mesa_list.Whole.{both}
 use Rattle.mesa_record.specs.Rules.{are_stated_columns, are_stated_deltas}
 use Rattle.mesa_record.proofs.stated.CheckpointTableStated.write.Goals as goal
 

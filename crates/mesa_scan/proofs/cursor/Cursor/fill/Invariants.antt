@@ -1,6 +1,6 @@
 use Rattle.std.proofs.Common.{◌≡◌, ◌-◌, ◌+◌, ◌<◌, ◌≤◌, ℕ, List, [], length}
 use Rattle.std.specs.Prelude.{Option, None}
-use Rattle.mesa_schema.specs.declared.rows.Row.{Row}
+use Rattle.mesa_delta.specs.mesa_columns.declared.rows.Row.{Row}
 use Rattle.mesa_delta.specs.Reading.{index_of}
 use Rattle.mesa_scan.specs.Cursors.{HasGivenFrom, IsInput, IsSameInput, at_hand, low_of, next_of, reader_in}
 use Rattle.mesa_scan.proofs.cursor.Cursor.fill.Given as goal

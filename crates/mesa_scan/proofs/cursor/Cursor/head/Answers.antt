@@ -1,5 +1,5 @@
 use Rattle.std.proofs.Common.{◌+◌, drop, arith}
-use Rattle.mesa_schema.specs.Lent.{lent}
+use Rattle.mesa_delta.specs.mesa_columns.Lent.{lent}
 use Rattle.mesa_scan.proofs.Handing.{from_place, past_end}
 use Rattle.mesa_scan.proofs.cursor.Cursor.head.Goals as goal
 

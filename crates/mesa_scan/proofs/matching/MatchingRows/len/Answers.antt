@@ -1,5 +1,5 @@
 use Rattle.std.proofs.Common.{List, length, ap, arith}
-use Rattle.mesa_schema.specs.declared.rows.Row.{Row}
+use Rattle.mesa_delta.specs.mesa_columns.declared.rows.Row.{Row}
 use Rattle.mesa_scan.proofs.Chosen.{chosen_count}
 use Rattle.mesa_scan.proofs.matching.MatchingRows.len.Goals as goal
 

@@ -1,11 +1,11 @@
 use Rattle.std.proofs.Common.{refl, sym, subst, arith}
 use Rattle.std.specs.Prelude.{IsTrue}
 use Rattle.std.specs.List.{AllByRecursion}
-use Rattle.mesa_key.specs.Spelling.{is_spelling}
-use Rattle.mesa_schema.specs.declared.rows.Row.{Row}
-use Rattle.mesa_schema.specs.Lifting.{lifted_with}
+use Rattle.mesa_delta.specs.mesa_key.Spelling.{is_spelling}
+use Rattle.mesa_delta.specs.mesa_columns.declared.rows.Row.{Row}
+use Rattle.mesa_delta.specs.mesa_columns.Lifting.{lifted_with}
 use Rattle.mesa_schema.specs.Lineages.{IsLineage}
-use Rattle.mesa_schema.proofs.Lists.{all_map}
+use Rattle.mesa_schema.proofs.mesa_columns.Lists.{all_map}
 use Rattle.mesa_delta.specs.Indexed.{IsIndex}
 use Rattle.mesa_delta.specs.Reading.{index_of}
 use Rattle.mesa_scan.specs.Cursors.{IsSameInput}

@@ -1,7 +1,7 @@
 use Rattle.std.proofs.Common.{◌∙◌, ap, sym, map}
-use Rattle.mesa_schema.specs.declared.changes.ChangeError.TheVariants.{Memory}
-use Rattle.mesa_schema.specs.declared.columns.KeyColumn.{KeyColumn}
-use Rattle.mesa_schema.specs.declared.columns.ValueColumn.{ValueColumn}
+use Rattle.mesa_columns.specs.declared.changes.ChangeError.TheVariants.{Memory}
+use Rattle.mesa_columns.specs.declared.columns.KeyColumn.{KeyColumn}
+use Rattle.mesa_columns.specs.declared.columns.ValueColumn.{ValueColumn}
 use Rattle.mesa_schema.specs.Changes.{added_key_checked, added_value_checked, drop_rule, rule_checked}
 use Rattle.mesa_schema.proofs.ChangeChecks.{told_err, told_ok, told_same}
 use Rattle.mesa_schema.proofs.evolving.Evolving.check_rule.Goals as goal

@@ -1,8 +1,8 @@
 use Rattle.std.proofs.Common.{◌∙◌, ap, sym, List, ℕ, map, length, Bool}
 use Rattle.std.specs.Prelude.{is_ok, is_some, find, not, ◌&&◌, ◌==◌}
-use Rattle.mesa_schema.specs.declared.columns.ValueColumn.{ValueColumn}
-use Rattle.mesa_schema.specs.declared.views.View.{View}
-use Rattle.mesa_schema.specs.Names.{has_name}
+use Rattle.mesa_columns.specs.declared.columns.ValueColumn.{ValueColumn}
+use Rattle.mesa_columns.specs.declared.views.View.{View}
+use Rattle.mesa_columns.specs.Names.{has_name}
 use Rattle.mesa_schema.specs.Changes.{rule_checked}
 use Rattle.mesa_schema.proofs.LineageRules.{drop_allowed}
 use Rattle.mesa_schema.proofs.evolving.Evolving.keeps_rule.Goals as goal

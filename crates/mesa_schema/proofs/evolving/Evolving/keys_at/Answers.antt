@@ -1,7 +1,7 @@
 use Rattle.std.proofs.Common.{◌∙◌, ◌+◌, ◌-◌, ap, sym, length, take}
 use Rattle.std.specs.Prelude.{count_by}
-use Rattle.mesa_schema.specs.Changes.{adds_key}
-use Rattle.mesa_schema.proofs.KeyCounts.{key_count}
+use Rattle.mesa_columns.specs.Changes.{adds_key}
+use Rattle.mesa_fold.proofs.KeyCounts.{key_count}
 use Rattle.mesa_schema.proofs.evolving.Evolving.keys_at.Goals as goal
 
 pub returns : goal.returns

@@ -1,6 +1,7 @@
 use Rattle.std.proofs.Common.{◌≡◌, ◌∙◌, ap, is_ok}
-use Rattle.mesa_schema.specs.Schema.{is_schema}
-use Rattle.mesa_schema.specs.Changes.{changed, columns_of}
+use Rattle.mesa_columns.specs.Schema.{is_schema}
+use Rattle.mesa_columns.specs.Changes.{changed}
+use Rattle.mesa_schema.specs.Changes.{columns_of}
 use Rattle.mesa_schema.proofs.LineageChanges.{changed_schema}
 use Rattle.mesa_schema.proofs.evolving.Evolving.present_after.Goals as goal
 

@@ -1,10 +1,10 @@
 use Rattle.std.proofs.Common.{◌≡◌, ◌∙◌, ◌+◌, [], ap, refl, subst, sym, None}
-use Rattle.mesa_schema.specs.declared.views.View.{View}
-use Rattle.mesa_schema.specs.Columns.{Columns}
+use Rattle.mesa_columns.specs.declared.views.View.{View}
+use Rattle.mesa_columns.specs.Columns.{Columns}
 use Rattle.mesa_schema.specs.Changes.{Lineage, columns_of}
 use Rattle.mesa_schema.specs.Lineages.{IsKept}
 use Rattle.mesa_schema.specs.Recasts.{Recast, recast_lineage}
-use Rattle.mesa_schema.specs.Schema.{is_schema}
+use Rattle.mesa_columns.specs.Schema.{is_schema}
 use Rattle.mesa_schema.proofs.LineageRecasts.{lineage_recast, recast_allowed, recast_schema}
 use Rattle.mesa_schema.proofs.LineageRules.{present_schema}
 use Rattle.mesa_schema.proofs.ViewSchemas.{chooses, chosen_view}

@@ -1,5 +1,5 @@
 use Rattle.std.proofs.Common.{◌≡◌, drop}
-use Rattle.mesa_schema.specs.Changes.{columns_after}
+use Rattle.mesa_columns.specs.Changes.{columns_after}
 use Rattle.mesa_schema.proofs.evolving.Evolving.schema_at.Given as goal
 
 -- what the changes that are left make of the columns is what all make of the first

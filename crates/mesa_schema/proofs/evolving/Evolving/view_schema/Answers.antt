@@ -1,5 +1,5 @@
 use Rattle.std.proofs.Common.{◌∙◌, ap}
-use Rattle.mesa_schema.specs.Columns.{Columns}
+use Rattle.mesa_columns.specs.Columns.{Columns}
 use Rattle.mesa_schema.specs.Changes.{columns_of}
 use Rattle.mesa_schema.proofs.LineageRules.{present_schema}
 use Rattle.mesa_schema.proofs.ViewSchemas.{chooses, chooses_schema, chosen_view}

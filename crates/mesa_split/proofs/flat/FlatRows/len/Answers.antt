@@ -1,5 +1,5 @@
 use Rattle.std.proofs.Common.{List, length, sym, ap, ◌∙◌}
-use Rattle.mesa_schema.specs.declared.rows.Row.{Row}
+use Rattle.mesa_compact.specs.mesa_columns.declared.rows.Row.{Row}
 use Rattle.mesa_delta.proofs.mesa_block.Held.{count_over}
 use Rattle.mesa_split.proofs.flat.FlatRows.len.Goals as goal
 

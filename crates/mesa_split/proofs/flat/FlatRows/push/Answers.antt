@@ -1,6 +1,6 @@
 use Rattle.std.proofs.Common.{ℕ, ◌<◌, sym, ◌∙◌, subst}
-use Rattle.mesa_schema.specs.declared.rows.Row.{Row}
-use Rattle.mesa_schema.specs.Lent.{lent}
+use Rattle.mesa_compact.specs.mesa_columns.declared.rows.Row.{Row}
+use Rattle.mesa_compact.specs.mesa_columns.Lent.{lent}
 use Rattle.mesa_split.proofs.Buffers.{AreAsLong, Goes, goes, goes_on, goes_over}
 use Rattle.mesa_split.proofs.flat.FlatRows.push.Goals as goal
 

@@ -3,7 +3,7 @@ use Rattle.std.specs.Prelude.{◌==◌, ◌&&◌, nat_lt, slice_index_or}
 use Rattle.std.specs.List.{list_all}
 use Rattle.std.proofs.lemmas.Bool.Decides.{nat_tests}
 use Rattle.mesa_schema.specs.Changes.{columns_at}
-use Rattle.mesa_schema.specs.Columns.{aggs_of}
+use Rattle.mesa_catalog_table.specs.mesa_columns.Columns.{aggs_of}
 use Rattle.mesa_batch.specs.Totals.{sum_bound, sums_in}
 use Rattle.mesa_table_records.proofs.Sums.{sums_at, sums_there}
 use Rattle.mesa_table_records.proofs.restored_columns.Counted.allows_totals_at.Goals as goal

@@ -1,6 +1,6 @@
 use Rattle.std.proofs.Common.{◌≡◌, ◌∙◌, ◌<◌, ◌++◌, ◌∷◌, [], ℕ, List, ap, sym, subst, map, length, replicate}
 use Rattle.std.proofs.lemmas.List.{map-append}
-use Rattle.mesa_schema.specs.Columns.{aggs_of}
+use Rattle.mesa_answer.specs.mesa_columns.Columns.{aggs_of}
 use Rattle.mesa_schema.specs.Changes.{Lineage, columns_of}
 use Rattle.mesa_batch.specs.declared.glance.Glanced.{Glanced}
 use Rattle.mesa_batch.specs.Numbers.{known_of}

@@ -1,6 +1,6 @@
 use Rattle.std.proofs.Common.{◌≡◌, ◌∙◌, ◌<◌, ◌+◌, ◌-◌, ap, length, map, subst, sym, arith, []}
 use Rattle.std.specs.Prelude.{slice_index_or}
-use Rattle.mesa_schema.specs.Rows.{AreRowsOf}
+use Rattle.mesa_answer.specs.mesa_columns.Rows.{AreRowsOf}
 use Rattle.mesa_schema.specs.Changes.{columns_of}
 use Rattle.mesa_answer.specs.Answering.{KeepsSums}
 use Rattle.mesa_batch.specs.Numbers.{known_of}

@@ -3,7 +3,7 @@ use Rattle.std.specs.Prelude.{IfSome}
 use Rattle.std.proofs.lemmas.List.{length-map}
 use Rattle.mesa_batch.specs.declared.glance.Glanced.{Glanced}
 use Rattle.mesa_batch.specs.Numbers.{known_of}
-use Rattle.mesa_schema.specs.Columns.{place_of}
+use Rattle.mesa_answer.specs.mesa_columns.Columns.{place_of}
 use Rattle.mesa_model.specs.Relations.{table_number}
 use Rattle.mesa_test_oracle.specs.Kept.{Versioned, from_of, tables_in}
 use Rattle.mesa_test_oracle.proofs.Lineages.{names_kept}

@@ -2,9 +2,9 @@ use Rattle.std.proofs.Common.{◌≡◌, ◌∙◌, ◌<◌, [], ap, get_or, len
 use Rattle.std.specs.List.{AllByRecursion}
 use Rattle.std.proofs.lemmas.List.{length-map}
 use Rattle.std.proofs.lemmas.Option.{slice_get-get_or}
-use Rattle.mesa_schema.specs.declared.columns.ValueColumn.{ValueColumn}
+use Rattle.mesa_answer.specs.mesa_columns.declared.columns.ValueColumn.{ValueColumn}
 use Rattle.mesa_schema.specs.Changes.{Lineage, columns_of}
-use Rattle.mesa_schema.specs.Columns.{Columns, places_in}
+use Rattle.mesa_answer.specs.mesa_columns.Columns.{Columns, places_in}
 use Rattle.mesa_schema.specs.Recasts.{Recast, recast_checked, recast_lineage}
 use Rattle.mesa_schema.proofs.LineageRecasts.{recast_allowed}
 use Rattle.mesa_batch.specs.Numbers.{known_of}

@@ -3,7 +3,7 @@ use Rattle.std.specs.Prelude.{length, nat_le}
 use Rattle.std.proofs.lemmas.Bool.{le-leb}
 use Rattle.std.proofs.lemmas.Result.{err_from_is_err_and}
 use Rattle.mesa_list.specs.Checks.{refuse_unless}
-use Rattle.mesa_schema.specs.Names.{is_name}
+use Rattle.mesa_answer.specs.mesa_columns.Names.{is_name}
 use Rattle.mesa_model.specs.declared.replies.Refusal.TheVariants as no
 use Rattle.mesa_model.specs.declared.replies.Reply.TheVariants as reply
 use Rattle.mesa_model.specs.declared.replies.SchemaFault.TheVariants as fault

@@ -1,8 +1,8 @@
 use Rattle.std.proofs.Common.{◌≡◌, ◌∙◌, ◌<◌, ℕ, List, length, ap, subst, sym, Option, Some, Result, Ok, Err}
 use Rattle.std.specs.Prelude.{IfOk, IfSome, option_and_then, slice_get}
-use Rattle.mesa_schema.specs.declared.rows.Row.{Row}
+use Rattle.mesa_answer.specs.mesa_columns.declared.rows.Row.{Row}
 use Rattle.mesa_schema.specs.Changes.{columns_of}
-use Rattle.mesa_schema.specs.Rows.{AreRowsOf}
+use Rattle.mesa_answer.specs.mesa_columns.Rows.{AreRowsOf}
 use Rattle.mesa_schema.specs.Views.{view_columns, view_rows}
 use Rattle.mesa_answer.specs.Answering.{KeepsSums}
 use Rattle.mesa_model.specs.declared.replies.Page.{Page}

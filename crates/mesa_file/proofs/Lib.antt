@@ -1,0 +1,1 @@
+pub use Rattle.mesa_key.proofs.mesa_list as mesa_list

@@ -1,0 +1,20 @@
+pub use Rattle.mesa_columns.proofs.mesa_key as mesa_key
+pub mod Drops
+pub mod FilteredFolds
+pub mod Folding
+pub mod Folds
+pub mod Forms
+pub mod GroupKeys
+pub mod GroupedFolds
+pub mod Grouping
+pub mod KeyCounts
+pub mod KeyLifts
+pub mod Keys
+pub mod KeysApart
+pub mod Lifts
+pub mod Picks
+pub mod Ranges
+pub mod Refolds
+pub mod RisingRows
+pub mod SameFolds
+pub mod WholeGroups

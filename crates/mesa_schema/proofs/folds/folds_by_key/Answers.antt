@@ -1,8 +1,0 @@
-use Rattle.mesa_schema.proofs.FilteredFolds.{filtered_folds}
-use Rattle.mesa_schema.proofs.Forms.{folds_full}
-use Rattle.mesa_schema.proofs.RisingRows.{folded_rise}
-use Rattle.mesa_schema.proofs.SameFolds.{same_folds}
-use Rattle.mesa_schema.proofs.folds.folds_by_key.Goals as goal
-
-pub returns : goal.returns
-returns c = record { same = same_folds; rise = folded_rise; full = folds_full; filtered = filtered_folds }

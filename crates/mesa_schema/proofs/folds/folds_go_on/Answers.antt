@@ -1,5 +1,0 @@
-use Rattle.mesa_schema.proofs.SameFolds.{puts_given, puts_one}
-use Rattle.mesa_schema.proofs.folds.folds_go_on.Goals as goal
-
-pub returns : goal.returns
-returns c = record { one = puts_one; given = puts_given }

@@ -1,5 +1,0 @@
-use Rattle.mesa_schema.proofs.WholeGroups.{groups_whole, one_key}
-use Rattle.mesa_schema.proofs.folds.groups_whole.Goals as goal
-
-pub returns : goal.returns
-returns c = record { keys = one_key; folds = groups_whole }

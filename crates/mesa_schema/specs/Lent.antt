@@ -1,7 +1,0 @@
--- Rows that are lent.
-use Rattle.mesa_schema.specs.declared.rows.LentRow.{LentRow}
-use Rattle.mesa_schema.specs.declared.rows.Row.{Row}
-
--- a lent row as a row
-abbrev pub lent : LentRow → Row
-lent r = record { key = r.key.now; values = r.values.now }
