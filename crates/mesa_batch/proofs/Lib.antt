@@ -1,3 +1,4 @@
+pub use Rattle.mesa_schema.proofs.mesa_columns as mesa_columns
 pub use Rattle.mesa_schema.proofs.mesa_key as mesa_key
 pub use Rattle.mesa_list.proofs as mesa_list
 pub use Rattle.mesa_schema.proofs as mesa_schema

@@ -25,7 +25,7 @@ use Rattle.mesa_open_files.specs.mesa_fold.Folded.{row_combined, all_combined}
 use Rattle.mesa_open_files.specs.mesa_columns.Rows.{AreOf, IsRowOf}
 use Rattle.mesa_open_files.specs.mesa_block.Rows.{Rise}
 use Rattle.mesa_open_files.specs.mesa_block.Spelling.{key_of}
-use Rattle.mesa_delta.specs.Summary.{all_noted, aggregates, values_of, last_key, AllCombine}
+use Rattle.mesa_open_files.specs.mesa_delta_format.Summary.{all_noted, aggregates, values_of, last_key, AllCombine}
 use Rattle.mesa_delta.specs.Writing.{HasTaken, IsNext, MayFollow, columns_of}
 use Rattle.mesa_delta.specs.declared.writer.DeltaWriter.{DeltaWriter}
 use Rattle.mesa_bench.specs.Made.{HasColumns, key_at, row_at, rows_below}

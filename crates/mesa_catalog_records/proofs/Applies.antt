@@ -12,11 +12,11 @@ use Rattle.mesa_table_records.specs.mesa_columns.Schema.{is_schema}
 use Rattle.mesa_schema.specs.Changes.{Lineage, columns_of, with_change}
 use Rattle.mesa_schema.specs.Views.{with_view}
 use Rattle.mesa_table_records.specs.mesa_batch.Totals.{totals_after, totals_with}
-use Rattle.mesa_record.specs.declared.recasting.Recasting.{Recasting}
-use Rattle.mesa_record.specs.declared.record.Record.{Record}
-use Rattle.mesa_record.specs.declared.record.Record.TheVariants as record_of
-use Rattle.mesa_record.specs.declared.record.Files.{Files}
-use Rattle.mesa_record.specs.declared.record.Part.{Part}
+use Rattle.mesa_table_records.specs.mesa_record.declared.recasting.Recasting.{Recasting}
+use Rattle.mesa_table_records.specs.mesa_record.declared.record.Record.{Record}
+use Rattle.mesa_table_records.specs.mesa_record.declared.record.Record.TheVariants as record_of
+use Rattle.mesa_table_records.specs.mesa_record.declared.record.Files.{Files}
+use Rattle.mesa_table_records.specs.mesa_record.declared.record.Part.{Part}
 use Rattle.mesa_table_records.specs.mesa_span.Ranges.{end_of}
 use Rattle.mesa_table_records.specs.mesa_store_spec.Catalog.{Catalog, TableMeta, meta_at, meta_changed, meta_viewed, with_meta}
 use Rattle.mesa_table_records.specs.mesa_store_spec.Fitting.{brings_new_files, files_fit_if_any, fits, has_epoch, is_new_name, is_there, kind_fits, may_be_work, part_fits, publish_fits, recast_fits, swap_fits, table_fits}

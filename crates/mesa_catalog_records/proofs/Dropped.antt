@@ -4,7 +4,7 @@ use Rattle.std.specs.Prelude.{Option, Some, None, flat_map, option_map}
 use Rattle.std.specs.declared.alloc.Global.{Global}
 use Rattle.std.specs.declared.sync.Arc.{Arc}
 use Rattle.std.proofs.lemmas.List.{append-nil}
-use Rattle.mesa_record.specs.declared.record.Files.{Files}
+use Rattle.mesa_table_records.specs.mesa_record.declared.record.Files.{Files}
 use Rattle.mesa_table_records.specs.mesa_store_spec.Catalog.{Delta, start_in}
 use Rattle.mesa_table_records.specs.mesa_store_spec.Fitting.{base_deltas, delta_in}
 use Rattle.mesa_table_records.specs.mesa_store_spec.Ids.{delta_ids, dropped_deltas, file_ids, own_delta_id, own_id, recast_dropped}

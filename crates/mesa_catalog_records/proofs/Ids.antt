@@ -7,13 +7,13 @@ use Rattle.std.proofs.lemmas.List.Sums.{sum_by-append, sum_by-cons}
 use Rattle.std.proofs.lemmas.List.{append-nil}
 use Rattle.mesa_schema.specs.Changes.{Lineage}
 use Rattle.mesa_schema.specs.Recasts.{recast_lineage}
-use Rattle.mesa_record.specs.declared.checkpoint.CheckpointSingle.{CheckpointSingle}
-use Rattle.mesa_record.specs.declared.recasting.RecastBase.{RecastBase}
-use Rattle.mesa_record.specs.declared.recasting.Recasting.{Recasting}
-use Rattle.mesa_record.specs.declared.record.Files.{Files}
-use Rattle.mesa_record.specs.declared.record.Part.{Part}
-use Rattle.mesa_record.specs.declared.record.Record.{Record}
-use Rattle.mesa_record.specs.declared.record.Record.TheVariants as record_of
+use Rattle.mesa_table_records.specs.mesa_record.declared.checkpoint.CheckpointSingle.{CheckpointSingle}
+use Rattle.mesa_table_records.specs.mesa_record.declared.recasting.RecastBase.{RecastBase}
+use Rattle.mesa_table_records.specs.mesa_record.declared.recasting.Recasting.{Recasting}
+use Rattle.mesa_table_records.specs.mesa_record.declared.record.Files.{Files}
+use Rattle.mesa_table_records.specs.mesa_record.declared.record.Part.{Part}
+use Rattle.mesa_table_records.specs.mesa_record.declared.record.Record.{Record}
+use Rattle.mesa_table_records.specs.mesa_record.declared.record.Record.TheVariants as record_of
 use Rattle.mesa_table_records.specs.mesa_store_spec.Catalog.{Catalog, base_recast, base_told, empty_delta, recast_in, single_stated, singles_stated, singles_told, start_in, meta_at}
 use Rattle.mesa_table_records.specs.mesa_store_spec.Fitting.{are_new_ids, base_deltas, brings_new_files, brought, delta_own, has_number, own_live, part_live, recast_live, run_of_id, live_id, meta_live}
 use Rattle.mesa_table_records.specs.mesa_store_spec.Ids.{named, times}

@@ -6,7 +6,7 @@ use Rattle.std.proofs.lemmas.Bool.Decides.{nat_tests}
 use Rattle.std.proofs.lemmas.Iterator.Adapters.{position_from-zero}
 use Rattle.std.proofs.lemmas.List.{drop-drop, drop-set-lt, drop_more, map_push, take_more_set}
 use Rattle.std.proofs.lemmas.Option.{slice_get-get_or}
-use Rattle.mesa_record.specs.declared.record.Part.{Part}
+use Rattle.mesa_table_records.specs.mesa_record.declared.record.Part.{Part}
 use Rattle.mesa_table_records.specs.mesa_store_spec.Catalog.{part_of, meta_loaded, metas_loaded}
 use Rattle.mesa_table_records.specs.mesa_catalog_table.declared.table.Table.{Table}
 use Rattle.mesa_table_records.specs.declared.ready.ReadyPart.{ReadyPart}

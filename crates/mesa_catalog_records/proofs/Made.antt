@@ -14,7 +14,7 @@ use Rattle.mesa_schema.specs.Changes.{Lineage, columns_at, columns_of, epoch_of,
 use Rattle.mesa_schema.specs.Views.{with_view}
 use Rattle.mesa_table_records.specs.mesa_batch.Totals.{sums_in}
 use Rattle.mesa_table_records.specs.mesa_span.Ranges.{base_before, start_behind}
-use Rattle.mesa_record.specs.declared.record.Record.TheVariants as record_of
+use Rattle.mesa_table_records.specs.mesa_record.declared.record.Record.TheVariants as record_of
 use Rattle.mesa_table_records.specs.mesa_store_spec.Catalog.{Catalog, empty_base, end_in, new_meta, meta_at}
 use Rattle.mesa_table_records.specs.mesa_store_spec.Fitting.{alter_fits, is_there, view_fits}
 use Rattle.mesa_catalog_records.specs.declared.catalog_tables.CatalogTables.{CatalogTables}

@@ -1,11 +1,11 @@
 -- The files that a catalogue names, and those that a record brings, by their ids.
 use Rattle.std.specs.Prelude.{◌≡◌, ℕ, ◌<◌, List, [], ◌∷◌, ◌++◌, map, flat_map, Bool, ◌==◌, ◌&&◌, not, Option, Some, None}
-use Rattle.mesa_record.specs.declared.record.Part.{Part}
-use Rattle.mesa_record.specs.declared.record.Record.{Record}
-use Rattle.mesa_record.specs.declared.record.Record.TheVariants as record_of
-use Rattle.mesa_record.specs.declared.checkpoint.CheckpointSingle.{CheckpointSingle}
-use Rattle.mesa_record.specs.declared.recasting.RecastBase.{RecastBase}
-use Rattle.mesa_record.specs.declared.recasting.Recasting.{Recasting}
+use Rattle.mesa_table_records.specs.mesa_record.declared.record.Part.{Part}
+use Rattle.mesa_table_records.specs.mesa_record.declared.record.Record.{Record}
+use Rattle.mesa_table_records.specs.mesa_record.declared.record.Record.TheVariants as record_of
+use Rattle.mesa_table_records.specs.mesa_record.declared.checkpoint.CheckpointSingle.{CheckpointSingle}
+use Rattle.mesa_table_records.specs.mesa_record.declared.recasting.RecastBase.{RecastBase}
+use Rattle.mesa_table_records.specs.mesa_record.declared.recasting.Recasting.{Recasting}
 use Rattle.mesa_table_records.specs.mesa_store_spec.Fitting.{has_number, run_of_id}
 use Rattle.mesa_table_records.specs.mesa_store_spec.Ids.{times}
 use Rattle.mesa_table_records.specs.mesa_catalog_table.Named.{file_ids, ids_if_any, own_if_any, table_ids}

@@ -7,8 +7,8 @@ use Rattle.mesa_table_records.specs.mesa_columns.declared.views.View.{View}
 use Rattle.mesa_schema.specs.Changes.{Lineage, columns_of, with_change}
 use Rattle.mesa_schema.specs.Views.{with_view}
 use Rattle.mesa_table_records.specs.mesa_batch.Totals.{totals_after, totals_with}
-use Rattle.mesa_record.specs.declared.record.Record.{Record}
-use Rattle.mesa_record.specs.declared.record.Record.TheVariants as record_of
+use Rattle.mesa_table_records.specs.mesa_record.declared.record.Record.{Record}
+use Rattle.mesa_table_records.specs.mesa_record.declared.record.Record.TheVariants as record_of
 use Rattle.mesa_table_records.specs.mesa_store_spec.Catalog.{Catalog, new_meta, part_delta, meta_at}
 use Rattle.mesa_table_records.specs.mesa_store_spec.Fitting.{fits}
 use Rattle.mesa_table_records.specs.mesa_catalog_table.declared.table.Table.{Table}

@@ -7,7 +7,7 @@ ghost use Rattle.mesa_catalog_records.specs.Meaning.{AreCatalogTables, catalogue
 
 use crate::catalog_tables::CatalogTables;
 use mesa_file::FileId;
-use mesa_record::Record;
+use mesa_table_records::Record;
 use std::alloc::AllocError;
 
 impl CatalogTables {

@@ -16,7 +16,7 @@ mod readying;
 pub use catalog_tables::{CatalogTables, MAX_TABLES};
 pub use copying::share_tables;
 pub use fitting::MAX_RUNS;
-pub use mesa_record::{Checkpoint, CheckpointTable, Record};
+pub use mesa_table_records::{Checkpoint, CheckpointTable, Record};
 pub use mesa_table_records::{
     Delta, NoRows, Recorded, Relation, RestoreError, Table, ranges, restore, state,
 };

@@ -1,8 +1,8 @@
 // Whether the files that a record brings are new. Takes no memory.
 ghost use Rattle.std.specs.Prelude.{◌≡◌, ◌==◌, ◌^◌, ◌-◌, ◌≤◌, ◌<◌, [], ◌∷◌, ℕ, flat_map, count_by, map, min, IfSome, IsTrue};
 ghost use Rattle.std.specs.List.{list_all, list_any, AllByRecursion};
-ghost use Rattle.mesa_record.specs.declared.checkpoint.CheckpointSingle.{CheckpointSingle as Told};
-ghost use Rattle.mesa_record.specs.declared.record.ViewRef.{ViewRef as Seen};
+ghost use Rattle.mesa_table_records.specs.mesa_record.declared.checkpoint.CheckpointSingle.{CheckpointSingle as Told};
+ghost use Rattle.mesa_table_records.specs.mesa_record.declared.record.ViewRef.{ViewRef as Seen};
 ghost use Rattle.mesa_table_records.specs.mesa_store_spec.Fitting.{are_new_ids, has_number};
 ghost use Rattle.mesa_table_records.specs.mesa_store_spec.Ids.{times as times_of};
 ghost use Rattle.mesa_table_records.specs.mesa_catalog_table.declared.table.Table.{Table as Held};
@@ -11,8 +11,7 @@ ghost use Rattle.mesa_catalog_records.specs.Named.{RiseTo, held_ids, ids_brought
 
 use crate::catalog_tables::CatalogTables;
 use mesa_file::FileId;
-use mesa_record::{CheckpointSingle, Files, Part, RecastBase, Recasting, Record, ViewRef};
-use mesa_table_records::Table;
+use mesa_table_records::{CheckpointSingle, Files, Part, RecastBase, Recasting, Record, Table, ViewRef};
 
 /// How many ids of files a run has.
 pub const IDS_OF_RUN: u64 = 1 << 40;

@@ -1,9 +1,9 @@
 // Making a record ready: all memory that it takes is taken here.
 ghost use Rattle.std.specs.Prelude.{◌≡◌, ◌&&◌, IsTrue, IfOk, OnOk, map, option_map};
 ghost use Rattle.std.specs.List.{AllByRecursion, list_all};
-ghost use Rattle.mesa_record.specs.declared.record.Part.{Part as PartOf};
+ghost use Rattle.mesa_table_records.specs.mesa_record.declared.record.Part.{Part as PartOf};
 ghost use Rattle.mesa_table_records.specs.mesa_span.Ranges.{base_before};
-ghost use Rattle.mesa_record.specs.declared.record.Record.TheVariants as record_of;
+ghost use Rattle.mesa_table_records.specs.mesa_record.declared.record.Record.TheVariants as record_of;
 ghost use Rattle.mesa_table_records.specs.mesa_store_spec.Catalog.{empty_base, merged_delta, meta_at};
 ghost use Rattle.mesa_table_records.specs.mesa_store_spec.Fitting.{alter_fits, is_there, kind_fits, part_fits, recast_fits, table_fits, view_fits};
 ghost use Rattle.mesa_catalog_records.specs.Meaning.{AreCatalogTables, catalogue_of};
@@ -16,12 +16,8 @@ use crate::catalog_tables::CatalogTables;
 use crate::lineages::{lineage_with_change, lineage_with_view, new_lineage, widths_with};
 use crate::ready::Ready;
 use mesa_list::{Items, TryCopy};
-use mesa_record::{Files, Part, Recasting, Record};
+use mesa_table_records::{Base, Delta, Files, Part, ReadyPart, Recasting, Record, Table, make_recast, make_spare, no_totals, totals_changed, totals_with, width_of};
 use mesa_schema::{Change, KeyColumn, Name, ValueColumn};
-use mesa_table_records::{
-    Base, Delta, ReadyPart, Table, make_recast, make_spare, no_totals, totals_changed, totals_with,
-    width_of,
-};
 use std::alloc::{AllocError, Global};
 use std::sync::Arc;
 

@@ -16,7 +16,7 @@ use Rattle.mesa_schema.specs.Changes.{Lineage, columns_at, epoch_of, columns_of}
 use Rattle.mesa_schema.specs.Lineages.{is_view_of}
 use Rattle.mesa_schema.specs.Views.{choice_checked, view_columns}
 use Rattle.mesa_schema.proofs.Choices.{chosen-slot}
-use Rattle.mesa_schema.proofs.mesa_columns.Maps.{is_some_position, position_map}
+use Rattle.mesa_batch.proofs.mesa_columns.Maps.{is_some_position, position_map}
 use Rattle.mesa_schema.proofs.Passing.{passed_first, passed_unless}
 use Rattle.mesa_batch.proofs.NameNumbers.{position-within}
 use Rattle.mesa_batch.specs.Totals.{over_bound, sum_bound}

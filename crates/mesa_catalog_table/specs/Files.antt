@@ -7,7 +7,7 @@ use Rattle.mesa_record.specs.declared.record.ViewRef.{ViewRef}
 use Rattle.mesa_store_spec.specs.Catalog.{Catalog, Delta}
 use Rattle.mesa_store_spec.specs.Fitting.{LiveFile, delta_live, live_files, view_live}
 use Rattle.mesa_store_spec.specs.Sound.{layout_of}
-use Rattle.mesa_store_spec.specs.mesa_delta.Reading.{tail_place}
+use Rattle.mesa_store_spec.specs.mesa_delta_format.Indexed.{tail_place}
 use Rattle.mesa_catalog_table.specs.declared.recorded.Recorded.{Recorded}
 use Rattle.mesa_catalog_table.specs.declared.table.Loaded.{Loaded}
 

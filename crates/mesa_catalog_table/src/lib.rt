@@ -13,6 +13,7 @@ mod recording;
 mod relation;
 mod table;
 
+pub use mesa_record::{Checkpoint, CheckpointRange, CheckpointSingle, CheckpointTable, Files, Part, RecastBase, Recasting, Record, ViewRef};
 pub use copying::share_table;
 pub use counting::{
     counts_files, counts_totals, counts_views, epochs_of, first_widths, keep_bound, keeps_bound,

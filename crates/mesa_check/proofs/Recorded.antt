@@ -8,8 +8,8 @@ use Rattle.mesa_schema.specs.Changes.{Lineage, columns_at, columns_of, epoch_of,
 use Rattle.mesa_pick_files.specs.mesa_columns.Schema.{is_schema}
 use Rattle.mesa_batch.specs.Totals.{abs_totals}
 use Rattle.mesa_check_file.specs.mesa_block.Layout.{Layout}
-use Rattle.mesa_delta.specs.File.{IsFile, file_bytes}
-use Rattle.mesa_delta.specs.Spread.{blocks_of}
+use Rattle.mesa_check_file.specs.mesa_delta_format.File.{IsFile, file_bytes}
+use Rattle.mesa_check_file.specs.mesa_delta_format.Spread.{blocks_of}
 use Rattle.mesa_record.specs.declared.record.Files.{Files}
 use Rattle.mesa_record.specs.declared.record.ViewRef.{ViewRef}
 use Rattle.mesa_pick_files.specs.mesa_columns.declared.views.View.{View}

@@ -18,7 +18,7 @@ use Rattle.mesa_pick_files.proofs.mesa_fold.RisingRows.{folded_rise}
 use Rattle.mesa_batch.specs.Totals.{AreAtMost, abs_totals, sum_places}
 use Rattle.mesa_disk.specs.Image.{Image}
 use Rattle.mesa_check_file.specs.mesa_block.Rows.{IsRow}
-use Rattle.mesa_delta.specs.Summary.{file_layout}
+use Rattle.mesa_check_file.specs.mesa_delta_format.Summary.{file_layout}
 use Rattle.mesa_record.specs.declared.record.Files.{Files}
 use Rattle.mesa_record.specs.declared.record.ViewRef.{ViewRef}
 use Rattle.mesa_check_file.specs.Difference.{first_difference}

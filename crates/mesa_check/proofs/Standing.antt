@@ -21,7 +21,7 @@ use Rattle.mesa_pick_files.proofs.mesa_fold.RisingRows.{folded_rise}
 use Rattle.mesa_batch.specs.Bound.{KeepsBound}
 use Rattle.mesa_batch.proofs.Merged.{folds_totals}
 use Rattle.mesa_disk.specs.Image.{Image}
-use Rattle.mesa_delta.specs.Summary.{file_layout}
+use Rattle.mesa_check_file.specs.mesa_delta_format.Summary.{file_layout}
 use Rattle.mesa_record.specs.declared.record.Files.{Files}
 use Rattle.mesa_check_file.specs.Difference.{first_difference}
 use Rattle.mesa_check_file.proofs.Differences.{same_where_none}

@@ -16,16 +16,16 @@ use Rattle.mesa_block.specs.Layout.{Layout}
 use Rattle.mesa_block.specs.Rows.{IsRow}
 use Rattle.mesa_open_files.specs.mesa_file.declared.file_ref.FileRef.{FileRef}
 use Rattle.mesa_disk.specs.Image.{Image, file_of}
-use Rattle.mesa_delta.specs.File.{IsFile, file_bytes, file_tail}
-use Rattle.mesa_delta.specs.Indexed.{Indexed, IsIndex, IsIndexOf, tail_length}
-use Rattle.mesa_delta.specs.Places.{places, tail_spelled}
+use Rattle.mesa_open_files.specs.mesa_delta_format.File.{IsFile, file_bytes, file_tail}
+use Rattle.mesa_open_files.specs.mesa_delta_format.Indexed.{Indexed, IsIndex, IsIndexOf, tail_length}
+use Rattle.mesa_open_files.specs.mesa_delta_format.Places.{places, tail_spelled}
 use Rattle.mesa_delta.specs.Reading.{IsIndexed, IsOver, IsWhole, index_of}
-use Rattle.mesa_delta.specs.Spread.{blocks_of}
-use Rattle.mesa_delta.specs.Summary.{IsReferenceOf}
+use Rattle.mesa_open_files.specs.mesa_delta_format.Spread.{blocks_of}
+use Rattle.mesa_open_files.specs.mesa_delta_format.Summary.{IsReferenceOf}
 use Rattle.mesa_delta.specs.declared.input.Input.{Input}
-use Rattle.mesa_delta.proofs.Packing.{FitsAlone}
-use Rattle.mesa_delta.proofs.Placed.{IsTailOf, places_long, tail_is, tail_of_file}
-use Rattle.mesa_delta.proofs.Tailing.{tail_long}
+use Rattle.mesa_delta.proofs.mesa_delta_format.Packing.{FitsAlone}
+use Rattle.mesa_delta.proofs.mesa_delta_format.Placed.{IsTailOf, places_long, tail_is, tail_of_file}
+use Rattle.mesa_delta.proofs.mesa_delta_format.Tailing.{tail_long}
 use Rattle.mesa_scan.specs.Cursors.{IsAllOf, IsSameInput, lift_by, reader_in}
 use Rattle.mesa_scan.proofs.Lifted.{lifts_all}
 use Rattle.mesa_open_files.specs.Opening.{HasBytes, IsOpened, wanted_columns, wanted_layout}

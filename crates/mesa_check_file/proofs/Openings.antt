@@ -7,7 +7,7 @@ use Rattle.mesa_schema.specs.Changes.{columns_of, epoch_of, lifted}
 use Rattle.mesa_open_files.specs.mesa_columns.Columns.{Columns}
 use Rattle.mesa_disk.specs.Image.{Image}
 use Rattle.mesa_open_files.specs.mesa_file.declared.damage.Damage.{Damage}
-use Rattle.mesa_delta.specs.File.{IsFile, file_bytes}
+use Rattle.mesa_open_files.specs.mesa_delta_format.File.{IsFile, file_bytes}
 use Rattle.mesa_delta.specs.Reading.{index_of}
 use Rattle.mesa_delta.specs.declared.input.Input.{Input}
 use Rattle.mesa_scan.specs.Cursors.{IsInput, lift_by, reader_in}

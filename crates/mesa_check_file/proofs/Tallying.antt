@@ -9,9 +9,9 @@ use Rattle.mesa_open_files.specs.mesa_columns.Columns.{Columns, aggs_of}
 use Rattle.mesa_open_files.specs.mesa_columns.Lifting.{lifted_with}
 use Rattle.mesa_open_files.specs.mesa_batch.Totals.{abs_total}
 use Rattle.mesa_value.specs.declared.Agg.{Agg}
-use Rattle.mesa_delta.specs.Summary.{all_noted}
-use Rattle.mesa_delta.specs.Totals.{added}
-use Rattle.mesa_delta.proofs.Adding.{agg_of, aggregates_more, last_key-push}
+use Rattle.mesa_open_files.specs.mesa_delta_format.Summary.{all_noted}
+use Rattle.mesa_open_files.specs.mesa_delta_format.Totals.{added}
+use Rattle.mesa_delta.proofs.mesa_delta_format.Adding.{agg_of, aggregates_more, last_key-push}
 use Rattle.mesa_check_file.specs.Sums.{AreTotals, most}
 use Rattle.mesa_check_file.specs.Tallies.{AreEnds}
 use Rattle.mesa_check_file.specs.declared.tally.Ends.{Ends}

@@ -5,8 +5,8 @@ use Rattle.mesa_schema.specs.Changes.{columns_of, epoch_of, lifted}
 use Rattle.mesa_open_files.specs.mesa_columns.Columns.{Columns}
 use Rattle.mesa_open_files.specs.mesa_columns.Rows.{keys_rise}
 use Rattle.mesa_disk.specs.Image.{Image, file_of}
-use Rattle.mesa_delta.specs.File.{IsFile, file_bytes}
-use Rattle.mesa_delta.specs.Summary.{IsReferenceOf}
+use Rattle.mesa_open_files.specs.mesa_delta_format.File.{IsFile, file_bytes}
+use Rattle.mesa_open_files.specs.mesa_delta_format.Summary.{IsReferenceOf}
 use Rattle.mesa_delta.specs.declared.error.FileError.{FileError}
 use Rattle.mesa_delta.specs.declared.error.FileError.TheVariants as file_error
 use Rattle.mesa_open_files.specs.Opening.{wanted_layout}

@@ -7,8 +7,8 @@ use Rattle.mesa_open_files.specs.mesa_columns.declared.lifting.Lift.{Lift}
 use Rattle.mesa_open_files.specs.mesa_batch.Totals.{abs_totals}
 use Rattle.mesa_open_files.specs.mesa_file.declared.file_ref.FileRef.{FileRef}
 use Rattle.mesa_disk.specs.Image.{Image, file_of}
-use Rattle.mesa_delta.specs.File.{IsFile, file_bytes}
-use Rattle.mesa_delta.specs.Summary.{IsReferenceOf}
+use Rattle.mesa_open_files.specs.mesa_delta_format.File.{IsFile, file_bytes}
+use Rattle.mesa_open_files.specs.mesa_delta_format.Summary.{IsReferenceOf}
 use Rattle.mesa_open_files.specs.Opening.{wanted_layout}
 use Rattle.mesa_open_files.specs.declared.opening.Wanted.{Wanted}
 use Rattle.mesa_check_file.specs.Sums.{AreSumsOf, counted}

@@ -5,8 +5,8 @@ use Rattle.mesa_open_files.specs.mesa_columns.Columns.{Columns, aggs_of}
 use Rattle.mesa_open_files.specs.mesa_columns.Lifting.{lifted_with}
 use Rattle.mesa_open_files.specs.mesa_columns.declared.lifting.Lift.{Lift}
 use Rattle.mesa_open_files.specs.mesa_file.declared.file_ref.FileRef.{FileRef}
-use Rattle.mesa_delta.specs.Tail.{first_key}
-use Rattle.mesa_delta.specs.Summary.{aggregates as aggregates_of, last_key}
+use Rattle.mesa_open_files.specs.mesa_delta_format.Tail.{first_key}
+use Rattle.mesa_open_files.specs.mesa_delta_format.Summary.{aggregates as aggregates_of, last_key}
 use Rattle.mesa_check_file.specs.Sums.{AreTotals}
 use Rattle.mesa_check_file.specs.declared.tally.Ends.{Ends}
 use Rattle.mesa_check_file.specs.declared.tally.Tally.{Tally}

@@ -2,7 +2,7 @@
 ghost use Rattle.std.specs.Prelude.{◌≡◌, ◌↔◌, ◌+ℤ◌, ℤ, FitsSigned, IfSome, IsTrue, int_lt};
 ghost use Rattle.std.specs.Int.{int_max, int_min, w128};
 ghost use Rattle.mesa_value.specs.Agg.{combined};
-ghost use Rattle.mesa_delta.specs.Summary.{noted};
+ghost use Rattle.mesa_open_files.specs.mesa_delta_format.Summary.{noted};
 ghost use Rattle.mesa_check_file.specs.Aggregates.{carried};
 
 use mesa_value::{Agg, Amount};

@@ -3,8 +3,8 @@ ghost use Rattle.std.specs.Prelude.{◌≡◌, ◌<◌, [], ◌∷◌, ◌++◌,
 ghost use Rattle.mesa_open_files.specs.mesa_columns.declared.rows.Row.{Row as AnyRow};
 ghost use Rattle.mesa_open_files.specs.mesa_columns.declared.lifting.Lift.{Lift as AnyLift};
 ghost use Rattle.mesa_open_files.specs.mesa_columns.Columns.{Columns};
-ghost use Rattle.mesa_delta.specs.Summary.{all_noted};
-ghost use Rattle.mesa_delta.specs.Totals.{added};
+ghost use Rattle.mesa_open_files.specs.mesa_delta_format.Summary.{all_noted};
+ghost use Rattle.mesa_open_files.specs.mesa_delta_format.Totals.{added};
 ghost use Rattle.mesa_check_file.specs.Tallies.{AreEnds, Tallies};
 
 use crate::aggregate::Aggregate;

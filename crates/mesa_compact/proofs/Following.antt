@@ -17,7 +17,7 @@ use Rattle.mesa_batch.specs.Totals.{abs_total, sum_bound}
 use Rattle.mesa_batch.specs.Bound.{FoldsTotals, KeepsBound}
 use Rattle.mesa_open_files.specs.mesa_block.Rows.{IsRow, Rise}
 use Rattle.mesa_open_files.specs.mesa_block.Spelling.{key_of}
-use Rattle.mesa_delta.specs.Summary.{aggregates, new_layout, AllCombine}
+use Rattle.mesa_open_files.specs.mesa_delta_format.Summary.{aggregates, new_layout, AllCombine}
 use Rattle.mesa_open_files.proofs.RowSums.{abs_at, aggregates_abs, combine_from, total_next}
 use Rattle.mesa_merge.proofs.Bounds.{abs_fronts, full_all}
 use Rattle.mesa_merge.proofs.Combining.{aggs_count}

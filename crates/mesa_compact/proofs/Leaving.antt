@@ -4,7 +4,7 @@ use Rattle.std.specs.Prelude.{◌↔◌}
 use Rattle.std.proofs.lemmas.List.{take-append-drop}
 use Rattle.mesa_open_files.specs.mesa_columns.declared.rows.Row.{Row}
 use Rattle.mesa_open_files.specs.mesa_columns.Columns.{Columns, aggs_of}
-use Rattle.mesa_delta.specs.Summary.{AllCombine, aggregates}
+use Rattle.mesa_open_files.specs.mesa_delta_format.Summary.{AllCombine, aggregates}
 use Rattle.mesa_answer.proofs.Passing.{one_more_row}
 use Rattle.mesa_compact.specs.Damaged.{LeavesAmong, TotalLeaves}
 

@@ -7,7 +7,7 @@ use Rattle.mesa_schema.specs.Changes.{Lineage, columns_of}
 use Rattle.mesa_open_files.specs.mesa_columns.Columns.{Columns, aggs_of}
 use Rattle.mesa_open_files.specs.mesa_fold.Folded.{folded}
 use Rattle.mesa_schema.specs.Views.{view_columns, view_rows}
-use Rattle.mesa_delta.specs.Summary.{AllCombine, aggregates}
+use Rattle.mesa_open_files.specs.mesa_delta_format.Summary.{AllCombine, aggregates}
 use Rattle.mesa_delta.specs.declared.input.Input.{Input}
 use Rattle.mesa_answer.specs.Answering.{KeepsSums}
 use Rattle.mesa_answer.specs.Gathering.{Wanted}

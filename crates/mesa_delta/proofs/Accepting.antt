@@ -5,31 +5,31 @@ use Rattle.std.specs.List.{AllByRecursion}
 use Rattle.std.specs.Ordering.{is_le}
 use Rattle.std.proofs.lemmas.List.{length-drop, take_all}
 use Rattle.sha2.specs.Sha256.{sha256}
-use Rattle.mesa_disk.specs.mesa_file.declared.damage.Damage.{Damage}
-use Rattle.mesa_disk.specs.mesa_file.declared.file_ref.FileRef.{FileRef}
-use Rattle.mesa_block.specs.mesa_key.Order.{byte_cmp, short_key}
-use Rattle.mesa_block.specs.mesa_columns.declared.rows.Row.{Row}
-use Rattle.mesa_block.specs.Layout.{Layout}
-use Rattle.mesa_block.specs.mesa_columns.Schema.{is_schema}
-use Rattle.mesa_schema.specs.mesa_fold.Folded.{rows_of}
-use Rattle.mesa_block.specs.Rows.{AreRows, Rise}
-use Rattle.mesa_block.specs.Spelling.{block, key_of}
-use Rattle.mesa_delta.specs.declared.place.Entry.{Entry}
+use Rattle.mesa_delta_format.specs.mesa_file.declared.damage.Damage.{Damage}
+use Rattle.mesa_delta_format.specs.mesa_file.declared.file_ref.FileRef.{FileRef}
+use Rattle.mesa_delta_format.specs.mesa_key.Order.{byte_cmp, short_key}
+use Rattle.mesa_delta_format.specs.mesa_columns.declared.rows.Row.{Row}
+use Rattle.mesa_delta_format.specs.mesa_block.Layout.{Layout}
+use Rattle.mesa_delta_format.specs.mesa_columns.Schema.{is_schema}
+use Rattle.mesa_delta_format.specs.mesa_fold.Folded.{rows_of}
+use Rattle.mesa_delta_format.specs.mesa_block.Rows.{AreRows, Rise}
+use Rattle.mesa_delta_format.specs.mesa_block.Spelling.{block, key_of}
+use Rattle.mesa_delta_format.specs.declared.place.Entry.{Entry}
 use Rattle.mesa_delta.specs.declared.reader.DeltaReader.{DeltaReader}
 use Rattle.mesa_delta.specs.Ahead.{IsOfFile, Untested}
-use Rattle.mesa_delta.specs.Beginning.{BeginsBefore, IsSome, first_short}
-use Rattle.mesa_delta.specs.File.{IsFile, file_tail}
-use Rattle.mesa_delta.specs.Indexed.{Indexed, IsIndex, tail_length}
-use Rattle.mesa_delta.specs.Places.{entry_of, place_of, places, shorts_of}
-use Rattle.mesa_delta.specs.Reading.{HasRead, IsBlock, IsBlockDamage, IsIndexed, IsTailDamage, tail_place, piece_of}
-use Rattle.mesa_delta.specs.Seeking.{seek_in}
-use Rattle.mesa_delta.specs.Spread.{blocks_of}
-use Rattle.mesa_delta.specs.Summary.{IsReferenceOf}
-use Rattle.mesa_delta.specs.Tail.{first_key}
+use Rattle.mesa_delta_format.specs.Beginning.{BeginsBefore, IsSome, first_short}
+use Rattle.mesa_delta_format.specs.File.{IsFile, file_tail}
+use Rattle.mesa_delta_format.specs.Indexed.{Indexed, IsIndex, tail_length, tail_place}
+use Rattle.mesa_delta_format.specs.Places.{entry_of, place_of, places, shorts_of}
+use Rattle.mesa_delta.specs.Reading.{HasRead, IsBlock, IsBlockDamage, IsIndexed, IsTailDamage, piece_of}
+use Rattle.mesa_delta_format.specs.Seeking.{seek_in}
+use Rattle.mesa_delta_format.specs.Spread.{blocks_of}
+use Rattle.mesa_delta_format.specs.Summary.{IsReferenceOf}
+use Rattle.mesa_delta_format.specs.Tail.{first_key}
 use Rattle.mesa_delta.proofs.Indexing.{is_same, is_at}
-use Rattle.mesa_delta.proofs.Packing.{FitsAlone, blocks_rows}
-use Rattle.mesa_delta.proofs.Placed.{laid, tail_is, tail_of_file}
-use Rattle.mesa_delta.proofs.Steps.{Reads, blocks_once}
+use Rattle.mesa_delta_format.proofs.Packing.{FitsAlone, blocks_rows}
+use Rattle.mesa_delta_format.proofs.Placed.{laid, tail_is, tail_of_file}
+use Rattle.mesa_delta_format.proofs.BlocksOnce.{Reads, blocks_once}
 
 pub tail_accepts : FitsAlone → (content : Option (List ℕ)) (size : ℕ) (s : Layout) (file : FileRef) (d : Damage) (b : List ℕ) (rows : List Row) → IsTrue (is_schema s.columns) → file.len < 2 ^ 64 → content ≡ Some b → length b ≡ size → IsFile s rows b → IsReferenceOf s file.id rows file
     → IsTailDamage content size s file d → ⊥

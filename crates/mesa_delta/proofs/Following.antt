@@ -2,20 +2,21 @@
 use Rattle.std.specs.Prelude.{IfErr, IfOk, Result, Ok, Err, Vec}
 use Rattle.std.specs.declared.alloc.Global.{Global}
 use Rattle.std.proofs.Common.{◌≡◌, ◌⊎◌, inl, inr, ℕ, ◌<◌, List, [], ◌∷◌, ◌++◌, length, take, refl, sym, ap, subst, ◌∙◌, arith, Option, Some}
-use Rattle.mesa_disk.specs.mesa_file.declared.damage.Damage.{Damage}
-use Rattle.mesa_disk.specs.mesa_file.declared.damage.Seen.TheVariants as seen
-use Rattle.mesa_block.specs.mesa_columns.declared.rows.Row.{Row}
-use Rattle.mesa_block.specs.Spelling.{block}
-use Rattle.mesa_delta.specs.declared.place.Entry.{Entry}
+use Rattle.mesa_delta_format.specs.mesa_file.declared.damage.Damage.{Damage}
+use Rattle.mesa_delta_format.specs.mesa_file.declared.damage.Seen.TheVariants as seen
+use Rattle.mesa_delta_format.specs.mesa_columns.declared.rows.Row.{Row}
+use Rattle.mesa_delta_format.specs.mesa_block.Spelling.{block}
+use Rattle.mesa_delta_format.specs.declared.place.Entry.{Entry}
 use Rattle.mesa_delta.specs.declared.reader.DeltaReader.{DeltaReader}
 use Rattle.mesa_delta.specs.declared.run.Run.{Run}
 use Rattle.mesa_delta.specs.Damages.{IsWrongLength, IsPieceDamage}
-use Rattle.mesa_delta.specs.Indexed.{Indexed, IsIndex}
-use Rattle.mesa_delta.specs.Places.{places, entry_of}
+use Rattle.mesa_delta_format.specs.Indexed.{Indexed, IsIndex}
+use Rattle.mesa_delta_format.specs.Places.{places, entry_of}
 use Rattle.mesa_delta.specs.Reading.{HasRead, IsBlock, IsBlockDamage, IsNeverNext, IsNoBlock, IsRun, piece_of}
-use Rattle.mesa_delta.proofs.Packing.{FitsAlone}
-use Rattle.mesa_delta.proofs.Placed.{laid}
-use Rattle.mesa_delta.proofs.Steps.{Reads, not_next, one_read}
+use Rattle.mesa_delta_format.proofs.Packing.{FitsAlone}
+use Rattle.mesa_delta_format.proofs.Placed.{laid}
+use Rattle.mesa_delta_format.proofs.BlocksOnce.{Reads}
+use Rattle.mesa_delta.proofs.Steps.{not_next, one_read}
 
 -- damage of a block by itself is damage of it behind others
 pub weaker : (told : Option (List ℕ)) (size : ℕ) (x : Indexed) (i : ℕ) (parts : List (List Row)) (d : Damage)

@@ -7,25 +7,26 @@ use Rattle.std.specs.declared.cmp.Ordering.TheVariants.{Less, Equal, Greater}
 use Rattle.std.proofs.lemmas.Bool.{leb-true, leb-false, ltb-true, ltb-false, eqb-true, false≢true}
 use Rattle.std.proofs.lemmas.List.{append-nil, length-append}
 use Rattle.std.proofs.lemmas.Grind.{flat_map-append}
-use Rattle.mesa_block.specs.mesa_key.Order.{byte_cmp}
-use Rattle.mesa_block.specs.mesa_columns.declared.rows.Row.{Row}
-use Rattle.mesa_block.specs.Layout.{Layout, values_size, widths_of}
-use Rattle.mesa_schema.specs.mesa_fold.Folded.{rows_of}
-use Rattle.mesa_block.specs.Fill.{fit, is_full}
-use Rattle.mesa_block.specs.Reading.{is_less}
-use Rattle.mesa_block.specs.Rows.{AreRows, IsRow, Rise, most_rows, most_bytes}
-use Rattle.mesa_block.specs.Spelling.{block, key_of}
+use Rattle.mesa_delta_format.specs.mesa_key.Order.{byte_cmp}
+use Rattle.mesa_delta_format.specs.mesa_columns.declared.rows.Row.{Row}
+use Rattle.mesa_delta_format.specs.mesa_block.Layout.{Layout, values_size, widths_of}
+use Rattle.mesa_delta_format.specs.mesa_fold.Folded.{rows_of}
+use Rattle.mesa_delta_format.specs.mesa_block.Fill.{fit, is_full}
+use Rattle.mesa_delta_format.specs.mesa_block.Reading.{is_less}
+use Rattle.mesa_delta_format.specs.mesa_block.Rows.{AreRows, IsRow, Rise, most_rows, most_bytes}
+use Rattle.mesa_delta_format.specs.mesa_block.Spelling.{block, key_of}
 use Rattle.mesa_delta.specs.declared.run.Run.{Run}
-use Rattle.mesa_delta.specs.declared.place.Entry.{Entry}
-use Rattle.mesa_delta.specs.Indexed.{Indexed, IsIndex}
-use Rattle.mesa_delta.specs.Packing.{Packed, last_part, goes_on}
-use Rattle.mesa_delta.specs.Places.{entry_of}
+use Rattle.mesa_delta_format.specs.declared.place.Entry.{Entry}
+use Rattle.mesa_delta_format.specs.Indexed.{Indexed, IsIndex}
+use Rattle.mesa_delta_format.specs.Packing.{Packed, last_part}
+use Rattle.mesa_delta.specs.NextBlock.{goes_on}
+use Rattle.mesa_delta_format.specs.Places.{entry_of}
 use Rattle.mesa_delta.specs.Reading.{IsBlock, IsNeverNext, IsRun}
-use Rattle.mesa_delta.specs.Spread.{blocks_of}
-use Rattle.mesa_delta.specs.Summary.{last_key}
+use Rattle.mesa_delta_format.specs.Spread.{blocks_of}
+use Rattle.mesa_delta_format.specs.Summary.{last_key}
 use Rattle.mesa_delta.proofs.Indexing.{is_same}
-use Rattle.mesa_delta.proofs.Packing.{FitsAlone, Grows, fits, fit_true, blocks_packed, blocks_rows}
-use Rattle.mesa_delta.proofs.Spreading.{each_more}
+use Rattle.mesa_delta_format.proofs.Packing.{FitsAlone, Grows, fits, fit_true, blocks_packed, blocks_rows}
+use Rattle.mesa_delta_format.proofs.Spreading.{each_more}
 
 full_at : (a b : Bool) → (a ≡ false → b ≡ false → ⊥) → a || b ≡ true
 full_at true b off = refl

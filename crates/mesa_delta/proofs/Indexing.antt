@@ -4,18 +4,18 @@ use Rattle.std.specs.Int.{w64, to_be_bytes, from_be_bytes}
 use Rattle.std.specs.List.{AllByRecursion}
 use Rattle.std.proofs.lemmas.List.{take_at, drop_at, drop-drop}
 use Rattle.std.proofs.lemmas.Nat.{from_be_bytes-to_be_bytes_8}
-use Rattle.mesa_block.specs.mesa_columns.declared.rows.Row.{Row}
-use Rattle.mesa_block.specs.Layout.{Layout}
-use Rattle.mesa_block.specs.Rows.{AreRows}
-use Rattle.mesa_block.specs.Spelling.{block}
-use Rattle.mesa_delta.specs.declared.place.Entry.{Entry}
-use Rattle.mesa_delta.specs.Indexed.{Indexed, IsIndex, tail_length}
-use Rattle.mesa_delta.specs.Places.{place_of, places, entry_of, short_of, tail_spelled}
+use Rattle.mesa_delta_format.specs.mesa_columns.declared.rows.Row.{Row}
+use Rattle.mesa_delta_format.specs.mesa_block.Layout.{Layout}
+use Rattle.mesa_delta_format.specs.mesa_block.Rows.{AreRows}
+use Rattle.mesa_delta_format.specs.mesa_block.Spelling.{block}
+use Rattle.mesa_delta_format.specs.declared.place.Entry.{Entry}
+use Rattle.mesa_delta_format.specs.Indexed.{Indexed, IsIndex, tail_length}
+use Rattle.mesa_delta_format.specs.Places.{place_of, places, entry_of, short_of, tail_spelled}
 use Rattle.mesa_delta.specs.Reading.{IsIndexed, IsNoneIn, IsNoBlock, piece_of}
-use Rattle.mesa_delta.specs.Spread.{blocks_of}
-use Rattle.mesa_delta.proofs.Packing.{FitsAlone}
-use Rattle.mesa_delta.proofs.Placed.{IsTailOf, tail_of_file, places_long, laid, laid_long}
-use Rattle.mesa_delta.proofs.Tailing.{tails_once, foot_rows}
+use Rattle.mesa_delta_format.specs.Spread.{blocks_of}
+use Rattle.mesa_delta_format.proofs.Packing.{FitsAlone}
+use Rattle.mesa_delta_format.proofs.Placed.{IsTailOf, tail_of_file, places_long, laid, laid_long}
+use Rattle.mesa_delta_format.proofs.Tailing.{tails_once, foot_rows}
 
 -- An index has the entries and the rows of the file's blocks.
 pub record IsSame (x : Indexed) (written : List Row) (bytes : List ℕ) : Type 0 where

@@ -1,23 +1,13 @@
-pub use Rattle.mesa_block.proofs as mesa_block
-pub mod Adding
-pub mod Spreading
+pub use Rattle.mesa_delta_format.proofs.mesa_block as mesa_block
+pub use Rattle.mesa_delta_format.proofs as mesa_delta_format
 pub mod Putting
 pub mod Placing
 pub mod Taking
-pub mod Searching
 pub mod Vectors
-pub mod Shorts
-pub mod Beginning
-pub mod Entering
-pub mod Tailing
-pub mod Packing
-pub mod Placed
 pub mod Over
 pub mod Indexing
 pub mod Going
 pub mod Steps
 pub mod Accepting
 pub mod Following
-pub mod Bounding
-pub mod Once
 pub mod Waiting

@@ -2,16 +2,16 @@
 use Rattle.std.proofs.Common.{◌≡◌, ℕ, ◌+◌, ◌-◌, ◌^◌, ◌<◌, List, length, take, drop, sym, ap, ◌∙◌, arith}
 use Rattle.std.specs.Prelude.{IsTrue}
 use Rattle.std.proofs.lemmas.List.{length-drop, take_all}
-use Rattle.mesa_disk.specs.mesa_file.declared.file_ref.FileRef.{FileRef}
-use Rattle.mesa_block.specs.Layout.{Layout}
-use Rattle.mesa_block.specs.mesa_columns.Schema.{is_schema}
-use Rattle.mesa_delta.specs.declared.place.Entry.{Entry}
-use Rattle.mesa_delta.specs.Indexed.{Indexed, IsIndexOf, tail_length}
-use Rattle.mesa_delta.specs.Places.{IsTail, places, tail_spelled}
-use Rattle.mesa_delta.specs.Reading.{IsOver, IsNoTail, tail_place}
-use Rattle.mesa_delta.specs.Spread.{blocks_of}
-use Rattle.mesa_delta.proofs.Packing.{FitsAlone}
-use Rattle.mesa_delta.proofs.Placed.{tail_of_file, places_long, laid}
+use Rattle.mesa_delta_format.specs.mesa_file.declared.file_ref.FileRef.{FileRef}
+use Rattle.mesa_delta_format.specs.mesa_block.Layout.{Layout}
+use Rattle.mesa_delta_format.specs.mesa_columns.Schema.{is_schema}
+use Rattle.mesa_delta_format.specs.declared.place.Entry.{Entry}
+use Rattle.mesa_delta_format.specs.Indexed.{Indexed, IsIndexOf, tail_length, tail_place}
+use Rattle.mesa_delta_format.specs.Places.{IsTail, places, tail_spelled}
+use Rattle.mesa_delta.specs.Reading.{IsOver, IsNoTail}
+use Rattle.mesa_delta_format.specs.Spread.{blocks_of}
+use Rattle.mesa_delta_format.proofs.Packing.{FitsAlone}
+use Rattle.mesa_delta_format.proofs.Placed.{tail_of_file, places_long, laid}
 
 pub over_is : (file : FileRef) (s : Layout) (piece b : List ℕ) (x : Indexed) (place : ℕ) → IsIndexOf file s piece x → length b ≡ file.len → place ≡ file.len - tail_length s.columns file.blocks → piece ≡ take (file.len - place) (drop place b) → IsOver x b
 over_is file s piece b x place h len at is =

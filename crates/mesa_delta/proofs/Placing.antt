@@ -4,23 +4,17 @@ use Rattle.std.specs.Prelude.{flat_map, option_map}
 use Rattle.std.proofs.lemmas.List.{append-nil, length-append}
 use Rattle.std.proofs.lemmas.List.Concat.{flat_map-cons}
 use Rattle.std.proofs.lemmas.Grind.{flat_map-append}
-use Rattle.mesa_block.specs.mesa_key.Order.{short_key}
-use Rattle.mesa_block.specs.mesa_columns.declared.rows.Row.{Row}
-use Rattle.mesa_block.specs.Layout.{Layout}
-use Rattle.mesa_block.specs.Fill.{Built, after, fit}
-use Rattle.mesa_block.specs.Spelling.{block}
+use Rattle.mesa_delta_format.specs.mesa_key.Order.{short_key}
+use Rattle.mesa_delta_format.specs.mesa_columns.declared.rows.Row.{Row}
+use Rattle.mesa_delta_format.specs.mesa_block.Layout.{Layout}
+use Rattle.mesa_delta_format.specs.mesa_block.Fill.{Built, after, fit}
+use Rattle.mesa_delta_format.specs.mesa_block.Spelling.{block}
 use Rattle.mesa_delta.specs.Begun.{begun}
 use Rattle.mesa_delta.specs.Laying.{Lays}
 use Rattle.mesa_delta.specs.Pending.{entries_of}
-use Rattle.mesa_delta.specs.Spread.{Filling, with_more, placed}
-use Rattle.mesa_delta.specs.Tail.{entry, entries, first_key}
+use Rattle.mesa_delta_format.specs.Spread.{Filling, with_more, placed}
+use Rattle.mesa_delta_format.specs.Tail.{entry, entries, first_key}
 use Rattle.mesa_delta.specs.declared.blocks.BlockWriter.{BlockWriter}
-
-pub in_row : (a b c d e : List ℕ) → (((a ++ b) ++ c) ++ d) ++ e ≡ a ++ (b ++ (c ++ (d ++ e)))
-in_row a b c d e = append_assoc ((a ++ b) ++ c) d e ∙ append_assoc (a ++ b) c (d ++ e) ∙ append_assoc a b (c ++ (d ++ e))
-
-pub in_foot : (a b c d e f g h : List ℕ) → ((((((a ++ b) ++ c) ++ d) ++ e) ++ f) ++ g) ++ h ≡ a ++ (b ++ (c ++ (d ++ (e ++ (f ++ (g ++ h))))))
-in_foot a b c d e f g h = append_assoc (((((a ++ b) ++ c) ++ d) ++ e) ++ f) g h ∙ append_assoc ((((a ++ b) ++ c) ++ d) ++ e) f (g ++ h) ∙ append_assoc (((a ++ b) ++ c) ++ d) e (f ++ (g ++ h)) ∙ in_row a b c d (e ++ (f ++ (g ++ h)))
 
 pub begun_first : (rows : List Row) (row : Row) → begun rows ≡ None → Some (short_key row.key) ≡ begun (rows ++ row ∷ [])
 begun_first [] row e = refl

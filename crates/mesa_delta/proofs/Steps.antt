@@ -1,39 +1,28 @@
 -- Reading block after block.
-use Rattle.std.proofs.Common.{◌≡◌, ℕ, ◌+◌, ◌<◌, List, [], ◌∷◌, ◌++◌, length, take, drop, get_or, refl, sym, ap, subst, ◌∙◌, arith, append_assoc, Option, Some, Ok}
+use Rattle.std.proofs.Common.{◌≡◌, ℕ, ◌+◌, ◌<◌, List, [], ◌∷◌, ◌++◌, length, take, drop, get_or, refl, sym, ap, subst, ◌∙◌, arith, append_assoc, Option, Some}
 use Rattle.std.specs.List.{AllByRecursion}
 use Rattle.std.proofs.lemmas.List.{append-nil, length-append, take_at, take_all, take_more, take-append-drop, drop_at, drop_more}
 use Rattle.std.proofs.lemmas.Grind.{flat_map-append}
-use Rattle.mesa_block.specs.mesa_columns.declared.rows.Row.{Row}
-use Rattle.mesa_block.specs.Layout.{Layout}
-use Rattle.mesa_schema.specs.mesa_fold.Folded.{rows_of}
-use Rattle.mesa_block.specs.Reading.{block_at}
-use Rattle.mesa_block.specs.Rows.{AreRows, IsRow}
-use Rattle.mesa_block.specs.Spelling.{block}
-use Rattle.mesa_delta.specs.declared.place.Entry.{Entry}
+use Rattle.mesa_delta_format.specs.mesa_columns.declared.rows.Row.{Row}
+use Rattle.mesa_delta_format.specs.mesa_block.Layout.{Layout}
+use Rattle.mesa_delta_format.specs.mesa_fold.Folded.{rows_of}
+use Rattle.mesa_delta_format.specs.mesa_block.Rows.{AreRows, IsRow}
+use Rattle.mesa_delta_format.specs.mesa_block.Spelling.{block}
+use Rattle.mesa_delta_format.specs.declared.place.Entry.{Entry}
 use Rattle.mesa_delta.specs.declared.reader.DeltaReader.{DeltaReader}
 use Rattle.mesa_delta.specs.declared.run.Run.{Run}
-use Rattle.mesa_delta.specs.File.{file_tail}
-use Rattle.mesa_delta.specs.Indexed.{Indexed, IsIndex}
-use Rattle.mesa_delta.specs.Places.{place_of, places, entry_of, Follow, tail_spelled}
+use Rattle.mesa_delta_format.specs.File.{file_tail}
+use Rattle.mesa_delta_format.specs.Indexed.{Indexed, IsIndex}
+use Rattle.mesa_delta_format.specs.Places.{place_of, places, entry_of, Follow, tail_spelled}
 use Rattle.mesa_delta.specs.Reading.{HasRead, IsBlock, IsNeverNext, IsNotNext, IsReaderOf, IsRun, IsWhole, piece_of}
-use Rattle.mesa_delta.specs.Spread.{blocks_of}
-use Rattle.mesa_delta.specs.Tail.{tail_of}
-use Rattle.mesa_delta.proofs.Entering.{take_sum}
+use Rattle.mesa_delta_format.specs.Spread.{blocks_of}
+use Rattle.mesa_delta_format.specs.Tail.{tail_of}
+use Rattle.mesa_delta_format.proofs.Entering.{take_sum}
 use Rattle.mesa_delta.proofs.Indexing.{is_same, is_at}
-use Rattle.mesa_delta.proofs.Packing.{FitsAlone, Grows, repacked}
-use Rattle.mesa_delta.proofs.Placed.{laid, laid_long, tail_is}
-use Rattle.mesa_delta.proofs.Tailing.{split_same}
-
--- what the crate below says: a block is read again
-abbrev pub Reads : Type 0
-Reads = (s : Layout) (rows : List Row) → AreRows s rows → block_at s (block s rows) ≡ Ok rows
-
-pub blocks_once : Reads → (s : Layout) (p q : List Row) → AreRows s p → AreRows s q → block s p ≡ block s q → p ≡ q
-blocks_once reads s p q h k e =
-    let a : block_at s (block s p) ≡ Ok p = reads s p h in
-    let b : block_at s (block s q) ≡ Ok q = reads s q k in
-    let c : block_at s (block s p) ≡ block_at s (block s q) = ap (block_at s) e in
-    cc
+use Rattle.mesa_delta_format.proofs.Packing.{FitsAlone, Grows, repacked}
+use Rattle.mesa_delta_format.proofs.Placed.{laid, laid_long, tail_is}
+use Rattle.mesa_delta_format.proofs.Tailing.{split_same}
+use Rattle.mesa_delta_format.proofs.BlocksOnce.{Reads, blocks_once}
 
 pub start_run : (s : Layout) (run : Run) → run.next ≡ 0 → run.rows ≡ 0 → run.last ≡ [] → run.count ≡ 0 → IsRun s run []
 start_run s run next rows last count = record { each = tt; rise = tt; packed = tt; next = next; rows = rows; last = last; count = count; len = λ some. absurd (omega arith) }

@@ -3,29 +3,29 @@ use Rattle.std.proofs.Common.{◌≡◌, ℕ, ◌<◌, List, [], ◌∷◌, ◌+
 use Rattle.std.specs.Prelude.{flat_map}
 use Rattle.sha2.specs.Sha256.{sha256}
 use Rattle.std.specs.List.{AllByRecursion}
-use Rattle.mesa_block.specs.mesa_value.declared.Agg.{Agg}
-use Rattle.mesa_block.specs.mesa_value.Agg.{IsAmount}
-use Rattle.mesa_block.specs.mesa_key.declared.Format.TheVariants as format
-use Rattle.mesa_block.specs.mesa_columns.declared.rows.Row.{Row}
-use Rattle.mesa_block.specs.mesa_columns.Columns.{aggs_of}
-use Rattle.mesa_block.specs.Fill.{Built}
-use Rattle.mesa_block.specs.Rows.{IsRow, Rise}
-use Rattle.mesa_block.specs.Spelling.{block, key_of}
-use Rattle.mesa_disk.specs.mesa_file.declared.file_ref.FileRef.{FileRef}
-use Rattle.mesa_delta.specs.Spread.{Filling, spread, with_more, nothing_filled, blocks_of}
-use Rattle.mesa_delta.specs.Tail.{tail_of}
-use Rattle.mesa_delta.specs.File.{IsFile}
-use Rattle.mesa_delta.specs.Summary.{aggregates, IsReferenceOf}
+use Rattle.mesa_delta_format.specs.mesa_value.declared.Agg.{Agg}
+use Rattle.mesa_delta_format.specs.mesa_value.Agg.{IsAmount}
+use Rattle.mesa_delta_format.specs.mesa_key.declared.Format.TheVariants as format
+use Rattle.mesa_delta_format.specs.mesa_columns.declared.rows.Row.{Row}
+use Rattle.mesa_delta_format.specs.mesa_columns.Columns.{aggs_of}
+use Rattle.mesa_delta_format.specs.mesa_block.Fill.{Built}
+use Rattle.mesa_delta_format.specs.mesa_block.Rows.{IsRow, Rise}
+use Rattle.mesa_delta_format.specs.mesa_block.Spelling.{block, key_of}
+use Rattle.mesa_delta_format.specs.mesa_file.declared.file_ref.FileRef.{FileRef}
+use Rattle.mesa_delta_format.specs.Spread.{Filling, spread, with_more, nothing_filled, blocks_of}
+use Rattle.mesa_delta_format.specs.Tail.{tail_of}
+use Rattle.mesa_delta_format.specs.File.{IsFile}
+use Rattle.mesa_delta_format.specs.Summary.{aggregates, IsReferenceOf}
 use Rattle.mesa_delta.specs.Laying.{Lays, IsSealed}
 use Rattle.mesa_delta.specs.Pending.{entries_of}
-use Rattle.mesa_delta.specs.Tallies.{Tallies}
+use Rattle.mesa_delta_format.specs.Tallies.{Tallies}
 use Rattle.mesa_delta.specs.Writing.{HasTaken, IsNext, layout_of}
 use Rattle.mesa_delta.specs.declared.blocks.BlockWriter.{BlockWriter}
 use Rattle.mesa_delta.specs.declared.blocks.Sealed.{Sealed}
-use Rattle.mesa_delta.specs.declared.tally.Tally.{Tally}
+use Rattle.mesa_delta_format.specs.declared.tally.Tally.{Tally}
 use Rattle.mesa_delta.specs.declared.writer.DeltaWriter.{DeltaWriter}
-use Rattle.mesa_block.proofs.Cells.{wide_cells}
-use Rattle.mesa_delta.proofs.Spreading.{filled_more, open_rise, rise_alike, each_more, spread_some}
+use Rattle.mesa_delta_format.proofs.mesa_block.Cells.{wide_cells}
+use Rattle.mesa_delta_format.proofs.Spreading.{filled_more, open_rise, rise_alike, each_more, spread_some}
 
 no_aggregates : (aggs : List Agg) → [] ≡ aggregates aggs []
 no_aggregates [] = refl

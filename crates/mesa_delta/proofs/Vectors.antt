@@ -2,13 +2,13 @@
 use Rattle.std.proofs.Common.{◌≡◌, ℕ, List, [], ◌∷◌, ◌++◌, refl, length, ◌∙◌, ap}
 use Rattle.std.specs.Prelude.{pos, codes}
 use Rattle.sha2.specs.Sha256.{sha256, first_words, schedule, rounds, compress, hash_after, digest_bytes}
-use Rattle.mesa_block.specs.mesa_value.declared.Agg.TheVariants.{Sum}
-use Rattle.mesa_block.specs.mesa_key.declared.Format.TheVariants as format
-use Rattle.mesa_block.specs.mesa_key.declared.KeyType.TheVariants as kind
-use Rattle.mesa_block.specs.mesa_columns.declared.rows.Row.{Row}
-use Rattle.mesa_block.specs.Layout.{Layout}
-use Rattle.mesa_block.specs.Spelling.{block}
-use Rattle.mesa_delta.specs.File.{file_bytes}
+use Rattle.mesa_delta_format.specs.mesa_value.declared.Agg.TheVariants.{Sum}
+use Rattle.mesa_delta_format.specs.mesa_key.declared.Format.TheVariants as format
+use Rattle.mesa_delta_format.specs.mesa_key.declared.KeyType.TheVariants as kind
+use Rattle.mesa_delta_format.specs.mesa_columns.declared.rows.Row.{Row}
+use Rattle.mesa_delta_format.specs.mesa_block.Layout.{Layout}
+use Rattle.mesa_delta_format.specs.mesa_block.Spelling.{block}
+use Rattle.mesa_delta_format.specs.File.{file_bytes}
 
 abbrev one_schema : Layout
 one_schema = record { format = format.One; columns = record { keys = record { name = codes "k"; kind = kind.Int } ∷ []; values = record { name = codes "v"; agg = Sum } ∷ [] } }

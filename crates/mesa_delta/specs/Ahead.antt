@@ -2,8 +2,8 @@
 use Rattle.std.specs.Prelude.{◌≡◌, ℕ, ◌<◌, List, length, slice_get, IfSome, Option}
 use Rattle.std.specs.List.{AllByRecursion}
 use Rattle.mesa_delta.specs.Damages.{IsPiece}
-use Rattle.mesa_delta.specs.Indexed.{Indexed}
-use Rattle.mesa_delta.specs.Places.{entry_of}
+use Rattle.mesa_delta_format.specs.Indexed.{Indexed}
+use Rattle.mesa_delta_format.specs.Places.{entry_of}
 
 -- What was read ahead: of which file, by its place among those that are read, the bytes of which block.
 pub record Untested : Type 0 where

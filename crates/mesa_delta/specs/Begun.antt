@@ -1,7 +1,7 @@
 -- The short key of an open block.
 use Rattle.std.specs.Prelude.{ℕ, List, [], ◌∷◌, Option, Some, None}
-use Rattle.mesa_block.specs.mesa_key.Order.{short_key}
-use Rattle.mesa_block.specs.mesa_columns.declared.rows.Row.{Row}
+use Rattle.mesa_delta_format.specs.mesa_key.Order.{short_key}
+use Rattle.mesa_delta_format.specs.mesa_columns.declared.rows.Row.{Row}
 
 -- the short key of the first of these rows, once there is one
 abbrev pub begun : List Row → Option (List ℕ)

@@ -1,8 +1,8 @@
 -- What damage is told of a file, and when.
 use Rattle.std.specs.Prelude.{◌≡◌, ◌≢◌, ◌⊎◌, ℕ, List, length, take, drop, Option, Some}
 use Rattle.sha2.specs.Sha256.{sha256}
-use Rattle.mesa_disk.specs.mesa_file.declared.damage.Damage.{Damage}
-use Rattle.mesa_disk.specs.mesa_file.declared.damage.Seen.TheVariants as seen
+use Rattle.mesa_delta_format.specs.mesa_file.declared.damage.Damage.{Damage}
+use Rattle.mesa_delta_format.specs.mesa_file.declared.damage.Seen.TheVariants as seen
 
 -- A piece of a file was read: as many bytes from a place on, the file's where they are told.
 pub record IsPiece (content : Option (List ℕ)) (at count : ℕ) (piece : List ℕ) : Type 0 where

@@ -1,12 +1,12 @@
 -- What a writer of blocks has laid down.
 use Rattle.std.specs.Prelude.{◌≡◌, ℕ, List, ◌++◌, length, flat_map, Option, Some}
-use Rattle.mesa_block.specs.mesa_columns.declared.rows.Row.{Row}
-use Rattle.mesa_block.specs.Layout.{Layout}
-use Rattle.mesa_block.specs.Spelling.{block}
+use Rattle.mesa_delta_format.specs.mesa_columns.declared.rows.Row.{Row}
+use Rattle.mesa_delta_format.specs.mesa_block.Layout.{Layout}
+use Rattle.mesa_delta_format.specs.mesa_block.Spelling.{block}
 use Rattle.sha2.specs.Sha256.{sha256}
-use Rattle.mesa_delta.specs.Tail.{entries, tail_of}
+use Rattle.mesa_delta_format.specs.Tail.{entries, tail_of}
 use Rattle.mesa_delta.specs.declared.blocks.Sealed.{Sealed}
-use Rattle.mesa_delta.specs.Spread.{Filling}
+use Rattle.mesa_delta_format.specs.Spread.{Filling}
 use Rattle.mesa_delta.specs.Begun.{begun}
 use Rattle.mesa_delta.specs.Pending.{entries_of}
 use Rattle.mesa_delta.specs.declared.blocks.BlockWriter.{BlockWriter}

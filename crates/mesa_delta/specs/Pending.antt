@@ -1,6 +1,6 @@
 -- Blocks whose entries are still to come.
 use Rattle.std.specs.Prelude.{ℕ, List, flat_map}
-use Rattle.mesa_delta.specs.Tail.{entry}
+use Rattle.mesa_delta_format.specs.Tail.{entry}
 
 -- What is known of a block that was appended, for its entry: the short key of its first key, its offset, its bytes.
 pub record Appended : Type 0 where

@@ -2,22 +2,22 @@
 use Rattle.std.specs.Prelude.{◌≡◌, ◌≢◌, ◌⊎◌, ℕ, ◌-◌, ◌<◌, List, ◌∷◌, ◌++◌, length, map, take, drop, flat_map, Option, Some, Vec}
 use Rattle.std.specs.List.{AllByRecursion}
 use Rattle.std.specs.declared.alloc.Global.{Global}
-use Rattle.mesa_block.specs.mesa_key.Order.{short_key}
-use Rattle.mesa_block.specs.mesa_columns.declared.rows.Row.{Row}
-use Rattle.mesa_block.specs.Layout.{Layout}
-use Rattle.mesa_schema.specs.mesa_fold.Folded.{rows_of}
-use Rattle.mesa_block.specs.Rows.{AreRows, Rise}
-use Rattle.mesa_block.specs.Spelling.{block, key_of}
-use Rattle.mesa_disk.specs.mesa_file.declared.damage.Damage.{Damage}
-use Rattle.mesa_disk.specs.mesa_file.declared.file_ref.FileRef.{FileRef}
+use Rattle.mesa_delta_format.specs.mesa_key.Order.{short_key}
+use Rattle.mesa_delta_format.specs.mesa_columns.declared.rows.Row.{Row}
+use Rattle.mesa_delta_format.specs.mesa_block.Layout.{Layout}
+use Rattle.mesa_delta_format.specs.mesa_fold.Folded.{rows_of}
+use Rattle.mesa_delta_format.specs.mesa_block.Rows.{AreRows, Rise}
+use Rattle.mesa_delta_format.specs.mesa_block.Spelling.{block, key_of}
+use Rattle.mesa_delta_format.specs.mesa_file.declared.damage.Damage.{Damage}
+use Rattle.mesa_delta_format.specs.mesa_file.declared.file_ref.FileRef.{FileRef}
 use Rattle.mesa_delta.specs.Damages.{IsPieceDamage, IsWrongLength}
-use Rattle.mesa_delta.specs.File.{IsFile, file_bytes, file_tail}
-use Rattle.mesa_delta.specs.Indexed.{Indexed, tail_length}
-use Rattle.mesa_delta.specs.Packing.{Packed, last_part}
-use Rattle.mesa_delta.specs.Places.{place_of, places, entry_of, tail_spelled}
-use Rattle.mesa_delta.specs.Spread.{blocks_of}
-use Rattle.mesa_delta.specs.Summary.{last_key}
-use Rattle.mesa_delta.specs.Tail.{first_key}
+use Rattle.mesa_delta_format.specs.File.{IsFile, file_bytes, file_tail}
+use Rattle.mesa_delta_format.specs.Indexed.{Indexed, tail_place}
+use Rattle.mesa_delta_format.specs.Packing.{Packed, last_part}
+use Rattle.mesa_delta_format.specs.Places.{place_of, places, entry_of, tail_spelled}
+use Rattle.mesa_delta_format.specs.Spread.{blocks_of}
+use Rattle.mesa_delta_format.specs.Summary.{last_key}
+use Rattle.mesa_delta_format.specs.Tail.{first_key}
 use Rattle.mesa_delta.specs.declared.reader.DeltaReader.{DeltaReader}
 use Rattle.mesa_delta.specs.declared.run.Run.{Run}
 
@@ -43,10 +43,6 @@ pub record IsIndexed (x : Indexed) (rows : List Row) (bytes : List ℕ) : Type 0
   pub over : IsOver x bytes
   pub blocks : length (blocks_of x.layout rows) ≡ length x.entries
   pub last : x.last ≡ short_key (last_key rows)
-
--- where the tail of a file of this reference begins
-abbrev pub tail_place : Layout → FileRef → ℕ
-tail_place s file = file.len - tail_length s.columns file.blocks
 
 -- A piece is the tail of no file of as many bytes and blocks.
 abbrev pub IsNoTail : Layout → FileRef → List ℕ → Type 0

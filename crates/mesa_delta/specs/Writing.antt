@@ -1,16 +1,16 @@
 -- Writing a file row by row.
 use Rattle.std.specs.Prelude.{ℕ, ◌<◌, List, [], ◌∷◌, ◌++◌, length, map, Option}
 use Rattle.std.specs.List.{AllByRecursion}
-use Rattle.mesa_block.specs.mesa_columns.declared.rows.Row.{Row}
-use Rattle.mesa_block.specs.mesa_columns.Columns.{Columns, aggs_of}
-use Rattle.mesa_block.specs.mesa_columns.Rows.{IsRowOf}
-use Rattle.mesa_block.specs.Layout.{Layout}
-use Rattle.mesa_block.specs.Rows.{IsRow, Rise}
-use Rattle.mesa_block.specs.Spelling.{key_of}
-use Rattle.mesa_delta.specs.Spread.{spread}
-use Rattle.mesa_delta.specs.Summary.{AllCombine, aggregates, new_layout}
+use Rattle.mesa_delta_format.specs.mesa_columns.declared.rows.Row.{Row}
+use Rattle.mesa_delta_format.specs.mesa_columns.Columns.{Columns, aggs_of}
+use Rattle.mesa_delta_format.specs.mesa_columns.Rows.{IsRowOf}
+use Rattle.mesa_delta_format.specs.mesa_block.Layout.{Layout}
+use Rattle.mesa_delta_format.specs.mesa_block.Rows.{IsRow, Rise}
+use Rattle.mesa_delta_format.specs.mesa_block.Spelling.{key_of}
+use Rattle.mesa_delta_format.specs.Spread.{spread}
+use Rattle.mesa_delta_format.specs.Summary.{AllCombine, aggregates, new_layout}
 use Rattle.mesa_delta.specs.Laying.{Lays}
-use Rattle.mesa_delta.specs.Tallies.{Tallies}
+use Rattle.mesa_delta_format.specs.Tallies.{Tallies}
 use Rattle.mesa_delta.specs.declared.writer.DeltaWriter.{DeltaWriter}
 
 -- the columns of the rows that a writer takes, the id that its file is to have, and the draft that it writes through

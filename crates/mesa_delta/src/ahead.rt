@@ -2,16 +2,16 @@
 ghost use Rattle.std.specs.Prelude.{◌≡◌, ◌<◌, ◌≤◌, ◌+◌, ◌↔◌, ℕ, [], ◌∷◌, ◌++◌, List, length, drop, get_or, Option, Some, OnOk, OnErr, IfOk, IfSome, IfNone, IsTrue, true, false};
 ghost use Rattle.sha2.specs.Sha256.{sha256};
 ghost use Rattle.mesa_disk.specs.mesa_io.Causes.{HasCause, HasFaultCause};
-ghost use Rattle.mesa_block.specs.mesa_columns.declared.rows.Row.{Row as AnyRow};
+ghost use Rattle.mesa_delta_format.specs.mesa_columns.declared.rows.Row.{Row as AnyRow};
 ghost use Rattle.mesa_delta.specs.declared.error.FileError.TheVariants as file_error;
 ghost use Rattle.mesa_delta.specs.Ahead.{IsOfFile, Untested as AnyUntested};
 ghost use Rattle.mesa_delta.specs.Reading.{IsBlock, IsIndexed, index_of, reader_of};
-ghost use Rattle.mesa_delta.specs.Spread.{blocks_of};
+ghost use Rattle.mesa_delta_format.specs.Spread.{blocks_of};
 
 use crate::digesting::{Message, digest_of, take_digests};
 use crate::reader::{read_block_bytes, tested};
-use crate::{DeltaReader, FileError, Index};
-use mesa_block::{Block, fits_alone, reads_blocks};
+use crate::{DeltaReader, FileError};
+use mesa_delta_format::{Block, Index, fits_alone, reads_blocks};
 use mesa_disk::{FileReader, ReadFailed};
 use std::alloc::{AllocError, Global};
 use std::marker::Model;

@@ -1,20 +1,19 @@
 // Blocks that are written through a draft.
 ghost use Rattle.std.specs.Prelude.{◌≡◌, IsTrue, ◌<◌, ◌≤◌, ◌^◌, ℕ, List, [], ◌∷◌, ◌++◌, length, map, IfOk, OnOk, IfErr, None};
 ghost use Rattle.mesa_disk.specs.mesa_io.Causes.{HasFaultCause};
-ghost use Rattle.mesa_block.specs.mesa_columns.Lent.{lent};
-ghost use Rattle.mesa_block.specs.Layout.{Layout};
-ghost use Rattle.mesa_block.specs.Fill.{after, fit};
-ghost use Rattle.mesa_block.specs.Rows.{IsRow, Rise};
-ghost use Rattle.mesa_block.specs.Spelling.{key_of};
+ghost use Rattle.mesa_delta_format.specs.mesa_columns.Lent.{lent};
+ghost use Rattle.mesa_delta_format.specs.mesa_block.Layout.{Layout};
+ghost use Rattle.mesa_delta_format.specs.mesa_block.Fill.{after, fit};
+ghost use Rattle.mesa_delta_format.specs.mesa_block.Rows.{IsRow, Rise};
+ghost use Rattle.mesa_delta_format.specs.mesa_block.Spelling.{key_of};
 ghost use Rattle.mesa_delta.specs.declared.error.WriteError.TheVariants.{Draft as DraftFault};
 ghost use Rattle.mesa_delta.specs.Begun.{begun};
 ghost use Rattle.mesa_delta.specs.Laying.{IsSealed, Lays};
-ghost use Rattle.mesa_delta.specs.Spread.{Filling, with_more};
+ghost use Rattle.mesa_delta_format.specs.Spread.{Filling, with_more};
 
 use crate::WriteError;
 use crate::pending::Pending;
-use crate::tail::put_foot;
-use mesa_block::{BlockBuilder, fits_alone};
+use mesa_delta_format::{BlockBuilder, fits_alone, put_foot};
 use mesa_disk::{Draft, Made};
 use mesa_schema::{Format, LentRow, Schema, short};
 use sha2::{Digest, Sha256};

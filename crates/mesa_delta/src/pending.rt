@@ -1,14 +1,12 @@
 // Blocks that are on a draft and whose entries are still to come, so that their digests are taken side by side.
 ghost use Rattle.std.specs.Prelude.{◌≡◌, ◌<◌, [], ◌∷◌, ◌++◌, List, length, OnOk};
-ghost use Rattle.mesa_block.specs.Spelling.{block};
+ghost use Rattle.mesa_delta_format.specs.mesa_block.Spelling.{block};
 ghost use Rattle.mesa_delta.specs.Pending.{Appended as AnyAppended, entries_of};
-ghost use Rattle.mesa_delta.specs.Places.{spelled};
-ghost use Rattle.mesa_delta.specs.Tail.{entry};
+ghost use Rattle.mesa_delta_format.specs.Places.{spelled};
+ghost use Rattle.mesa_delta_format.specs.Tail.{entry};
 
 use crate::digesting::{Message, digest_of, take_digests};
-use crate::place::Entry;
-use crate::tail::put_entry;
-use mesa_block::BlockBuilder;
+use mesa_delta_format::{BlockBuilder, Entry, put_entry};
 use std::alloc::{AllocError, Global};
 use std::marker::Model;
 

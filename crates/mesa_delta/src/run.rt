@@ -1,10 +1,10 @@
 // Blocks that are read one after the other, from the first on.
 ghost use Rattle.std.specs.Prelude.{◌≡◌, ◌<◌, ◌+◌, [], length, IfOk};
-ghost use Rattle.mesa_block.specs.mesa_columns.Lent.{lent};
-ghost use Rattle.mesa_delta.specs.Packing.{goes_on};
-ghost use Rattle.mesa_delta.specs.Summary.{last_key};
+ghost use Rattle.mesa_delta_format.specs.mesa_columns.Lent.{lent};
+ghost use Rattle.mesa_delta.specs.NextBlock.{goes_on};
+ghost use Rattle.mesa_delta_format.specs.Summary.{last_key};
 
-use mesa_block::{Block, is_full, rises, row_size};
+use mesa_delta_format::{Block, is_full, rises, row_size};
 use mesa_schema::{Format, Items, KeyBytes, LentRow, Schema};
 use std::alloc::{AllocError, Global};
 

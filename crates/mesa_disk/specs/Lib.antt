@@ -1,4 +1,3 @@
-pub use Rattle.mesa_file.specs as mesa_file
 pub use Rattle.mesa_io.specs as mesa_io
 pub use Rattle.mesa_file.specs.mesa_key as mesa_key
 pub mod Image

@@ -13,8 +13,8 @@ use Rattle.mesa_record.specs.declared.record.Files.{Files}
 use Rattle.mesa_record.specs.declared.checkpoint.CheckpointSingle.{CheckpointSingle}
 use Rattle.mesa_record.specs.declared.recasting.RecastBase.{RecastBase}
 use Rattle.mesa_engine.specs.mesa_commit.Turn.{told_files}
-use Rattle.mesa_pick_files.specs.mesa_delta.File.{file_bytes}
-use Rattle.mesa_pick_files.specs.mesa_delta.Summary.{file_layout}
+use Rattle.mesa_pick_files.specs.mesa_delta_format.File.{file_bytes}
+use Rattle.mesa_pick_files.specs.mesa_delta_format.Summary.{file_layout}
 use Rattle.mesa_engine.specs.mesa_store_spec.Catalog.{Delta, Ending, base_recast, empty_delta, single_stated, singles_stated}
 use Rattle.mesa_engine.specs.mesa_store_spec.Contents.{Rows}
 use Rattle.mesa_engine.specs.mesa_store_spec.Fitting.{LiveFile, base_deltas, delta_own, own_live, live_id}

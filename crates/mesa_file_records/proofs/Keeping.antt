@@ -22,10 +22,10 @@ use Rattle.mesa_file.specs.declared.file_ref.FileRef.{FileRef}
 use Rattle.mesa_engine.specs.mesa_record_fields.Rules.{is_count_of_columns, is_file_ref, is_key_length}
 use Rattle.mesa_pick_files.specs.mesa_block.Layout.{Layout}
 use Rattle.mesa_pick_files.specs.mesa_block.Rows.{IsRow}
-use Rattle.mesa_pick_files.specs.mesa_delta.File.{IsFile}
-use Rattle.mesa_pick_files.specs.mesa_delta.Spread.{spread}
-use Rattle.mesa_pick_files.specs.mesa_delta.Summary.{IsReferenceOf, last_key}
-use Rattle.mesa_pick_files.specs.mesa_delta.Tail.{first_key}
+use Rattle.mesa_pick_files.specs.mesa_delta_format.File.{IsFile}
+use Rattle.mesa_pick_files.specs.mesa_delta_format.Spread.{spread}
+use Rattle.mesa_pick_files.specs.mesa_delta_format.Summary.{IsReferenceOf, last_key}
+use Rattle.mesa_pick_files.specs.mesa_delta_format.Tail.{first_key}
 use Rattle.mesa_engine.proofs.mesa_store_spec.Lists.{is_equal}
 use Rattle.mesa_file_records.proofs.Parts.{true_counts}
 

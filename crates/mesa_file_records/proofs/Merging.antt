@@ -15,8 +15,8 @@ use Rattle.mesa_pick_files.proofs.mesa_schema.LineageRules.{present_schema}
 use Rattle.mesa_columns.proofs.Lists.{all_so}
 use Rattle.mesa_pick_files.proofs.mesa_schema.ViewSchemas.{view_is_schema}
 use Rattle.mesa_pick_files.specs.mesa_block.Rows.{IsRow}
-use Rattle.mesa_pick_files.specs.mesa_delta.File.{file_bytes}
-use Rattle.mesa_pick_files.specs.mesa_delta.Summary.{file_layout, new_layout}
+use Rattle.mesa_pick_files.specs.mesa_delta_format.File.{file_bytes}
+use Rattle.mesa_pick_files.specs.mesa_delta_format.Summary.{file_layout, new_layout}
 use Rattle.mesa_engine.specs.mesa_record_fields.Rules.{is_file_ref, rise_from}
 use Rattle.mesa_record.specs.Rules.{are_files_if_any}
 use Rattle.mesa_record.specs.declared.record.ViewRef.{ViewRef}

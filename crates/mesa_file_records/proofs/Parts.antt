@@ -19,8 +19,8 @@ use Rattle.mesa_record.specs.declared.record.Files.{Files}
 use Rattle.mesa_record.specs.declared.record.Part.{Part}
 use Rattle.mesa_pick_files.specs.mesa_block.Layout.{Layout}
 use Rattle.mesa_pick_files.specs.mesa_block.Rows.{IsRow}
-use Rattle.mesa_pick_files.specs.mesa_delta.File.{IsFile, file_bytes}
-use Rattle.mesa_pick_files.specs.mesa_delta.Summary.{IsReferenceOf, all_noted, file_layout, new_layout, values_of}
+use Rattle.mesa_pick_files.specs.mesa_delta_format.File.{IsFile, file_bytes}
+use Rattle.mesa_pick_files.specs.mesa_delta_format.Summary.{IsReferenceOf, all_noted, file_layout, new_layout, values_of}
 use Rattle.mesa_engine.specs.mesa_store_spec.Catalog.{Delta, TableMeta, part_delta}
 use Rattle.mesa_engine.specs.mesa_store_spec.Contents.{Rows, present}
 use Rattle.mesa_engine.specs.mesa_store_spec.Fitting.{columns_seen, counts_columns, counts_view, files_fit, files_live, is_view_ref, live_id, view_live}

@@ -35,8 +35,8 @@ use Rattle.std.proofs.lemmas.List.{length-map}
 use Rattle.mesa_columns.specs.declared.rows.Row.{Row}
 use Rattle.mesa_columns.proofs.Lists.{all_so}
 use Rattle.mesa_engine.specs.mesa_commit.Turn.{made_ids, told_files}
-use Rattle.mesa_pick_files.specs.mesa_delta.File.{file_bytes}
-use Rattle.mesa_pick_files.specs.mesa_delta.Summary.{file_layout}
+use Rattle.mesa_pick_files.specs.mesa_delta_format.File.{file_bytes}
+use Rattle.mesa_pick_files.specs.mesa_delta_format.Summary.{file_layout}
 use Rattle.mesa_disk.specs.Files.{HasDistinctIds, files_of}
 use Rattle.mesa_engine.specs.mesa_record_fields.Rules.{is_file_ref}
 use Rattle.mesa_record.specs.Rules.{keeps_rules}

@@ -35,10 +35,10 @@ use Rattle.mesa_engine.specs.mesa_record_fields.Rules.{is_count_of_columns, is_f
 use Rattle.mesa_record.specs.Rules.{are_files, are_parts, is_part}
 use Rattle.mesa_pick_files.specs.mesa_block.Layout.{Layout}
 use Rattle.mesa_pick_files.specs.mesa_block.Rows.{IsRow}
-use Rattle.mesa_pick_files.specs.mesa_delta.File.{IsFile}
-use Rattle.mesa_pick_files.specs.mesa_delta.Spread.{spread}
-use Rattle.mesa_pick_files.specs.mesa_delta.Summary.{IsReferenceOf, last_key, new_layout}
-use Rattle.mesa_pick_files.specs.mesa_delta.Tail.{first_key}
+use Rattle.mesa_pick_files.specs.mesa_delta_format.File.{IsFile}
+use Rattle.mesa_pick_files.specs.mesa_delta_format.Spread.{spread}
+use Rattle.mesa_pick_files.specs.mesa_delta_format.Summary.{IsReferenceOf, last_key, new_layout}
+use Rattle.mesa_pick_files.specs.mesa_delta_format.Tail.{first_key}
 use Rattle.mesa_engine.specs.mesa_store_spec.Catalog.{Catalog, TableMeta, meta_at}
 use Rattle.mesa_engine.specs.mesa_store_spec.Shape.{IsCatalog, IsShaped}
 use Rattle.mesa_engine.proofs.mesa_store_spec.Lists.{both_true, is_equal}

@@ -7,7 +7,7 @@ use Rattle.mesa_columns.specs.Columns.{Columns}
 use Rattle.mesa_pick_files.specs.mesa_schema.Recasts.{recast_columns, recast_rows}
 use Rattle.mesa_pick_files.specs.mesa_schema.Recasts.{Recast as Asked}
 use Rattle.mesa_columns.specs.Schema.{is_schema}
-use Rattle.mesa_pick_files.specs.mesa_delta.Summary.{file_layout}
+use Rattle.mesa_pick_files.specs.mesa_delta_format.Summary.{file_layout}
 use Rattle.mesa_pick_files.specs.mesa_delta.declared.input.Input.{Input}
 use Rattle.mesa_engine.specs.mesa_record_fields.Rules.{is_file_ref}
 use Rattle.mesa_engine.specs.mesa_store_spec.Contents.{Rows}

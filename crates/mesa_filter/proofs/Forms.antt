@@ -5,10 +5,10 @@ use Rattle.std.proofs.lemmas.Bool.{le-ltb}
 use Rattle.std.proofs.lemmas.Option.{slice_get-get_or, slice_get-map}
 use Rattle.mesa_fold.specs.mesa_key.declared.KeyType.{KeyType}
 use Rattle.mesa_fold.specs.mesa_key.declared.KeyValue.{KeyValue}
-use Rattle.mesa_columns.specs.declared.columns.KeyColumn.{KeyColumn}
-use Rattle.mesa_columns.specs.Names.{is_name_byte}
-use Rattle.mesa_columns.specs.Numbers.{key_value_of}
-use Rattle.mesa_columns.specs.Columns.{Columns, key_names, kinds_of, place_of}
+use Rattle.mesa_fold.specs.mesa_columns.declared.columns.KeyColumn.{KeyColumn}
+use Rattle.mesa_fold.specs.mesa_columns.Names.{is_name_byte}
+use Rattle.mesa_fold.specs.mesa_columns.Numbers.{key_value_of}
+use Rattle.mesa_fold.specs.mesa_columns.Columns.{Columns, key_names, kinds_of, place_of}
 use Rattle.mesa_filter.specs.declared.terms.Comparison.{Comparison}
 use Rattle.mesa_filter.specs.declared.terms.FilterError.TheVariants.{BadLiteral, NoColumn}
 use Rattle.mesa_filter.specs.Filter.{each_some, Spelled, literal_parts, operator_of, spelled_after, spelled_of, term_of, unescaped}

@@ -5,7 +5,7 @@ use Rattle.std.specs.List.{position_or_len, prefix_len}
 use Rattle.std.proofs.lemmas.Bool.{ltb-false}
 use Rattle.std.proofs.lemmas.List.{take_all}
 use Rattle.std.proofs.lemmas.Option.{cond_some}
-use Rattle.mesa_columns.specs.Names.{is_name_byte}
+use Rattle.mesa_fold.specs.mesa_columns.Names.{is_name_byte}
 
 same_front : (xs : List ℕ) → position_or_len (λ b. not (is_name_byte b)) xs ≡ prefix_len is_name_byte xs
 same_front [] = refl

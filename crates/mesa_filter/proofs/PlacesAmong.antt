@@ -5,7 +5,7 @@ use Rattle.std.specs.List.{AllByRecursion, cons_option, list_all, list_any, posi
 use Rattle.std.proofs.lemmas.Bool.{eqb-true, lt-ltb, ltb-false, ltb-true}
 use Rattle.mesa_list.proofs.Whole.{both}
 use Rattle.mesa_fold.specs.mesa_key.declared.KeyType.{KeyType}
-use Rattle.mesa_columns.specs.Columns.{chosen}
+use Rattle.mesa_fold.specs.mesa_columns.Columns.{chosen}
 use Rattle.mesa_filter.specs.declared.terms.Term.{Term}
 use Rattle.mesa_filter.specs.Among.{Holds, place_among, term_among}
 use Rattle.mesa_filter.specs.Filter.{KeyFilter, are_within}

@@ -8,9 +8,9 @@ use Rattle.std.proofs.lemmas.List.Sums.{AllPass-from_list_all}
 use Rattle.std.proofs.lemmas.Option.{slice_get-get_or, slice_get-map, slice_get_past}
 use Rattle.mesa_list.specs.Bytes.{same_bytes}
 use Rattle.mesa_list.specs.Split.{split_at}
-use Rattle.mesa_columns.specs.declared.columns.KeyColumn.{KeyColumn}
-use Rattle.mesa_columns.specs.declared.columns.ValueColumn.{ValueColumn}
-use Rattle.mesa_columns.specs.Columns.{Columns, chosen, is_replace, key_names}
+use Rattle.mesa_fold.specs.mesa_columns.declared.columns.KeyColumn.{KeyColumn}
+use Rattle.mesa_fold.specs.mesa_columns.declared.columns.ValueColumn.{ValueColumn}
+use Rattle.mesa_fold.specs.mesa_columns.Columns.{Columns, chosen, is_replace, key_names}
 use Rattle.mesa_filter.specs.Asked.{group_columns, places_of}
 use Rattle.mesa_filter.specs.Query.{are_places}
 

@@ -4,8 +4,8 @@ use Rattle.std.specs.Option.{ok_or}
 use Rattle.mesa_list.specs.Bytes.{same_bytes}
 use Rattle.mesa_list.specs.Checks.{◌>>=◌, ◌>>◌, refused_as}
 use Rattle.mesa_list.specs.Split.{entries_of}
-use Rattle.mesa_columns.specs.declared.columns.ValueColumn.{ValueColumn}
-use Rattle.mesa_columns.specs.Columns.{Columns, key_names, value_names, place_of}
+use Rattle.mesa_fold.specs.mesa_columns.declared.columns.ValueColumn.{ValueColumn}
+use Rattle.mesa_fold.specs.mesa_columns.Columns.{Columns, key_names, value_names, place_of}
 use Rattle.mesa_filter.specs.declared.terms.FilterError.{FilterError}
 use Rattle.mesa_filter.specs.declared.terms.FilterError.TheVariants as fault
 use Rattle.mesa_filter.specs.declared.words.QueryWords.{QueryWords}

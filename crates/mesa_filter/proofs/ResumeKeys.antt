@@ -5,7 +5,7 @@ use Rattle.std.specs.List.{starts_with}
 use Rattle.std.proofs.lemmas.Cmp.{nat_list_eq_equiv}
 use lib.Pointwise.{pointwise}
 use Rattle.mesa_fold.specs.mesa_key.declared.KeyType.{KeyType}
-use Rattle.mesa_columns.specs.Columns.{Columns, chosen, kinds_of}
+use Rattle.mesa_fold.specs.mesa_columns.Columns.{Columns, chosen, kinds_of}
 use Rattle.mesa_filter.specs.declared.words.QueryWords.{QueryWords}
 use Rattle.mesa_filter.specs.declared.words.QueryError.{QueryError}
 use Rattle.mesa_filter.specs.declared.words.QueryError.TheVariants.{BadResume}

@@ -1,7 +1,7 @@
 -- What is asked of a relation whose columns are some of another's, in an order of its own.
 use Rattle.std.specs.Prelude.{ℕ, zero, suc, List, [], ◌∷◌, map, ◌==◌, if◌then◌else◌, IsTrue}
 use Rattle.std.specs.List.{list_any}
-use Rattle.mesa_columns.specs.Columns.{chosen}
+use Rattle.mesa_fold.specs.mesa_columns.Columns.{chosen}
 use Rattle.mesa_filter.specs.declared.terms.Term.{Term}
 use Rattle.mesa_filter.specs.Asked.{Asked}
 use Rattle.mesa_filter.specs.Query.{BuiltQuery}

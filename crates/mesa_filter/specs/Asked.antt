@@ -5,8 +5,8 @@ use Rattle.std.specs.Option.{ok_or}
 use Rattle.mesa_list.specs.Checks.{◌>>=◌, ◌>>◌, refused_as, each_of}
 use Rattle.mesa_list.specs.Split.{entries_of}
 use Rattle.mesa_list.specs.Bytes.{same_bytes}
-use Rattle.mesa_columns.specs.declared.columns.ValueColumn.{ValueColumn}
-use Rattle.mesa_columns.specs.Columns.{Columns, chosen, is_replace, key_names, place_of, value_names}
+use Rattle.mesa_fold.specs.mesa_columns.declared.columns.ValueColumn.{ValueColumn}
+use Rattle.mesa_fold.specs.mesa_columns.Columns.{Columns, chosen, is_replace, key_names, place_of, value_names}
 use Rattle.mesa_filter.specs.declared.words.QueryWords.{QueryWords}
 use Rattle.mesa_filter.specs.declared.terms.Term.{Term}
 use Rattle.mesa_filter.specs.declared.terms.FilterError.{FilterError}

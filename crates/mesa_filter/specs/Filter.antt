@@ -10,10 +10,10 @@ use Rattle.mesa_fold.specs.mesa_key.declared.KeyType.{KeyType}
 use Rattle.mesa_fold.specs.mesa_key.declared.KeyValue.{KeyValue}
 use Rattle.mesa_fold.specs.mesa_key.Order.{value_cmp}
 use Rattle.mesa_fold.specs.mesa_key.Spelling.{key_of}
-use Rattle.mesa_columns.specs.declared.rows.Row.{Row}
-use Rattle.mesa_columns.specs.Columns.{Columns, place_of, key_names, kinds_of}
-use Rattle.mesa_columns.specs.Names.{is_name_byte}
-use Rattle.mesa_columns.specs.Numbers.{key_value_of}
+use Rattle.mesa_fold.specs.mesa_columns.declared.rows.Row.{Row}
+use Rattle.mesa_fold.specs.mesa_columns.Columns.{Columns, place_of, key_names, kinds_of}
+use Rattle.mesa_fold.specs.mesa_columns.Names.{is_name_byte}
+use Rattle.mesa_fold.specs.mesa_columns.Numbers.{key_value_of}
 use Rattle.mesa_filter.specs.declared.terms.Comparison.{Comparison}
 use Rattle.mesa_filter.specs.declared.terms.Comparison.TheVariants as op
 use Rattle.mesa_filter.specs.declared.terms.Term.{Term}

@@ -1,8 +1,8 @@
 -- What holds of filtered rows.
 use Rattle.std.specs.Prelude.{◌≡◌, List, map}
 use Rattle.mesa_fold.specs.mesa_value.declared.Agg.{Agg}
-use Rattle.mesa_columns.specs.declared.rows.Row.{Row}
-use Rattle.mesa_columns.specs.Columns.{Columns}
+use Rattle.mesa_fold.specs.mesa_columns.declared.rows.Row.{Row}
+use Rattle.mesa_fold.specs.mesa_columns.Columns.{Columns}
 use Rattle.mesa_fold.specs.Folded.{folded}
 use Rattle.mesa_filter.specs.declared.terms.Term.{Term}
 use Rattle.mesa_filter.specs.Filter.{filtered}

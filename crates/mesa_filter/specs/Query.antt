@@ -3,7 +3,7 @@ use Rattle.std.specs.Prelude.{◌≡◌, ℕ, List, length, Bool, nat_lt, Option
 use Rattle.std.specs.List.{list_all}
 use Rattle.mesa_list.specs.Checks.{◌>>=◌}
 use Rattle.mesa_fold.specs.mesa_key.declared.KeyType.{KeyType}
-use Rattle.mesa_columns.specs.Columns.{Columns, kinds_of, chosen}
+use Rattle.mesa_fold.specs.mesa_columns.Columns.{Columns, kinds_of, chosen}
 use Rattle.mesa_filter.specs.declared.words.QueryWords.{QueryWords}
 use Rattle.mesa_filter.specs.declared.words.QueryError.{QueryError}
 use Rattle.mesa_filter.specs.Asked.{Asked, asked_of, replace_asked}

@@ -5,7 +5,7 @@ use Rattle.std.specs.Option.{ok_or}
 use Rattle.mesa_list.specs.Checks.{◌>>=◌, ◌>>◌, refuse_unless}
 use Rattle.mesa_fold.specs.mesa_key.declared.KeyType.{KeyType}
 use Rattle.mesa_fold.specs.mesa_key.Spelling.{is_spelling}
-use Rattle.mesa_columns.specs.Columns.{Columns, key_names, kinds_of, chosen}
+use Rattle.mesa_fold.specs.mesa_columns.Columns.{Columns, key_names, kinds_of, chosen}
 use Rattle.mesa_filter.specs.declared.words.QueryError.{QueryError}
 use Rattle.mesa_filter.specs.declared.words.QueryError.TheVariants.{BadResume}
 use Rattle.mesa_filter.specs.Hex.{bytes_of_hex}

@@ -2,13 +2,13 @@
 ghost use Rattle.std.specs.Prelude.{◌≡◌, ◌==◌, ◌≢◌, IsTrue, IfOk, IfErr, Ok, Err, None, find};
 ghost use Rattle.std.specs.List.{list_any};
 ghost use Rattle.std.specs.Option.{option_copied};
-ghost use Rattle.mesa_columns.specs.Columns.{chosen, is_replace as replaces, kinds_of};
+ghost use Rattle.mesa_fold.specs.mesa_columns.Columns.{chosen, is_replace as replaces, kinds_of};
 ghost use Rattle.mesa_filter.specs.Asked.{asked_of, filter_refusal, lists_all_keys as lists_keys, replace_asked as replace_among};
 ghost use Rattle.mesa_filter.specs.Query.{are_places};
 
 use crate::places::{Places, group_places, value_places};
 use crate::{Filter, FilterError, QueryError, QueryWords};
-use mesa_columns::{Agg, Schema, ValueColumn};
+use mesa_fold::{Agg, Schema, ValueColumn};
 use mesa_list::TryCopy;
 use std::alloc::{AllocError, Global};
 

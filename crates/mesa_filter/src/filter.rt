@@ -2,7 +2,7 @@
 ghost use Rattle.std.specs.Prelude.{◌≡◌, ◌≢◌, ◌<◌, ◌^◌, IfOk, IfErr, IsTrue, length, map, take};
 ghost use Rattle.std.specs.List.{AllByRecursion};
 ghost use Rattle.mesa_fold.specs.mesa_key.Spelling.{is_spelling, key_of};
-ghost use Rattle.mesa_columns.specs.Columns.{chosen, kinds_of};
+ghost use Rattle.mesa_fold.specs.mesa_columns.Columns.{chosen, kinds_of};
 ghost use Rattle.mesa_filter.specs.declared.terms.Term.{Term as AnyTerm};
 ghost use Rattle.mesa_filter.specs.Among.{Holds, term_among};
 ghost use Rattle.mesa_filter.specs.Filter.{are_within, filter_of, meets};
@@ -16,7 +16,7 @@ use crate::matching::{columns_may_meet, columns_meet, last_named};
 use crate::parsing::terms;
 use crate::query::kinds_at;
 use crate::{FilterError, Term};
-use mesa_columns::{KeyType, Schema};
+use mesa_fold::{KeyType, Schema};
 use mesa_list::{Items, TryCopy};
 use std::alloc::{AllocError, Global};
 use std::marker::Model;

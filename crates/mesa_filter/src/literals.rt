@@ -1,12 +1,12 @@
 // The literals of a term.
 ghost use Rattle.std.specs.Prelude.{◌≡◌, ◌<◌, ◌≤◌, length, IfOk, IfSome, MatchOption, option_map, cond, nat_lt, None, Some, [], ◌∷◌};
-ghost use Rattle.mesa_columns.specs.Numbers.{key_value_of};
+ghost use Rattle.mesa_fold.specs.mesa_columns.Numbers.{key_value_of};
 ghost use Rattle.mesa_filter.specs.Hex.{hex_value as digit_value, with_byte};
 ghost use Rattle.mesa_filter.specs.Filter.{each_some, literal_parts, unescaped};
 ghost use Rattle.mesa_list.specs.Split.{split_at};
 
 use crate::Comparison;
-use mesa_columns::{KeyType, KeyValue, Words, key_value};
+use mesa_fold::{KeyType, KeyValue, Words, key_value};
 use mesa_list::{Items, Parts};
 use std::alloc::{AllocError, Global};
 

@@ -6,7 +6,7 @@ ghost use Rattle.mesa_filter.specs.Filter.{are_within, passes_as, value_meets};
 ghost use Rattle.mesa_filter.specs.Walk.{all_meet, columns_named, column_meets as meets_column, column_reaches as reaches_column, interval_meets, may_meet_from, reaches as reaches_by};
 
 use crate::{Comparison, Term};
-use mesa_columns::{ColumnValue, KeyColumns, KeyType};
+use mesa_fold::{ColumnValue, KeyColumns, KeyType};
 use std::cmp::Ordering;
 
 // Whether each of the first columns of an encoded key meets its terms. No column behind them is looked at.

@@ -1,12 +1,12 @@
 // Reading filters.
 ghost use Rattle.std.specs.Prelude.{◌≡◌, ◌≢◌, ◌≤◌, MatchOption, IfOk, IfErr, OnOk, None, Some, take_while, length, position, not, ◌<◌, IsTrue};
-ghost use Rattle.mesa_columns.specs.Columns.{kinds_of};
-ghost use Rattle.mesa_columns.specs.Names.{is_name_byte as name_byte};
+ghost use Rattle.mesa_fold.specs.mesa_columns.Columns.{kinds_of};
+ghost use Rattle.mesa_fold.specs.mesa_columns.Names.{is_name_byte as name_byte};
 ghost use Rattle.mesa_filter.specs.Filter.{are_within, operator_of, term_of, filter_of};
 
 use crate::literals::{literals, values};
 use crate::{Comparison, FilterError, Term};
-use mesa_columns::{Schema, is_name_byte, place_of};
+use mesa_fold::{Schema, is_name_byte, place_of};
 use mesa_list::{Items, Parts};
 use std::alloc::{AllocError, Global};
 

@@ -2,12 +2,12 @@
 ghost use Rattle.std.specs.Prelude.{◌≡◌, ◌≢◌, ◌≤◌, ◌<◌, ◌^◌, IsTrue, IfOk, IfErr, length, map, Ok, Err};
 ghost use Rattle.std.specs.Option.{ok_or};
 ghost use Rattle.mesa_list.specs.Split.{split_at};
-ghost use Rattle.mesa_columns.specs.Columns.{place_of as place_among, places_in};
+ghost use Rattle.mesa_fold.specs.mesa_columns.Columns.{place_of as place_among, places_in};
 ghost use Rattle.mesa_filter.specs.Asked.{group_columns, places_below, places_of, value_columns};
 ghost use Rattle.mesa_filter.specs.Query.{are_places};
 
 use crate::QueryError;
-use mesa_columns::{Name, Named, Schema, place_of};
+use mesa_fold::{Name, Named, Schema, place_of};
 use mesa_list::{Items, Parts};
 use std::alloc::{AllocError, Global};
 

@@ -1,6 +1,6 @@
 // Queries.
 ghost use Rattle.std.specs.Prelude.{◌≡◌, ◌≢◌, IsTrue, IfOk, IfErr, OnOk, IsOk, Ok, Err, None, Some, MatchOption};
-ghost use Rattle.mesa_columns.specs.Columns.{chosen};
+ghost use Rattle.mesa_fold.specs.mesa_columns.Columns.{chosen};
 ghost use Rattle.mesa_filter.specs.Asked.{asked_of};
 ghost use Rattle.mesa_filter.specs.Resume.{resume_of};
 ghost use Rattle.std.specs.List.{AllByRecursion};
@@ -12,7 +12,7 @@ use crate::among::places_among;
 use crate::asking::{Asking, what_is_asked};
 use crate::resuming::{prefix, resume_key};
 use crate::{Filter, QueryError, QueryWords};
-use mesa_columns::{KeyBytes, KeyType, Name, Schema, Words};
+use mesa_fold::{KeyBytes, KeyType, Name, Schema, Words};
 use mesa_list::{Items, TryCopy};
 use std::alloc::{AllocError, Global};
 use std::marker::Model;
@@ -29,7 +29,7 @@ pub struct Query {
 
 impl Model for Query {
     ghost use Rattle.std.specs.Prelude.{◌≡◌};
-    ghost use Rattle.mesa_columns.specs.Columns.{chosen};
+    ghost use Rattle.mesa_fold.specs.mesa_columns.Columns.{chosen};
     ghost use Rattle.mesa_filter.specs.Query.{BuiltQuery};
 
     ghost Value = { BuiltQuery };

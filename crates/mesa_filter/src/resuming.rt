@@ -1,8 +1,8 @@
 // Resume keys: where a page goes on.
 ghost use Rattle.std.specs.Prelude.{◌≡◌, ◌≢◌, ◌++◌, ◌∷◌, [], IsTrue, IfOk, IfErr, OnOk, Ok, Err, decimal, is_some, map};
 ghost use Rattle.std.specs.List.{join_with_byte, list_all};
-ghost use Rattle.mesa_columns.specs.declared.columns.KeyColumn.{KeyColumn as Column};
-ghost use Rattle.mesa_columns.specs.Columns.{chosen};
+ghost use Rattle.mesa_fold.specs.mesa_columns.declared.columns.KeyColumn.{KeyColumn as Column};
+ghost use Rattle.mesa_fold.specs.mesa_columns.Columns.{chosen};
 ghost use Rattle.mesa_filter.specs.Hex.{bytes_of_hex, hex_value as digit_value};
 ghost use Rattle.mesa_filter.specs.Resume.{resume_behind, resume_prefix};
 ghost use Rattle.mesa_filter.specs.Query.{are_places};
@@ -11,7 +11,7 @@ use crate::QueryError;
 use crate::literals::hex_value;
 use hex::FromHexError;
 use itoa::Buffer;
-use mesa_columns::{KeyBytes, KeyColumn, KeyType, Name, Schema, Words, spells_key};
+use mesa_fold::{KeyBytes, KeyColumn, KeyType, Name, Schema, Words, spells_key};
 use mesa_list::Items;
 use std::alloc::{AllocError, Global};
 

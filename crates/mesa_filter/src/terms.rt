@@ -1,5 +1,5 @@
 // The terms of a filter.
-use mesa_columns::KeyValue;
+use mesa_fold::KeyValue;
 use mesa_list::Items;
 
 /// How a column's value compares with a literal.

@@ -1,5 +1,5 @@
 // A query as a script has it, and why it is refused.
-use mesa_columns::{Name, Words};
+use mesa_fold::{Name, Words};
 
 /// A version as a script asks for it.
 #[derive(Clone, Copy, Debug, PartialEq, Eq)]

@@ -9,7 +9,7 @@ use Rattle.std.specs.FinMap.{nat_cmp-IsAntisymmetric}
 use Rattle.std.specs.Map.{lookup}
 use Rattle.std.specs.Ordering.{is_eq, nat_cmp}
 use Rattle.std.specs.declared.cmp.Ordering.TheVariants.{Less, Equal, Greater}
-use Rattle.mesa_delta.specs.Indexed.{Indexed}
+use Rattle.mesa_open_files.specs.mesa_delta_format.Indexed.{Indexed}
 use Rattle.mesa_index_cache.specs.Kept.{AreWith, AreWithout, index_in, kept_at}
 use Rattle.mesa_index_cache.specs.declared.indexes.Indexes.{Indexes}
 use Rattle.mesa_index_cache.specs.declared.kept.Kept.{Kept}

@@ -6,7 +6,7 @@ use Rattle.mesa_disk.specs.Story.{Steps}
 use Rattle.mesa_disk.specs.declared.area.Area.{Area}
 use Rattle.mesa_disk.proofs.Rounds.{other_file}
 use Rattle.mesa_disk.proofs.Others.{other_than_lost, area_others}
-use Rattle.mesa_delta.specs.Indexed.{Indexed}
+use Rattle.mesa_open_files.specs.mesa_delta_format.Indexed.{Indexed}
 use Rattle.mesa_index_cache.specs.Kept.{AreTrue, AreWith, AreWithout, index_kept}
 use Rattle.mesa_open_files.specs.Opening.{IsTrueOf}
 use Rattle.mesa_index_cache.specs.declared.indexes.Indexes.{Indexes}

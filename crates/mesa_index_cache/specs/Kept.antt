@@ -3,7 +3,7 @@ use Rattle.std.specs.Prelude.{◌≡◌, ◌≢◌, ◌⊎◌, ℕ, Option, Some
 use Rattle.std.specs.Map.{lookup}
 use Rattle.std.specs.Ordering.{is_eq, nat_cmp}
 use Rattle.mesa_disk.specs.Image.{Image}
-use Rattle.mesa_delta.specs.Indexed.{Indexed}
+use Rattle.mesa_open_files.specs.mesa_delta_format.Indexed.{Indexed}
 use Rattle.mesa_open_files.specs.Opening.{IsTrueOf}
 use Rattle.mesa_index_cache.specs.declared.indexes.Indexes.{Indexes}
 use Rattle.mesa_index_cache.specs.declared.kept.Kept.{Kept}

@@ -1,9 +1,9 @@
 // The indexes that are kept.
 ghost use Rattle.std.specs.Prelude.{◌≡◌, ℕ, List, None, Some, IfSome};
 ghost use Rattle.sha2.specs.Sha256.{sha256};
-ghost use Rattle.mesa_delta.specs.Indexed.{IsIndexOf};
-ghost use Rattle.mesa_delta.specs.Places.{tail_spelled};
-ghost use Rattle.mesa_delta.specs.Summary.{file_layout};
+ghost use Rattle.mesa_open_files.specs.mesa_delta_format.Indexed.{IsIndexOf};
+ghost use Rattle.mesa_open_files.specs.mesa_delta_format.Places.{tail_spelled};
+ghost use Rattle.mesa_open_files.specs.mesa_delta_format.Summary.{file_layout};
 ghost use Rattle.mesa_index_cache.specs.Kept.{AreWith, AreWithout, index_kept};
 
 use crate::kept::Kept;

@@ -1,9 +1,9 @@
 // An index that is kept.
 ghost use Rattle.std.specs.Prelude.{◌≡◌, ℕ, List, IsTrue};
 ghost use Rattle.sha2.specs.Sha256.{sha256};
-ghost use Rattle.mesa_delta.specs.Indexed.{IsIndexOf};
-ghost use Rattle.mesa_delta.specs.Places.{tail_spelled};
-ghost use Rattle.mesa_delta.specs.Summary.{file_layout};
+ghost use Rattle.mesa_open_files.specs.mesa_delta_format.Indexed.{IsIndexOf};
+ghost use Rattle.mesa_open_files.specs.mesa_delta_format.Places.{tail_spelled};
+ghost use Rattle.mesa_open_files.specs.mesa_delta_format.Summary.{file_layout};
 
 use crate::same::same_columns;
 use mesa_columns::Schema;

@@ -10,7 +10,7 @@ use Rattle.std.proofs.lemmas.Bool.{and_parts, le-leb}
 use Rattle.std.proofs.lemmas.List.{length-map}
 use Rattle.mesa_open_files.specs.mesa_value.declared.Agg.{Agg}
 use Rattle.mesa_open_files.specs.mesa_value.declared.Agg.TheVariants as agg
-use Rattle.mesa_delta.specs.mesa_key.Order.{byte_cmp}
+use Rattle.mesa_answer.specs.mesa_key.Order.{byte_cmp}
 use Rattle.mesa_open_files.specs.mesa_columns.declared.rows.Row.{Row}
 use Rattle.mesa_open_files.specs.mesa_columns.declared.views.View.{View}
 use Rattle.mesa_open_files.specs.mesa_columns.Columns.{Columns, aggs_of, chosen}

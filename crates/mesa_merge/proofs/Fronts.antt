@@ -9,7 +9,7 @@ use Rattle.std.proofs.Math.Nat.{mul-le-mul_right, pow-succ'}
 use Rattle.std.proofs.lemmas.List.{get_or-replicate, length-replicate, length-set, length-take-le}
 use Rattle.mesa_key.specs.Order.{byte_cmp, short_key}
 use Rattle.mesa_key.specs.Spelling.{AreBytes}
-use Rattle.mesa_delta.proofs.Shorts.{short_le}
+use Rattle.mesa_delta.proofs.mesa_delta_format.Shorts.{short_le}
 use Rattle.mesa_batch.proofs.Place.{flipped}
 use Rattle.mesa_scan.specs.mesa_columns.declared.rows.Row.{Row}
 use Rattle.mesa_merge.specs.Fronts.{AreFronts, HasFront, IsFront}

@@ -5,7 +5,7 @@ use Rattle.mesa_scan.specs.mesa_columns.declared.rows.Row.{Row}
 use Rattle.mesa_schema.specs.Changes.{Lineage, columns_of, epoch_of, lifted}
 use Rattle.mesa_scan.specs.mesa_columns.Columns.{Columns}
 use Rattle.mesa_delta.specs.Ahead.{Told}
-use Rattle.mesa_delta.specs.Indexed.{Indexed}
+use Rattle.mesa_scan.specs.mesa_delta_format.Indexed.{Indexed}
 use Rattle.mesa_delta.specs.Reading.{IsIndexed, IsWhole, index_of}
 use Rattle.mesa_delta.specs.declared.input.Input.{Input}
 use Rattle.mesa_scan.specs.Cursors.{IsInput, reader_in}

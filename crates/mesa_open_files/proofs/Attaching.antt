@@ -2,7 +2,7 @@
 use Rattle.std.proofs.Common.{◌≡◌, ℕ, List, Option, Some, None, refl, sym, ◌∙◌, subst}
 use Rattle.std.proofs.lemmas.Option.{none-some, same_Some}
 use Rattle.mesa_disk.specs.Image.{Image}
-use Rattle.mesa_delta.specs.Indexed.{Indexed}
+use Rattle.mesa_scan.specs.mesa_delta_format.Indexed.{Indexed}
 use Rattle.mesa_delta.specs.Reading.{IsOver, IsReaderOf}
 use Rattle.mesa_open_files.specs.Opening.{HasBytes, IsTrueOf, IsUntold}
 

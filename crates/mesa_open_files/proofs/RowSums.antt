@@ -4,16 +4,16 @@ use Rattle.std.specs.Prelude.{Some, slice_get, nat_abs}
 use Rattle.std.proofs.lemmas.Int.{ints}
 use Rattle.std.proofs.lemmas.List.{length-map}
 use Rattle.std.proofs.lemmas.List.Sums.{sum_by-append}
-use Rattle.mesa_delta.specs.mesa_value.declared.Agg.{Agg}
-use Rattle.mesa_delta.specs.mesa_value.declared.Agg.TheVariants.{Sum, Min, Max, Replace}
-use Rattle.mesa_delta.specs.mesa_value.Agg.{Combines}
+use Rattle.mesa_scan.specs.mesa_value.declared.Agg.{Agg}
+use Rattle.mesa_scan.specs.mesa_value.declared.Agg.TheVariants.{Sum, Min, Max, Replace}
+use Rattle.mesa_scan.specs.mesa_value.Agg.{Combines}
 use Rattle.mesa_history_spec.specs.mesa_columns.declared.rows.Row.{Row}
 use Rattle.mesa_history_spec.specs.mesa_columns.declared.columns.ValueColumn.{ValueColumn}
 use Rattle.mesa_history_spec.specs.mesa_columns.Columns.{Columns, aggs_of}
 use Rattle.mesa_history_spec.specs.mesa_fold.Folded.{row_combined, combined_from}
 use Rattle.mesa_history_spec.specs.mesa_columns.Rows.{AreRowsOf, IsRowOf}
 use Rattle.mesa_batch.specs.Totals.{abs_total, sum_bound}
-use Rattle.mesa_delta.specs.Summary.{all_noted, aggregates, values_of, AllCombine}
+use Rattle.mesa_scan.specs.mesa_delta_format.Summary.{all_noted, aggregates, values_of, AllCombine}
 
 sum_fits : (o n : ℤ) → nat_abs o + nat_abs n < sum_bound → Combines Sum o n
 sum_fits (pos a) (pos b) h = omega (arith, ints)

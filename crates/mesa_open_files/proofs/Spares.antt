@@ -4,12 +4,12 @@ use Rattle.sha2.specs.Sha256.{sha256}
 use Rattle.mesa_disk.specs.Image.{Image}
 use Rattle.mesa_history_spec.specs.mesa_columns.declared.rows.Row.{Row}
 use Rattle.mesa_schema.specs.Changes.{Lineage, columns_at}
-use Rattle.mesa_delta.specs.mesa_block.Layout.{Layout}
-use Rattle.mesa_delta.specs.File.{IsFile}
-use Rattle.mesa_delta.specs.Indexed.{IsIndexOf}
+use Rattle.mesa_scan.specs.mesa_block.Layout.{Layout}
+use Rattle.mesa_scan.specs.mesa_delta_format.File.{IsFile}
+use Rattle.mesa_scan.specs.mesa_delta_format.Indexed.{IsIndexOf}
 use Rattle.mesa_delta.specs.Reading.{index_of}
-use Rattle.mesa_delta.specs.Spread.{blocks_of}
-use Rattle.mesa_delta.specs.Summary.{file_layout}
+use Rattle.mesa_scan.specs.mesa_delta_format.Spread.{blocks_of}
+use Rattle.mesa_scan.specs.mesa_delta_format.Summary.{file_layout}
 use Rattle.mesa_delta.specs.declared.input.Input.{Input}
 use Rattle.mesa_scan.specs.Cursors.{reader_in}
 use Rattle.mesa_open_files.specs.declared.opening.Wanted.{Wanted}

@@ -4,8 +4,8 @@ use Rattle.mesa_history_spec.specs.mesa_columns.declared.rows.Row.{Row}
 use Rattle.mesa_history_spec.specs.mesa_columns.declared.views.View.{View}
 use Rattle.mesa_history_spec.specs.mesa_columns.Columns.{Columns}
 use Rattle.mesa_schema.specs.Views.{view_columns, view_rows}
-use Rattle.mesa_delta.specs.File.{IsFile, file_bytes}
-use Rattle.mesa_delta.specs.Summary.{IsReferenceOf, new_layout}
+use Rattle.mesa_scan.specs.mesa_delta_format.File.{IsFile, file_bytes}
+use Rattle.mesa_scan.specs.mesa_delta_format.Summary.{IsReferenceOf, new_layout}
 use Rattle.mesa_open_files.specs.declared.made.MadeFile.{MadeFile}
 use Rattle.mesa_open_files.specs.declared.made.MadeFiles.{MadeFiles}
 use Rattle.mesa_open_files.specs.declared.made.MadeView.{MadeView}

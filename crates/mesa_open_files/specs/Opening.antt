@@ -10,13 +10,13 @@ use Rattle.mesa_schema.specs.Changes.{columns_at, epoch_of}
 use Rattle.mesa_history_spec.specs.mesa_columns.declared.rows.Row.{Row}
 use Rattle.mesa_disk.specs.Image.{Image, file_of}
 use Rattle.mesa_disk.specs.Story.{Story}
-use Rattle.mesa_delta.specs.mesa_block.Layout.{Layout}
+use Rattle.mesa_scan.specs.mesa_block.Layout.{Layout}
 use Rattle.mesa_delta.specs.declared.error.FileError.{FileError}
 use Rattle.mesa_delta.specs.declared.error.FileError.TheVariants as file_error
-use Rattle.mesa_delta.specs.File.{IsFile}
-use Rattle.mesa_delta.specs.Indexed.{Indexed, IsIndexOf}
+use Rattle.mesa_scan.specs.mesa_delta_format.File.{IsFile}
+use Rattle.mesa_scan.specs.mesa_delta_format.Indexed.{Indexed, IsIndexOf}
 use Rattle.mesa_delta.specs.Reading.{IsOver, IsTailDamage, index_of}
-use Rattle.mesa_delta.specs.Summary.{IsReferenceOf, file_layout}
+use Rattle.mesa_scan.specs.mesa_delta_format.Summary.{IsReferenceOf, file_layout}
 use Rattle.mesa_delta.specs.declared.input.Input.{Input}
 use Rattle.mesa_scan.specs.Cursors.{IsInput, reader_in}
 use Rattle.mesa_open_files.specs.Inputs.{lineage_of}

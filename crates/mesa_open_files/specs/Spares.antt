@@ -6,9 +6,9 @@ use Rattle.sha2.specs.Sha256.{sha256}
 use Rattle.mesa_file.specs.declared.damage.Damage.{Damage}
 use Rattle.mesa_file.specs.declared.file_ref.FileRef.{FileRef}
 use Rattle.mesa_schema.specs.Changes.{columns_at}
-use Rattle.mesa_delta.specs.Indexed.{IsIndexOf}
+use Rattle.mesa_scan.specs.mesa_delta_format.Indexed.{IsIndexOf}
 use Rattle.mesa_delta.specs.Reading.{index_of}
-use Rattle.mesa_delta.specs.Summary.{file_layout}
+use Rattle.mesa_scan.specs.mesa_delta_format.Summary.{file_layout}
 use Rattle.mesa_delta.specs.declared.input.Input.{Input}
 use Rattle.mesa_scan.specs.Cursors.{IsInput, reader_in}
 use Rattle.mesa_open_files.specs.Inputs.{lineage_of}

@@ -2,9 +2,9 @@
 ghost use Rattle.std.specs.Prelude.{◌≡◌, ℕ, List, IfSome};
 ghost use Rattle.sha2.specs.Sha256.{sha256};
 ghost use Rattle.mesa_disk.specs.Story.{Unmoved};
-ghost use Rattle.mesa_delta.specs.Indexed.{IsIndexOf};
-ghost use Rattle.mesa_delta.specs.Places.{tail_spelled};
-ghost use Rattle.mesa_delta.specs.Summary.{file_layout};
+ghost use Rattle.mesa_scan.specs.mesa_delta_format.Indexed.{IsIndexOf};
+ghost use Rattle.mesa_scan.specs.mesa_delta_format.Places.{tail_spelled};
+ghost use Rattle.mesa_scan.specs.mesa_delta_format.Summary.{file_layout};
 ghost use Rattle.mesa_open_files.specs.Opening.{IsTrueOf};
 
 use mesa_delta::Index;

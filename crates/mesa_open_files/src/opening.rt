@@ -4,9 +4,9 @@ ghost use Rattle.std.specs.List.{AllByRecursion};
 ghost use Rattle.sha2.specs.Sha256.{sha256};
 ghost use Rattle.mesa_file.specs.declared.damage.Damage.{Damage as AnyDamage};
 ghost use Rattle.mesa_disk.specs.Story.{Unmoved};
-ghost use Rattle.mesa_delta.specs.Indexed.{IsIndexOf};
+ghost use Rattle.mesa_scan.specs.mesa_delta_format.Indexed.{IsIndexOf};
 ghost use Rattle.mesa_delta.specs.Reading.{HasRead, IsReaderOf, index_of, reader_of};
-ghost use Rattle.mesa_delta.specs.Summary.{file_layout};
+ghost use Rattle.mesa_scan.specs.mesa_delta_format.Summary.{file_layout};
 ghost use Rattle.mesa_delta.specs.declared.error.FileError.TheVariants as file_error;
 ghost use Rattle.mesa_open_files.specs.Opening.{Counted, HasBytes, HasEpoch, HasMet, HaveOpened, IsDamageOf, IsUntold, is_fault_in, is_fault_met, is_read_fault, wanted_columns};
 

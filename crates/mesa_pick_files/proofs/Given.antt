@@ -10,8 +10,8 @@ use Rattle.mesa_validate.specs.mesa_columns.declared.views.View.{View}
 use Rattle.mesa_validate.proofs.mesa_columns.Lists.{all_found}
 use Rattle.mesa_validate.proofs.mesa_catalog_records.Loads.{found_passes}
 use Rattle.mesa_query.specs.mesa_block.Layout.{Layout}
-use Rattle.mesa_delta.specs.File.{IsFile, file_bytes}
-use Rattle.mesa_delta.specs.Spread.{blocks_of}
+use Rattle.mesa_catalog_table.specs.mesa_delta_format.File.{IsFile, file_bytes}
+use Rattle.mesa_catalog_table.specs.mesa_delta_format.Spread.{blocks_of}
 use Rattle.mesa_delta.specs.declared.input.Input.{Input}
 use Rattle.mesa_disk.specs.Image.{Image, file_of}
 use Rattle.mesa_validate.specs.mesa_store_spec.Catalog.{Delta}

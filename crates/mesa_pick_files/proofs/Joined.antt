@@ -4,7 +4,7 @@ use Rattle.std.specs.Prelude.{◌≢◌, flat_map, is_some, IfSome}
 use Rattle.sha2.specs.Sha256.{sha256}
 use Rattle.mesa_file.specs.declared.file_ref.FileRef.{FileRef}
 use Rattle.mesa_delta.specs.Reading.{IsTailDamage}
-use Rattle.mesa_delta.specs.Summary.{file_layout}
+use Rattle.mesa_catalog_table.specs.mesa_delta_format.Summary.{file_layout}
 use Rattle.std.specs.List.{AllByRecursion}
 use Rattle.mesa_file.specs.declared.damage.Damage.{Damage}
 use Rattle.mesa_validate.specs.mesa_columns.Columns.{Columns}

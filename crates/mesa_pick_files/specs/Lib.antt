@@ -5,6 +5,7 @@ pub use Rattle.mesa_catalog_table.specs as mesa_catalog_table
 pub use Rattle.mesa_validate.specs.mesa_columns as mesa_columns
 pub use Rattle.mesa_validate.specs.mesa_commit as mesa_commit
 pub use Rattle.mesa_delta.specs as mesa_delta
+pub use Rattle.mesa_catalog_table.specs.mesa_delta_format as mesa_delta_format
 pub use Rattle.mesa_query.specs.mesa_key as mesa_key
 pub use Rattle.mesa_validate.specs.mesa_list as mesa_list
 pub use Rattle.mesa_query.specs.mesa_merge as mesa_merge

@@ -18,9 +18,9 @@ use Rattle.mesa_filter.specs.declared.terms.Term.{Term}
 use Rattle.mesa_filter.specs.Filter.{KeyFilter, filtered, meets}
 use Rattle.mesa_block.specs.Layout.{Layout}
 use Rattle.mesa_delta.specs.Reading.{index_of}
-use Rattle.mesa_delta.specs.Spread.{blocks_of}
+use Rattle.mesa_open_files.specs.mesa_delta_format.Spread.{blocks_of}
 use Rattle.mesa_delta.specs.declared.input.Input.{Input}
-use Rattle.mesa_delta.proofs.Packing.{blocks_rows}
+use Rattle.mesa_delta.proofs.mesa_delta_format.Packing.{blocks_rows}
 use Rattle.mesa_scan.specs.Cursors.{IsSameInput, lift_by, reader_in}
 use Rattle.mesa_merge.specs.Inputs.{IsTold, known_of}
 use Rattle.mesa_scan.specs.declared.scanning.Scan.{Scan}

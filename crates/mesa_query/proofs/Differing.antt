@@ -9,7 +9,7 @@ use Rattle.mesa_open_files.specs.mesa_columns.declared.rows.Row.{Row}
 use Rattle.mesa_filter.specs.declared.terms.Term.{Term}
 use Rattle.mesa_answer.specs.Gathering.{Wanted}
 use Rattle.mesa_delta.specs.Damages.{IsWrongLength, IsPieceDamage}
-use Rattle.mesa_delta.specs.Indexed.{Indexed}
+use Rattle.mesa_open_files.specs.mesa_delta_format.Indexed.{Indexed}
 use Rattle.mesa_delta.specs.Reading.{IsBlockDamage}
 use Rattle.mesa_delta.specs.declared.input.Input.{Input}
 use Rattle.mesa_scan.specs.Cursors.{reader_in}

@@ -16,9 +16,9 @@ use Rattle.mesa_open_files.specs.mesa_columns.Lifting.{lifted_with}
 use Rattle.mesa_open_files.specs.mesa_columns.Rows.{AreRowsOf, IsRowOf}
 use Rattle.mesa_filter.specs.Filter.{KeyFilter, filtered, meets}
 use Rattle.mesa_delta.specs.Ahead.{AreAhead, IsOfFile, Told, Untested}
-use Rattle.mesa_delta.specs.Indexed.{Indexed}
+use Rattle.mesa_open_files.specs.mesa_delta_format.Indexed.{Indexed}
 use Rattle.mesa_delta.specs.Reading.{IsBlock, IsIndexed}
-use Rattle.mesa_delta.specs.Spread.{blocks_of}
+use Rattle.mesa_open_files.specs.mesa_delta_format.Spread.{blocks_of}
 use Rattle.mesa_scan.proofs.Lifted.{block_forms, lifts_all}
 use Rattle.mesa_merge.specs.Inputs.{AreAlike, AreTold, IsTold, Known, lifted_in, tolds_of}
 use Rattle.mesa_answer.specs.Gathered.{HasPut, wanted_of}

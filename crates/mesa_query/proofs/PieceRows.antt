@@ -14,7 +14,7 @@ use Rattle.mesa_schema.specs.Lifting.{Lifts}
 use Rattle.mesa_open_files.specs.mesa_columns.Rows.{AreRowsOf}
 use Rattle.mesa_filter.specs.Filter.{KeyFilter, filtered}
 use Rattle.mesa_delta.specs.Reading.{index_of}
-use Rattle.mesa_delta.specs.Spread.{blocks_of}
+use Rattle.mesa_open_files.specs.mesa_delta_format.Spread.{blocks_of}
 use Rattle.mesa_delta.specs.declared.input.Input.{Input}
 use Rattle.mesa_scan.proofs.Lifted.{lifts_all}
 use Rattle.mesa_merge.specs.Inputs.{IsTold, Known, known_of}

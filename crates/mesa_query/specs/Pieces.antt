@@ -8,7 +8,7 @@ use Rattle.mesa_schema.specs.Lifting.{Lifts}
 use Rattle.mesa_schema.specs.Lineages.{IsLineage}
 use Rattle.mesa_filter.specs.Filter.{KeyFilter, filtered}
 use Rattle.mesa_delta.specs.Ahead.{Untested}
-use Rattle.mesa_delta.specs.Spread.{blocks_of}
+use Rattle.mesa_open_files.specs.mesa_delta_format.Spread.{blocks_of}
 use Rattle.mesa_merge.specs.Inputs.{IsTold, Known, lifted_in}
 use Rattle.mesa_query.specs.declared.decoding.Decoding.{Decoding}
 use Rattle.mesa_query.specs.declared.pieces.Piece.{Piece}

@@ -9,8 +9,8 @@ use Rattle.mesa_disk.specs.Story.{Story, Spans, Unmoved}
 use Rattle.mesa_disk.specs.declared.area.Area.{Area}
 use Rattle.mesa_disk.proofs.Run.{spans_on}
 use Rattle.mesa_journal.proofs.Live.{one_live, same_live}
-use Rattle.mesa_catalog.specs.mesa_commit.Holding.{Among}
-use Rattle.mesa_catalog.specs.mesa_commit.Filed.{AreFresh, AreNamedOrWait, FilesAdopted}
+use Rattle.mesa_store.specs.mesa_commit.Holding.{Among}
+use Rattle.mesa_store.specs.mesa_commit.Filed.{AreFresh, AreNamedOrWait, FilesAdopted}
 use Rattle.mesa_store.proofs.mesa_commit.Filing.{filed_first}
 use Rattle.mesa_record.specs.Reading.{record_at}
 use Rattle.mesa_store_spec.specs.Catalog.{Catalog, applied}
@@ -19,7 +19,7 @@ use Rattle.mesa_store_spec.specs.Journaled.{catalog}
 use Rattle.mesa_store_spec.proofs.Wholes.{catalog_whole}
 use Rattle.std.specs.List.{AllByRecursion}
 use Rattle.mesa_store_spec.specs.Contents.{Rows, kept_of}
-use Rattle.mesa_catalog.specs.mesa_commit.Images.{Has}
+use Rattle.mesa_store.specs.mesa_commit.Images.{Has}
 use Rattle.mesa_store_spec.specs.Sound.{HaveSoundRows, StandsFor, wants}
 use Rattle.mesa_store_spec.specs.Held.{IsHeld, IsStep, StandsForEither}
 use Rattle.mesa_store_spec.specs.Ids.{HasOwnIds, named, times}

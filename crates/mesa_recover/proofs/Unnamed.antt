@@ -11,9 +11,9 @@ use Rattle.mesa_disk.specs.Image.{Image, file_of}
 use Rattle.mesa_disk.specs.Files.{AreGone, IsNoneOf}
 use Rattle.mesa_disk.specs.Story.{Story, Steps}
 use Rattle.mesa_disk.proofs.Rounds.{not_equal}
-use Rattle.mesa_catalog.specs.mesa_commit.Turn.{MovesOnly}
-use Rattle.mesa_catalog.specs.mesa_commit.Holding.{Among}
-use Rattle.mesa_catalog.specs.mesa_commit.Filed.{AreNamedOrWait}
+use Rattle.mesa_store.specs.mesa_commit.Turn.{MovesOnly}
+use Rattle.mesa_store.specs.mesa_commit.Holding.{Among}
+use Rattle.mesa_store.specs.mesa_commit.Filed.{AreNamedOrWait}
 use Rattle.mesa_store_spec.specs.Catalog.{Catalog}
 use Rattle.mesa_store_spec.specs.Fitting.{LiveFile, has_number, live_files, live_id}
 use Rattle.mesa_store_spec.specs.Held.{IsUnnamed}

@@ -11,10 +11,10 @@ use Rattle.mesa_disk.specs.declared.area.Area.TheVariants.{Zero, One}
 use Rattle.mesa_journal.specs.Journal.{frames}
 use Rattle.mesa_journal.specs.Areas.{HasJournal, IsDamagedIn}
 use Rattle.mesa_record.specs.declared.record.Record.{Record}
-use Rattle.mesa_record.specs.mesa_record_fields.declared.error.RecordError.{RecordError}
-use Rattle.mesa_record.specs.mesa_record_fields.declared.error.RecordError.TheVariants as fault
+use Rattle.mesa_store_spec.specs.mesa_record_fields.declared.error.RecordError.{RecordError}
+use Rattle.mesa_store_spec.specs.mesa_record_fields.declared.error.RecordError.TheVariants as fault
 use Rattle.mesa_record.specs.Reading.{record_at}
-use Rattle.mesa_catalog_table.specs.mesa_delta.Damages.{IsWrongLength, IsWrongDigest}
+use Rattle.mesa_delta.specs.Damages.{IsWrongLength, IsWrongDigest}
 use Rattle.mesa_store_spec.specs.Catalog.{Catalog}
 use Rattle.mesa_store_spec.specs.Fitting.{fits}
 use Rattle.mesa_store_spec.specs.Journaled.{catalog, first_body}

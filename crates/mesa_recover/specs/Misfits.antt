@@ -1,8 +1,8 @@
 -- Which refusal a body of the journal gives.
 use Rattle.std.specs.Prelude.{◌≡◌, ◌⊎◌, ℕ, List}
 use Rattle.mesa_store_spec.specs.mesa_file.declared.damage.Seen.TheVariants as seen
-use Rattle.mesa_record.specs.mesa_record_fields.declared.error.RecordError.{RecordError}
-use Rattle.mesa_record.specs.mesa_record_fields.declared.error.RecordError.TheVariants as fault
+use Rattle.mesa_store_spec.specs.mesa_record_fields.declared.error.RecordError.{RecordError}
+use Rattle.mesa_store_spec.specs.mesa_record_fields.declared.error.RecordError.TheVariants as fault
 use Rattle.mesa_journal.specs.declared.reading.JournalError.{JournalError}
 use Rattle.mesa_journal.specs.declared.reading.JournalError.TheVariants as journal
 use Rattle.mesa_recover.specs.declared.error.OpenError.{OpenError}

@@ -4,7 +4,7 @@ ghost use Rattle.mesa_store.specs.mesa_key.Spelling.{AreBytes};
 ghost use Rattle.mesa_disk.specs.Image.{Image as AnyImage};
 ghost use Rattle.mesa_disk.specs.Story.{Spans, Unmoved};
 ghost use Rattle.mesa_journal.specs.Areas.{number_of};
-ghost use Rattle.mesa_catalog.specs.mesa_commit.Filed.{AreNamedOrWait, FilesAdopted};
+ghost use Rattle.mesa_store.specs.mesa_commit.Filed.{AreNamedOrWait, FilesAdopted};
 ghost use Rattle.mesa_record.specs.Reading.{record_at};
 ghost use Rattle.mesa_record.specs.Rules.{keeps_rules};
 ghost use Rattle.mesa_store_spec.specs.Catalog.{applied};

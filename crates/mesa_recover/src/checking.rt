@@ -6,7 +6,7 @@ ghost use Rattle.mesa_store.specs.mesa_io.Causes.{HasFaultCause};
 ghost use Rattle.mesa_store_spec.specs.mesa_file.declared.damage.Damage.{Damage as AnyDamage};
 ghost use Rattle.mesa_disk.specs.Image.{Image, file_of};
 ghost use Rattle.mesa_disk.specs.Story.{Unmoved};
-ghost use Rattle.mesa_catalog_table.specs.mesa_delta.Damages.{IsWrongLength, IsWrongDigest};
+ghost use Rattle.mesa_delta.specs.Damages.{IsWrongLength, IsWrongDigest};
 ghost use Rattle.mesa_recover.specs.declared.error.OpenError.TheVariants as open_error;
 ghost use Rattle.mesa_recover.specs.Damages.{IsAsRecorded, IsFileDamage, IsFirstDamage};
 ghost use Rattle.mesa_recover.specs.Checking.{HasSound, Counts, IsOfFiles};

@@ -5,7 +5,7 @@ ghost use Rattle.mesa_store.specs.mesa_io.Causes.{HasCause};
 ghost use Rattle.mesa_disk.specs.Image.{Image as AnyImage, area_of};
 ghost use Rattle.mesa_disk.specs.Story.{Spans};
 ghost use Rattle.mesa_journal.specs.Areas.{holds_body, other_of};
-ghost use Rattle.mesa_catalog.specs.mesa_commit.Filed.{AreNamedOrWait};
+ghost use Rattle.mesa_store.specs.mesa_commit.Filed.{AreNamedOrWait};
 ghost use Rattle.mesa_record.specs.Reading.{record_at};
 ghost use Rattle.mesa_record.specs.Rules.{keeps_rules};
 ghost use Rattle.mesa_store_spec.specs.Catalog.{Catalog as AnyCatalog, applied};

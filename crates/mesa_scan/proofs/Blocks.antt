@@ -19,7 +19,7 @@ use Rattle.mesa_schema.specs.Lineages.{IsLineage}
 use Rattle.mesa_delta.specs.mesa_columns.Rows.{AreRowsOf}
 use Rattle.mesa_filter.specs.Filter.{KeyFilter, filtered, meets}
 use Rattle.mesa_delta.specs.Reading.{index_of}
-use Rattle.mesa_delta.specs.Spread.{blocks_of}
+use Rattle.mesa_delta.specs.mesa_delta_format.Spread.{blocks_of}
 use Rattle.mesa_delta.specs.declared.input.Input.{Input}
 use Rattle.mesa_scan.specs.Cursors.{lift_by}
 use Rattle.mesa_scan.proofs.Lifted.{rows_push}

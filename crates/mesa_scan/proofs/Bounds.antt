@@ -4,14 +4,14 @@ use Rattle.std.specs.Prelude.{map, if◌then◌else◌}
 use Rattle.mesa_delta.specs.mesa_columns.declared.rows.Row.{Row}
 use Rattle.mesa_block.specs.Layout.{Layout}
 use Rattle.mesa_block.specs.Spelling.{block}
-use Rattle.mesa_delta.specs.declared.place.Entry.{Entry}
-use Rattle.mesa_delta.specs.Beginning.{bounds_of, first_short}
-use Rattle.mesa_delta.specs.Indexed.{Indexed, IsIndex}
-use Rattle.mesa_delta.specs.Places.{entry_of, places, short_of}
+use Rattle.mesa_delta.specs.mesa_delta_format.declared.place.Entry.{Entry}
+use Rattle.mesa_delta.specs.mesa_delta_format.Beginning.{bounds_of, first_short}
+use Rattle.mesa_delta.specs.mesa_delta_format.Indexed.{Indexed, IsIndex}
+use Rattle.mesa_delta.specs.mesa_delta_format.Places.{entry_of, places, short_of}
 use Rattle.mesa_delta.specs.Reading.{IsIndexed}
-use Rattle.mesa_delta.specs.Spread.{blocks_of}
+use Rattle.mesa_delta.specs.mesa_delta_format.Spread.{blocks_of}
 use Rattle.mesa_delta.proofs.Indexing.{is_same}
-use Rattle.mesa_delta.proofs.Packing.{FitsAlone}
+use Rattle.mesa_delta.proofs.mesa_delta_format.Packing.{FitsAlone}
 use Rattle.mesa_filter.specs.Filter.{KeyFilter}
 use Rattle.mesa_scan.specs.Allowing.{allowed_among, allows_block, bounds_in}
 

@@ -14,9 +14,9 @@ use Rattle.mesa_delta.specs.mesa_columns.Rows.{AreRowsOf, keys_rise}
 use Rattle.mesa_filter.proofs.mesa_fold.Folds.{rows_of-append}
 use Rattle.mesa_block.specs.Layout.{Layout}
 use Rattle.mesa_delta.specs.Reading.{IsIndexed, index_of}
-use Rattle.mesa_delta.specs.Spread.{blocks_of}
+use Rattle.mesa_delta.specs.mesa_delta_format.Spread.{blocks_of}
 use Rattle.mesa_delta.specs.declared.input.Input.{Input}
-use Rattle.mesa_delta.proofs.Packing.{blocks_rows}
+use Rattle.mesa_delta.proofs.mesa_delta_format.Packing.{blocks_rows}
 use Rattle.mesa_scan.specs.declared.cursor.Cursor.{Cursor}
 use Rattle.mesa_scan.specs.Cursors.{HasGiven, HasGivenFrom, IsAllOf, IsReady, at_hand, lift_by, reader_in}
 use Rattle.mesa_scan.specs.Cut.{cut, lies_in}

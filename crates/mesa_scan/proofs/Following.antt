@@ -8,11 +8,11 @@ use Rattle.mesa_delta.specs.mesa_key.Order.{byte_cmp}
 use Rattle.mesa_delta.specs.mesa_columns.declared.rows.Row.{Row}
 use Rattle.mesa_delta.specs.mesa_fold.Folded.{rows_of}
 use Rattle.mesa_delta.specs.mesa_columns.Rows.{keys_rise}
-use Rattle.mesa_delta.specs.Indexed.{Indexed}
-use Rattle.mesa_delta.specs.Packing.{last_part}
+use Rattle.mesa_delta.specs.mesa_delta_format.Indexed.{Indexed}
+use Rattle.mesa_delta.specs.mesa_delta_format.Packing.{last_part}
 use Rattle.mesa_delta.specs.Reading.{IsBlock}
-use Rattle.mesa_delta.specs.Summary.{last_key}
-use Rattle.mesa_delta.specs.Tail.{first_key}
+use Rattle.mesa_delta.specs.mesa_delta_format.Summary.{last_key}
+use Rattle.mesa_delta.specs.mesa_delta_format.Tail.{first_key}
 use Rattle.mesa_scan.specs.Cursors.{AreBlocks, comes_behind}
 use Rattle.mesa_scan.proofs.Cuts.{rise_tail}
 

@@ -17,17 +17,17 @@ use Rattle.mesa_delta.specs.mesa_columns.Lifting.{lifted_with}
 use Rattle.mesa_schema.specs.Lineages.{IsLineage}
 use Rattle.mesa_delta.specs.mesa_columns.Rows.{AreRowsOf, keys_rise}
 use Rattle.mesa_filter.proofs.mesa_fold.Folds.{rows_of-append}
-use Rattle.mesa_delta.specs.Indexed.{Indexed}
-use Rattle.mesa_delta.specs.Packing.{last_part}
+use Rattle.mesa_delta.specs.mesa_delta_format.Indexed.{Indexed}
+use Rattle.mesa_delta.specs.mesa_delta_format.Packing.{last_part}
 use Rattle.mesa_block.specs.Spelling.{block}
-use Rattle.mesa_delta.specs.Places.{entry_of, places}
+use Rattle.mesa_delta.specs.mesa_delta_format.Places.{entry_of, places}
 use Rattle.mesa_delta.specs.Reading.{HasRead, IsBlock, IsIndexed, IsOver, IsReaderOf, IsRun, IsWhole, index_of, reader_of}
-use Rattle.mesa_delta.specs.Spread.{blocks_of}
-use Rattle.mesa_delta.specs.Summary.{last_key}
-use Rattle.mesa_delta.specs.Tail.{first_key}
+use Rattle.mesa_delta.specs.mesa_delta_format.Spread.{blocks_of}
+use Rattle.mesa_delta.specs.mesa_delta_format.Summary.{last_key}
+use Rattle.mesa_delta.specs.mesa_delta_format.Tail.{first_key}
 use Rattle.mesa_delta.specs.declared.input.Input.{Input}
 use Rattle.mesa_delta.specs.declared.reader.DeltaReader.{DeltaReader}
-use Rattle.mesa_delta.proofs.Packing.{blocks_rows}
+use Rattle.mesa_delta.proofs.mesa_delta_format.Packing.{blocks_rows}
 use Rattle.mesa_scan.specs.declared.cursor.Cursor.{Cursor}
 use Rattle.mesa_scan.specs.Cursors.{AreBlocks, HasGivenFrom, IsFall, IsInput, IsSameInput, at_hand, block_of, comes_behind, lift_by, lift_of, low_of, next_of, reader_in}
 use Rattle.mesa_scan.specs.Cut.{cut}

@@ -15,13 +15,13 @@ use Rattle.mesa_schema.specs.Lineages.{IsLineage}
 use Rattle.mesa_delta.specs.mesa_columns.Rows.{AreRowsOf, IsRowOf}
 use Rattle.mesa_filter.specs.Filter.{KeyFilter, filtered, meets}
 use Rattle.mesa_filter.specs.Pruning.{NoneMeets}
-use Rattle.mesa_delta.specs.Beginning.{KeysBetween}
-use Rattle.mesa_delta.specs.Indexed.{Indexed, IsIndex}
+use Rattle.mesa_delta.specs.mesa_delta_format.Beginning.{KeysBetween}
+use Rattle.mesa_delta.specs.mesa_delta_format.Indexed.{Indexed, IsIndex}
 use Rattle.mesa_delta.specs.Reading.{IsBlock, IsIndexed, buffer_of, index_of, reader_of}
-use Rattle.mesa_delta.specs.Spread.{blocks_of}
+use Rattle.mesa_delta.specs.mesa_delta_format.Spread.{blocks_of}
 use Rattle.mesa_delta.specs.declared.input.Input.{Input}
 use Rattle.mesa_delta.specs.declared.reader.DeltaReader.{DeltaReader}
-use Rattle.mesa_delta.proofs.Packing.{FitsAlone}
+use Rattle.mesa_delta.proofs.mesa_delta_format.Packing.{FitsAlone}
 use Rattle.mesa_scan.specs.Cursors.{IsInput, IsSameInput, lift_by, reader_in}
 use Rattle.mesa_scan.proofs.Lifted.{block_forms, lifts_all}
 use Rattle.mesa_scan.specs.declared.scanning.Scan.{Scan}

@@ -7,11 +7,11 @@ use Rattle.mesa_delta.specs.mesa_columns.declared.rows.Row.{Row}
 use Rattle.mesa_schema.specs.Changes.{columns_of}
 use Rattle.mesa_delta.specs.mesa_fold.Folded.{rows_of}
 use Rattle.mesa_filter.specs.Filter.{KeyFilter, filtered}
-use Rattle.mesa_delta.specs.Indexed.{Indexed}
+use Rattle.mesa_delta.specs.mesa_delta_format.Indexed.{Indexed}
 use Rattle.mesa_delta.specs.Reading.{IsBlockDamage, IsIndexed, index_of}
-use Rattle.mesa_delta.specs.Spread.{blocks_of}
+use Rattle.mesa_delta.specs.mesa_delta_format.Spread.{blocks_of}
 use Rattle.mesa_delta.specs.declared.input.Input.{Input}
-use Rattle.mesa_delta.proofs.Packing.{blocks_rows}
+use Rattle.mesa_delta.proofs.mesa_delta_format.Packing.{blocks_rows}
 use Rattle.mesa_scan.specs.Cursors.{IsSameInput, lift_by, reader_in}
 use Rattle.mesa_scan.specs.declared.scanning.Scan.{Scan}
 use Rattle.mesa_scan.specs.Damaged.{IsDamaged}

@@ -15,7 +15,7 @@ use Rattle.mesa_delta.specs.mesa_fold.Laws.{AreUnder}
 use Rattle.mesa_schema.specs.Laws.{LiftedForms}
 use Rattle.mesa_schema.specs.Lineages.{IsLineage}
 use Rattle.mesa_delta.specs.mesa_columns.Rows.{AreRowsOf, IsRowOf, keys_rise}
-use Rattle.mesa_delta.specs.Indexed.{Indexed}
+use Rattle.mesa_delta.specs.mesa_delta_format.Indexed.{Indexed}
 use Rattle.mesa_delta.specs.Reading.{index_of}
 use Rattle.mesa_delta.specs.declared.input.Input.{Input}
 use Rattle.mesa_scan.specs.declared.cursor.Cursor.{Cursor}

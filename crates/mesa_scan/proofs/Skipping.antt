@@ -19,12 +19,12 @@ use Rattle.mesa_filter.specs.declared.terms.Term.{Term}
 use Rattle.mesa_filter.specs.Filter.{KeyFilter, filtered, meets}
 use Rattle.mesa_filter.specs.Pruning.{NoneMeets, lies_between}
 use Rattle.mesa_block.specs.Rows.{AreRows}
-use Rattle.mesa_delta.specs.Beginning.{KeysBetween, LiesBetween, bounds_of}
-use Rattle.mesa_delta.specs.Indexed.{IsIndex}
+use Rattle.mesa_delta.specs.mesa_delta_format.Beginning.{KeysBetween, LiesBetween, bounds_of}
+use Rattle.mesa_delta.specs.mesa_delta_format.Indexed.{IsIndex}
 use Rattle.mesa_delta.specs.Reading.{IsIndexed, index_of}
-use Rattle.mesa_delta.specs.Spread.{blocks_of}
+use Rattle.mesa_delta.specs.mesa_delta_format.Spread.{blocks_of}
 use Rattle.mesa_delta.specs.declared.input.Input.{Input}
-use Rattle.mesa_delta.proofs.Packing.{FitsAlone, blocks_good}
+use Rattle.mesa_delta.proofs.mesa_delta_format.Packing.{FitsAlone, blocks_good}
 use Rattle.mesa_scan.specs.Cursors.{lift_by}
 use Rattle.mesa_scan.proofs.Lifted.{block_forms}
 use Rattle.mesa_scan.specs.Allowing.{bounds_in}

@@ -20,9 +20,9 @@ use Rattle.mesa_delta.specs.mesa_columns.Rows.{AreRowsOf, IsRowOf}
 use Rattle.mesa_filter.proofs.mesa_fold.Folds.{rows_of-append}
 use Rattle.mesa_block.specs.Layout.{Layout}
 use Rattle.mesa_delta.specs.Reading.{IsIndexed, index_of}
-use Rattle.mesa_delta.specs.Spread.{blocks_of}
+use Rattle.mesa_delta.specs.mesa_delta_format.Spread.{blocks_of}
 use Rattle.mesa_delta.specs.declared.input.Input.{Input}
-use Rattle.mesa_delta.proofs.Packing.{blocks_rows}
+use Rattle.mesa_delta.proofs.mesa_delta_format.Packing.{blocks_rows}
 use Rattle.mesa_scan.specs.Cursors.{IsInput, lift_by}
 use Rattle.mesa_scan.specs.Cut.{cut}
 use Rattle.mesa_scan.proofs.Cuts.{all_both, none_from}

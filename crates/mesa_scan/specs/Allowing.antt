@@ -4,8 +4,8 @@ use Rattle.std.specs.Ordering.{is_gt}
 use Rattle.mesa_delta.specs.mesa_key.Order.{byte_cmp}
 use Rattle.mesa_filter.specs.Filter.{KeyFilter}
 use Rattle.mesa_filter.specs.Walk.{may_meet_from}
-use Rattle.mesa_delta.specs.Indexed.{Indexed}
-use Rattle.mesa_delta.specs.Places.{short_of}
+use Rattle.mesa_delta.specs.mesa_delta_format.Indexed.{Indexed}
+use Rattle.mesa_delta.specs.mesa_delta_format.Places.{short_of}
 
 -- The first key columns of a row between two short keys may meet a filter. Short keys that fall, which no sound file has, rule nothing out.
 abbrev pub is_allowed : KeyFilter → ℕ → List ℕ → List ℕ → Bool

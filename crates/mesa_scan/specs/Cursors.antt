@@ -13,13 +13,13 @@ use Rattle.mesa_schema.specs.Lifting.{Lifts}
 use Rattle.mesa_schema.specs.Lineages.{IsLineage}
 use Rattle.mesa_delta.specs.mesa_columns.Rows.{keys_rise}
 use Rattle.mesa_block.specs.Rows.{most_rows}
-use Rattle.mesa_delta.specs.Indexed.{Indexed}
-use Rattle.mesa_delta.specs.Packing.{last_part}
-use Rattle.mesa_delta.specs.Places.{entry_of}
+use Rattle.mesa_delta.specs.mesa_delta_format.Indexed.{Indexed}
+use Rattle.mesa_delta.specs.mesa_delta_format.Packing.{last_part}
+use Rattle.mesa_delta.specs.mesa_delta_format.Places.{entry_of}
 use Rattle.mesa_delta.specs.Reading.{HasRead, IsBlock, IsBlockDamage, IsIndexed, IsReaderOf, IsWhole, index_of, reader_of}
-use Rattle.mesa_delta.specs.Spread.{blocks_of}
-use Rattle.mesa_delta.specs.Summary.{last_key}
-use Rattle.mesa_delta.specs.Tail.{first_key}
+use Rattle.mesa_delta.specs.mesa_delta_format.Spread.{blocks_of}
+use Rattle.mesa_delta.specs.mesa_delta_format.Summary.{last_key}
+use Rattle.mesa_delta.specs.mesa_delta_format.Tail.{first_key}
 use Rattle.mesa_delta.specs.declared.input.Input.{Input}
 use Rattle.mesa_scan.specs.Cut.{cut}
 use Rattle.mesa_scan.specs.declared.cursor.Cursor.{Cursor}

@@ -8,7 +8,7 @@ use Rattle.mesa_schema.specs.Lifting.{Lifts}
 use Rattle.mesa_delta.specs.mesa_columns.Rows.{AreRowsOf}
 use Rattle.mesa_filter.specs.Filter.{KeyFilter, filtered}
 use Rattle.mesa_delta.specs.Reading.{IsIndexed, index_of}
-use Rattle.mesa_delta.specs.Spread.{blocks_of}
+use Rattle.mesa_delta.specs.mesa_delta_format.Spread.{blocks_of}
 use Rattle.mesa_delta.specs.declared.input.Input.{Input}
 use Rattle.mesa_scan.specs.Cursors.{IsInput, lift_by, reader_in}
 use Rattle.mesa_scan.specs.declared.scanning.Scan.{Scan}

@@ -4,7 +4,7 @@ ghost use Rattle.mesa_delta.specs.mesa_columns.declared.rows.Row.{Row as AnyRow}
 ghost use Rattle.mesa_delta.specs.mesa_fold.Folded.{rows_of};
 ghost use Rattle.mesa_delta.specs.mesa_columns.Rows.{keys_rise};
 ghost use Rattle.mesa_delta.specs.Reading.{IsIndexed, index_of};
-ghost use Rattle.mesa_delta.specs.Spread.{blocks_of};
+ghost use Rattle.mesa_delta.specs.mesa_delta_format.Spread.{blocks_of};
 ghost use Rattle.mesa_scan.specs.Cursors.{IsInput, comes_behind, lift_by, reader_in};
 ghost use Rattle.mesa_scan.specs.Cut.{cut};
 

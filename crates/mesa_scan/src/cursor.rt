@@ -11,7 +11,7 @@ ghost use Rattle.mesa_delta.specs.mesa_columns.Lent.{lent};
 ghost use Rattle.mesa_delta.specs.mesa_columns.Rows.{AreRowsOf, keys_rise};
 ghost use Rattle.mesa_delta.specs.declared.error.FileError.TheVariants as file_error;
 ghost use Rattle.mesa_delta.specs.Ahead.{AreOfFile};
-ghost use Rattle.mesa_delta.specs.Places.{entry_of};
+ghost use Rattle.mesa_delta.specs.mesa_delta_format.Places.{entry_of};
 ghost use Rattle.mesa_delta.specs.Reading.{IsBlockDamage, IsIndexed, index_of};
 ghost use Rattle.mesa_scan.specs.Cursors.{HasGiven, HasGivenFrom, IsAllOf, IsDamageFrom, IsInput, IsReady, IsSameInput, IsStill, at_hand, lift_by, low_of, next_of, reader_in};
 ghost use Rattle.mesa_scan.specs.Cut.{cut, is_from};

@@ -13,13 +13,12 @@ use Rattle.mesa_columns.proofs.Lists.{all_so}
 use Rattle.mesa_check.specs.mesa_block.Layout.{Layout}
 use Rattle.mesa_check.specs.mesa_block.Spelling.{block}
 use Rattle.mesa_disk.specs.Image.{Image, file_of}
-use Rattle.mesa_delta.specs.File.{file_bytes, file_tail}
-use Rattle.mesa_delta.specs.Indexed.{tail_length}
-use Rattle.mesa_delta.specs.Reading.{tail_place}
-use Rattle.mesa_delta.specs.Spread.{blocks_of}
-use Rattle.mesa_delta.specs.Tail.{entries, entry, first_key, foot}
-use Rattle.mesa_delta.proofs.Placed.{laid}
-use Rattle.mesa_delta.proofs.Tailing.{foot_long}
+use Rattle.mesa_check.specs.mesa_delta_format.File.{file_bytes, file_tail}
+use Rattle.mesa_check.specs.mesa_delta_format.Indexed.{tail_length, tail_place}
+use Rattle.mesa_check.specs.mesa_delta_format.Spread.{blocks_of}
+use Rattle.mesa_check.specs.mesa_delta_format.Tail.{entries, entry, first_key, foot}
+use Rattle.mesa_delta.proofs.mesa_delta_format.Placed.{laid}
+use Rattle.mesa_delta.proofs.mesa_delta_format.Tailing.{foot_long}
 use Rattle.mesa_session.specs.mesa_history_spec.Rows.{Rows}
 use Rattle.mesa_engine.specs.mesa_commit.Images.{Has}
 use Rattle.mesa_engine.specs.mesa_store_spec.Catalog.{Catalog}

@@ -9,8 +9,8 @@ use Rattle.std.specs.Prelude.{Option, None, Some, IfNone, IfSome, slice_get, ifâ
 use Rattle.std.specs.List.{AllByRecursion, Contains, range_with_len}
 use Rattle.mesa_compact.specs.mesa_scan.Cut.{CutsRise, IsLow}
 use Rattle.mesa_merge.proofs.mesa_scan.Cutting.{is_less}
-use Rattle.mesa_delta.specs.Indexed.{Indexed}
-use Rattle.mesa_delta.specs.Places.{shorts_of}
+use Rattle.mesa_compact.specs.mesa_delta_format.Indexed.{Indexed}
+use Rattle.mesa_compact.specs.mesa_delta_format.Places.{shorts_of}
 use Rattle.mesa_delta.specs.Reading.{index_of}
 use Rattle.mesa_delta.specs.declared.input.Input.{Input}
 use Rattle.mesa_split.specs.Sampling.{AreCutsOf, ArePieceCuts, AreRounds, HasMost, end_of, indexes_of, lies_above, part_key, risen, spread, with_key}

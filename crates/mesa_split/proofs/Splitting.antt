@@ -13,8 +13,8 @@ use Rattle.mesa_schema.proofs.PresentRows.{present_form}
 use Rattle.mesa_batch.specs.Bound.{FoldsTotals}
 use Rattle.mesa_compact.specs.mesa_block.Layout.{Layout}
 use Rattle.mesa_compact.specs.mesa_block.Rows.{IsRow}
-use Rattle.mesa_delta.specs.Indexed.{IsIndexOf}
-use Rattle.mesa_delta.specs.Summary.{file_layout}
+use Rattle.mesa_compact.specs.mesa_delta_format.Indexed.{IsIndexOf}
+use Rattle.mesa_compact.specs.mesa_delta_format.Summary.{file_layout}
 use Rattle.mesa_delta.specs.declared.input.Input.{Input}
 use Rattle.mesa_compact.specs.mesa_scan.Cursors.{IsInput, lift_by}
 use Rattle.mesa_merge.proofs.mesa_scan.Cutting.{cut_none}

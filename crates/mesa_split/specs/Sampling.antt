@@ -3,8 +3,8 @@ use Rattle.std.specs.Prelude.{◌≡◌, ◌⊎◌, ℕ, ◌+◌, ◌*◌, ◌/�
 use Rattle.std.specs.List.{AllByRecursion, Contains, range_with_len}
 use Rattle.std.specs.Ordering.{is_lt}
 use Rattle.mesa_key.specs.Order.{byte_cmp}
-use Rattle.mesa_delta.specs.Indexed.{Indexed}
-use Rattle.mesa_delta.specs.Places.{shorts_of}
+use Rattle.mesa_compact.specs.mesa_delta_format.Indexed.{Indexed}
+use Rattle.mesa_compact.specs.mesa_delta_format.Places.{shorts_of}
 use Rattle.mesa_delta.specs.Reading.{index_of}
 use Rattle.mesa_delta.specs.declared.input.Input.{Input}
 

@@ -1,6 +1,6 @@
 // Keys at which a range is cut into parts.
 ghost use Rattle.std.specs.Prelude.{◌≡◌, ◌≤◌, ◌<◌, ◌-◌, ◌⊎◌, [], IfNone, IfOk, IfSome, OnOk, None, length};
-ghost use Rattle.mesa_delta.specs.Places.{shorts_of};
+ghost use Rattle.mesa_compact.specs.mesa_delta_format.Places.{shorts_of};
 ghost use Rattle.mesa_compact.specs.mesa_scan.Cut.{CutsRise};
 ghost use Rattle.mesa_split.specs.Sampling.{AreCutsOf, ArePieceCuts, AreRounds, HasMost, end_of, indexes_of, lies_above, part_key, risen, spread, with_key};
 

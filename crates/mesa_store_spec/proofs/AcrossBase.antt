@@ -1,16 +1,16 @@
 -- A store of a replaced value: three batches, of which the first two are merged into a base.
-use Rattle.mesa_delta.specs.mesa_key.declared.Format.TheVariants as format
+use Rattle.mesa_delta_format.specs.mesa_key.declared.Format.TheVariants as format
 use Rattle.std.proofs.Common.{◌≡◌, refl, ℕ, List, [], ◌∷◌, ◌++◌, Some, None}
 use Rattle.std.specs.Prelude.{pos, ◌==◌, codes, if◌then◌else◌}
-use Rattle.mesa_delta.specs.mesa_value.declared.Agg.TheVariants as agg
-use Rattle.mesa_delta.specs.mesa_key.declared.KeyType.TheVariants as kind
+use Rattle.mesa_delta_format.specs.mesa_value.declared.Agg.TheVariants as agg
+use Rattle.mesa_delta_format.specs.mesa_key.declared.KeyType.TheVariants as kind
 use Rattle.mesa_history_spec.specs.mesa_columns.declared.rows.Row.{Row}
 use Rattle.mesa_history_spec.specs.mesa_schema.Changes.{Lineage}
 use Rattle.mesa_history_spec.specs.mesa_file.declared.file_ref.FileRef.{FileRef}
 use Rattle.mesa_record.specs.mesa_record_fields.Reading.{file_ref_at}
 use Rattle.mesa_record.specs.Reading.{fields_of, files_at}
 use Rattle.mesa_record.specs.mesa_record_fields.Reading as reading_below
-use Rattle.mesa_delta.specs.mesa_disk.declared.area.Area.TheVariants.{Zero}
+use Rattle.mesa_commit.specs.mesa_disk.declared.area.Area.TheVariants.{Zero}
 use Rattle.mesa_store_spec.specs.Catalog.{Catalog, Delta}
 use Rattle.mesa_store_spec.specs.Fitting.{fits, catalog_from}
 use Rattle.mesa_store_spec.specs.Journaled.{catalog}

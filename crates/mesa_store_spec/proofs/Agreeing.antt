@@ -11,8 +11,8 @@ use Rattle.mesa_history_spec.specs.mesa_fold.Folded.{folded, rows_of}
 use Rattle.mesa_history_spec.specs.mesa_batch.Totals.{AreAtMost, abs_totals}
 use Rattle.mesa_record.specs.declared.record.Files.{Files}
 use Rattle.mesa_record.specs.declared.record.ViewRef.{ViewRef}
-use Rattle.mesa_delta.specs.File.{IsFile, file_bytes}
-use Rattle.mesa_delta.specs.Summary.{IsReferenceOf}
+use Rattle.mesa_delta_format.specs.File.{IsFile, file_bytes}
+use Rattle.mesa_delta_format.specs.Summary.{IsReferenceOf}
 use Rattle.mesa_store_spec.specs.Catalog.{Delta, Ending, TableMeta, Catalog, ranges_of, start_in}
 use Rattle.mesa_store_spec.specs.Fitting.{LiveFile, base_deltas, delta_in, deltas_of, delta_live, meta_live, live_files, view_live}
 use Rattle.mesa_store_spec.specs.Contents.{Rows, rows_in, present, deltas_to, content, table_of, kept_of}

@@ -3,10 +3,10 @@ use Rattle.std.proofs.Common.{◌≡◌, ℕ, ◌<◌, List, length, true, Some,
 use Rattle.std.proofs.lemmas.Bool.{and_from}
 use Rattle.std.proofs.lemmas.Bool.Decides.{nat_tests}
 use Rattle.std.specs.List.{AllByRecursion}
-use Rattle.mesa_delta.specs.mesa_key.Spelling.{AreBytes}
+use Rattle.mesa_delta_format.specs.mesa_key.Spelling.{AreBytes}
 use Rattle.mesa_history_spec.specs.mesa_schema.Changes.{columns_of}
 use Rattle.mesa_history_spec.specs.mesa_schema.Recasts.{Recast, recast_checked, recast_columns}
-use Rattle.mesa_delta.specs.mesa_disk.declared.area.Area.{Area}
+use Rattle.mesa_commit.specs.mesa_disk.declared.area.Area.{Area}
 use Rattle.mesa_history_spec.specs.Sources.{Written}
 use Rattle.mesa_record.specs.declared.record.Record.TheVariants as record_of
 use Rattle.mesa_store_spec.specs.Catalog.{Catalog, meta_at}

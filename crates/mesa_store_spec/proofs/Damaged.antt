@@ -1,11 +1,11 @@
 -- Journals that end in the midst of a record: behind a gate that isn't open what follows is no matter, behind an open one it is damage.
 use Rattle.std.proofs.Common.{◌≡◌, refl, ℕ, ◌<◌, ◌≤◌, ◌^◌, List, [], ◌∷◌, ◌++◌, Some, inl, inr, arith}
 use Rattle.std.specs.FinMap.{empty}
-use Rattle.mesa_delta.specs.mesa_disk.Image.{Image}
+use Rattle.mesa_commit.specs.mesa_disk.Image.{Image}
 use Rattle.mesa_commit.specs.mesa_journal.Journal.{Closed, IsDamaged, frames, word, of_word}
 use Rattle.mesa_record.specs.Reading.{fields_of}
 use Rattle.mesa_record.specs.mesa_record_fields.Reading as reading_below
-use Rattle.mesa_delta.specs.mesa_disk.declared.area.Area.TheVariants.{Zero}
+use Rattle.mesa_commit.specs.mesa_disk.declared.area.Area.TheVariants.{Zero}
 use Rattle.mesa_store_spec.specs.Catalog.{empty_catalog}
 use Rattle.mesa_store_spec.specs.Fitting.{fits, catalog_from}
 use Rattle.mesa_store_spec.specs.Journaled.{catalog}

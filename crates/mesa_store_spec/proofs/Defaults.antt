@@ -1,11 +1,11 @@
 -- A change that was read and is allowed has a default of its column.
 use Rattle.std.proofs.Common.{◌≡◌, is_ok, true, false, Bool, refl}
 use Rattle.mesa_history_spec.specs.mesa_list.Checks.{refuse_unless}
-use Rattle.mesa_delta.specs.mesa_key.declared.KeyType.{KeyType}
-use Rattle.mesa_delta.specs.mesa_key.declared.KeyType.TheVariants as kind
-use Rattle.mesa_delta.specs.mesa_key.declared.KeyValue.{KeyValue}
-use Rattle.mesa_delta.specs.mesa_key.declared.KeyValue.TheVariants as value
-use Rattle.mesa_delta.specs.mesa_key.Spelling.{IsValue}
+use Rattle.mesa_delta_format.specs.mesa_key.declared.KeyType.{KeyType}
+use Rattle.mesa_delta_format.specs.mesa_key.declared.KeyType.TheVariants as kind
+use Rattle.mesa_delta_format.specs.mesa_key.declared.KeyValue.{KeyValue}
+use Rattle.mesa_delta_format.specs.mesa_key.declared.KeyValue.TheVariants as value
+use Rattle.mesa_delta_format.specs.mesa_key.Spelling.{IsValue}
 use Rattle.mesa_history_spec.specs.mesa_columns.declared.changes.Change.{Change}
 use Rattle.mesa_history_spec.specs.mesa_columns.declared.changes.Change.TheVariants.{AddKey, AddValue, DropValue}
 use Rattle.mesa_history_spec.specs.mesa_columns.declared.changes.ChangeError.TheVariants.{BadDefault}

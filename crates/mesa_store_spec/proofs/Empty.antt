@@ -3,7 +3,7 @@ use Rattle.std.proofs.Common.{refl, ◌≤◌, [], inl, arith}
 use Rattle.mesa_history_spec.specs.Found.{kept_of as kept_in_state}
 use Rattle.mesa_history_spec.specs.Run.{nothing_there}
 use Rattle.mesa_history_spec.specs.mesa_model.declared.commands.Script.{Script}
-use Rattle.mesa_delta.specs.mesa_disk.declared.area.Area.TheVariants.{Zero}
+use Rattle.mesa_commit.specs.mesa_disk.declared.area.Area.TheVariants.{Zero}
 use Rattle.mesa_commit.specs.mesa_journal.Journal.{IsJournal}
 use Rattle.mesa_store_spec.specs.Catalog.{empty_catalog}
 use Rattle.mesa_store_spec.specs.Fitting.{catalog_from}

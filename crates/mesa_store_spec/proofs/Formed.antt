@@ -8,9 +8,9 @@ use Rattle.mesa_history_spec.specs.mesa_schema.Lineages.{IsLineage}
 use Rattle.mesa_history_spec.specs.mesa_columns.Rows.{AreRowsOf, IsRowOf}
 use Rattle.mesa_history_spec.proofs.mesa_columns.Lists.{all_append, all_map, all_so}
 use Rattle.mesa_history_spec.proofs.mesa_schema.PresentRows.{present_form}
-use Rattle.mesa_delta.specs.mesa_block.Rows.{IsRow}
+use Rattle.mesa_delta_format.specs.mesa_block.Rows.{IsRow}
 use Rattle.mesa_history_spec.specs.mesa_file.declared.file_ref.FileRef.{FileRef}
-use Rattle.mesa_delta.specs.Summary.{file_layout}
+use Rattle.mesa_delta_format.specs.Summary.{file_layout}
 use Rattle.mesa_record.specs.declared.record.Files.{Files}
 use Rattle.mesa_store_spec.specs.Catalog.{Delta, TableMeta, start_in}
 use Rattle.mesa_store_spec.specs.Fitting.{base_deltas, delta_in, deltas_of, delta_live}

@@ -11,9 +11,9 @@ use Rattle.mesa_history_spec.specs.mesa_schema.Lineages.{IsLineage}
 use Rattle.mesa_history_spec.specs.mesa_columns.Rows.{AreRowsOf, IsRowOf, keys_rise}
 use Rattle.mesa_history_spec.proofs.mesa_columns.Lists.{all_append, all_both, all_filter, all_map, all_so}
 use Rattle.mesa_history_spec.proofs.mesa_schema.PresentRows.{present_rise}
-use Rattle.mesa_delta.specs.mesa_block.Layout.{Layout}
-use Rattle.mesa_delta.specs.mesa_block.Rows.{IsRow}
-use Rattle.mesa_delta.specs.Summary.{file_layout}
+use Rattle.mesa_delta_format.specs.mesa_block.Layout.{Layout}
+use Rattle.mesa_delta_format.specs.mesa_block.Rows.{IsRow}
+use Rattle.mesa_delta_format.specs.Summary.{file_layout}
 use Rattle.mesa_history_spec.specs.mesa_span.Ranges.{Rise, base_before, end_of}
 use Rattle.mesa_history_spec.specs.Sources.{Source, Written, range_rows, source_written, sources_from, version_written}
 use Rattle.mesa_record.specs.declared.record.Files.{Files}

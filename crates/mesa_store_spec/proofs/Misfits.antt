@@ -3,7 +3,7 @@ use Rattle.std.proofs.Common.{◌≡◌, refl, ℕ, List, [], ◌∷◌, ◌++�
 use Rattle.mesa_record.specs.mesa_record_fields.Reading.{file_ref_at}
 use Rattle.mesa_record.specs.Reading.{fields_of, files_at}
 use Rattle.mesa_record.specs.mesa_record_fields.Reading as reading_below
-use Rattle.mesa_delta.specs.mesa_disk.declared.area.Area.TheVariants.{Zero}
+use Rattle.mesa_commit.specs.mesa_disk.declared.area.Area.TheVariants.{Zero}
 use Rattle.mesa_store_spec.specs.Fitting.{fits, catalog_from}
 use Rattle.mesa_store_spec.specs.Journaled.{catalog}
 use Rattle.mesa_store_spec.proofs.Bodies.{half, word, long, run_1, empty_batch, expire}

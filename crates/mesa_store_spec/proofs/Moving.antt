@@ -7,7 +7,7 @@ use Rattle.mesa_history_spec.specs.mesa_schema.Changes.{columns_of}
 use Rattle.mesa_history_spec.specs.mesa_schema.Views.{max_views, view_checked}
 use Rattle.mesa_history_spec.proofs.mesa_columns.Lists.{all_map}
 use Rattle.mesa_history_spec.specs.mesa_batch.Batch.{Placed}
-use Rattle.mesa_delta.specs.mesa_disk.Image.{file_of}
+use Rattle.mesa_commit.specs.mesa_disk.Image.{file_of}
 use Rattle.mesa_commit.specs.Images.{Has}
 use Rattle.mesa_record.specs.declared.record.Files.{Files}
 use Rattle.mesa_record.specs.declared.record.Part.{Part}

@@ -4,9 +4,9 @@ use Rattle.std.proofs.lemmas.Bool.Decides.{nat_tests}
 use Rattle.std.proofs.lemmas.Nat.{from_be_bytes-to_be_bytes_4}
 use Rattle.std.specs.Prelude.{if◌then◌else◌}
 use Rattle.std.specs.List.{AllByRecursion}
-use Rattle.mesa_delta.specs.mesa_key.Spelling.{AreBytes}
-use Rattle.mesa_delta.specs.mesa_disk.declared.area.Area.{Area}
-use Rattle.mesa_delta.specs.mesa_disk.declared.area.Area.TheVariants.{Zero, One}
+use Rattle.mesa_delta_format.specs.mesa_key.Spelling.{AreBytes}
+use Rattle.mesa_commit.specs.mesa_disk.declared.area.Area.{Area}
+use Rattle.mesa_commit.specs.mesa_disk.declared.area.Area.TheVariants.{Zero, One}
 use Rattle.mesa_commit.specs.mesa_journal.Areas.{Leads, is_checkpoint, number_in, number_of, other_of}
 use Rattle.mesa_commit.specs.mesa_journal.Journal.{of_word}
 use Rattle.mesa_record.specs.declared.record.Record.{Record}

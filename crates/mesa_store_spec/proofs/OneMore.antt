@@ -5,8 +5,8 @@ use Rattle.mesa_record.specs.declared.record.Record.TheVariants as record_of
 use Rattle.mesa_record.specs.declared.checkpoint.Checkpoint.{Checkpoint}
 use Rattle.mesa_record.specs.Reading.{record_at}
 use Rattle.mesa_store_spec.specs.Catalog.{Catalog, empty_catalog, applied}
-use Rattle.mesa_delta.specs.mesa_disk.declared.area.Area.{Area}
-use Rattle.mesa_delta.specs.mesa_disk.declared.area.Area.TheVariants.{Zero, One}
+use Rattle.mesa_commit.specs.mesa_disk.declared.area.Area.{Area}
+use Rattle.mesa_commit.specs.mesa_disk.declared.area.Area.TheVariants.{Zero, One}
 use Rattle.mesa_store_spec.specs.Fitting.{fits, with_body, read_record, applied_if, then_bodies, catalog_from}
 use Rattle.mesa_store_spec.specs.Journaled.{checkpoint_in, first_by, first_read, first_body, catalog}
 

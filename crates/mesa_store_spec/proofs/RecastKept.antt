@@ -7,7 +7,7 @@ use Rattle.mesa_history_spec.specs.mesa_schema.Changes.{columns_of, epoch_of}
 use Rattle.mesa_history_spec.specs.mesa_schema.Recasts.{IsRecastOf, keeps_view, recast_lineage}
 use Rattle.mesa_history_spec.proofs.mesa_schema.LineageRecasts.{recast_allowed}
 use Rattle.mesa_history_spec.proofs.mesa_columns.Lists.{all_map, all_set, map_at}
-use Rattle.mesa_delta.specs.mesa_disk.Image.{file_of}
+use Rattle.mesa_commit.specs.mesa_disk.Image.{file_of}
 use Rattle.mesa_history_spec.specs.Found.{kept_of as kept_in_state}
 use Rattle.mesa_history_spec.specs.Machine.{Claim, without_cumulatives}
 use Rattle.mesa_history_spec.specs.Replay.{recasted}

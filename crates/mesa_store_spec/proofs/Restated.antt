@@ -1,8 +1,8 @@
 -- An empty warehouse whose area 1 states it behind 6,554 runs, and a run more.
 use Rattle.std.proofs.Common.{◌≡◌, refl, ℕ, ◌+◌, ◌^◌, ◌<◌, List, [], ◌∷◌, ◌++◌, Some, None, inr, arith}
 use Rattle.std.specs.FinMap.{empty}
-use Rattle.mesa_delta.specs.mesa_disk.Image.{Image}
-use Rattle.mesa_delta.specs.mesa_disk.declared.area.Area.TheVariants.{Zero, One}
+use Rattle.mesa_commit.specs.mesa_disk.Image.{Image}
+use Rattle.mesa_commit.specs.mesa_disk.declared.area.Area.TheVariants.{Zero, One}
 use Rattle.mesa_commit.specs.mesa_journal.Journal.{Closed, word, of_word}
 use Rattle.mesa_commit.specs.mesa_journal.Areas.{HasJournal, number_in}
 use Rattle.mesa_record.specs.Reading.{fields_of, stated_at}

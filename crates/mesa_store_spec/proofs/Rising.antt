@@ -6,15 +6,15 @@ use Rattle.std.specs.Ordering.{is_lt}
 use Rattle.std.specs.declared.cmp.Ordering.{Ordering}
 use Rattle.std.specs.declared.cmp.Ordering.TheVariants.{Less, Equal, Greater}
 use Rattle.std.specs.Cmp.Lexicographic.{nat_list_cmp_total}
-use Rattle.mesa_delta.specs.mesa_value.declared.Agg.{Agg}
-use Rattle.mesa_delta.specs.mesa_key.Order.{byte_cmp}
+use Rattle.mesa_delta_format.specs.mesa_value.declared.Agg.{Agg}
+use Rattle.mesa_delta_format.specs.mesa_key.Order.{byte_cmp}
 use Rattle.mesa_history_spec.specs.mesa_columns.declared.rows.Row.{Row}
 use Rattle.mesa_history_spec.specs.mesa_fold.Folded.{folded}
 use Rattle.mesa_history_spec.specs.mesa_fold.Laws.{AreUnder}
 use Rattle.mesa_history_spec.specs.mesa_columns.Rows.{keys_rise}
 use Rattle.mesa_history_spec.proofs.mesa_fold.SameFolds.{puts_given}
-use Rattle.mesa_delta.specs.mesa_block.Rows.{Rise}
-use Rattle.mesa_delta.specs.mesa_block.Spelling.{key_of}
+use Rattle.mesa_delta_format.specs.mesa_block.Rows.{Rise}
+use Rattle.mesa_delta_format.specs.mesa_block.Spelling.{key_of}
 
 -- a file's rows
 pub rising : (rows : List Row) → Rise (map key_of rows) → keys_rise rows ≡ true

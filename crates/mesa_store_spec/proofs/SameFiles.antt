@@ -6,8 +6,8 @@ use Rattle.std.specs.Ordering.{int_eq}
 use Rattle.std.specs.Cmp.Lexicographic.{same_text}
 use Rattle.std.specs.Cmp.Rules.{signed_items}
 use Rattle.mesa_history_spec.specs.mesa_list.Bytes.{same_bytes}
-use Rattle.mesa_delta.specs.mesa_key.declared.Format.{Format}
-use Rattle.mesa_delta.specs.mesa_key.declared.Format.TheVariants as format
+use Rattle.mesa_delta_format.specs.mesa_key.declared.Format.{Format}
+use Rattle.mesa_delta_format.specs.mesa_key.declared.Format.TheVariants as format
 use Rattle.mesa_history_spec.specs.mesa_file.declared.file_ref.FileRef.{FileRef}
 use Rattle.mesa_record.specs.declared.record.ViewRef.{ViewRef}
 use Rattle.mesa_store_spec.specs.SameFiles.{same_contents, same_counts, same_format, same_ref, same_view, same_views}

@@ -2,7 +2,7 @@
 use Rattle.std.proofs.Common.{◌≡◌, ℕ, zero, suc, ◌<◌, ◌≤◌, List, [], ◌∷◌, ◌++◌, length, Option, Some, None, true, false, refl, arith, cond, slice_get, slice_index_or, take}
 use Rattle.std.specs.Prelude.{IfSome}
 use Rattle.std.specs.List.{AllByRecursion}
-use Rattle.mesa_delta.specs.mesa_value.declared.Agg.{Agg}
+use Rattle.mesa_delta_format.specs.mesa_value.declared.Agg.{Agg}
 use Rattle.mesa_history_spec.specs.mesa_columns.Columns.{aggs_of}
 use Rattle.mesa_history_spec.specs.mesa_schema.Changes.{Lineage, columns_of, epoch_of}
 use Rattle.mesa_history_spec.specs.mesa_schema.Recasts.{recast_lineage, recast_values}

@@ -5,8 +5,8 @@ use Rattle.std.proofs.lemmas.List.Sums.{sum_by-append}
 use Rattle.std.proofs.lemmas.Grind.{flat_map-append}
 use Rattle.std.specs.Prelude.{pos, nat_abs, slice_index_or}
 use Rattle.std.specs.List.{AllByRecursion}
-use Rattle.mesa_delta.specs.mesa_value.declared.Agg.{Agg}
-use Rattle.mesa_delta.specs.mesa_value.declared.Agg.TheVariants.{Sum, Min, Max, Replace}
+use Rattle.mesa_delta_format.specs.mesa_value.declared.Agg.{Agg}
+use Rattle.mesa_delta_format.specs.mesa_value.declared.Agg.TheVariants.{Sum, Min, Max, Replace}
 use Rattle.mesa_history_spec.specs.mesa_columns.declared.rows.Row.{Row}
 use Rattle.mesa_history_spec.specs.mesa_columns.declared.columns.ValueColumn.{ValueColumn}
 use Rattle.mesa_history_spec.specs.mesa_columns.Columns.{Columns, aggs_of}

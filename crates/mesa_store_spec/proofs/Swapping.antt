@@ -2,7 +2,7 @@
 use Rattle.std.proofs.Common.{◌≡◌, ℕ, ◌<◌, List, length, Option, Some, Bool, true, false, ◌&&◌, ◌==◌, nat_le}
 use Rattle.std.specs.List.{AllByRecursion}
 use Rattle.mesa_history_spec.proofs.mesa_columns.Lists.{all_map, all_set}
-use Rattle.mesa_delta.specs.mesa_disk.Image.{Image, file_of}
+use Rattle.mesa_commit.specs.mesa_disk.Image.{Image, file_of}
 use Rattle.mesa_commit.specs.Images.{Has}
 use Rattle.mesa_record.specs.declared.record.Files.{Files}
 use Rattle.mesa_record.specs.declared.record.Record.TheVariants as record_of

@@ -1,7 +1,7 @@
 -- Every catalogue that bodies spell keeps what catalogues keep.
 use Rattle.std.proofs.Common.{◌≡◌, inr, ℕ, List, [], ◌∷◌, Option, Some, None, Result, Ok, Err, Bool, true, false, ◌&&◌, nat_le, nat_lt, refl, subst, arith}
 use Rattle.std.specs.List.{AllByRecursion}
-use Rattle.mesa_delta.specs.mesa_key.Spelling.{AreBytes}
+use Rattle.mesa_delta_format.specs.mesa_key.Spelling.{AreBytes}
 use Rattle.mesa_record.specs.declared.record.Record.{Record}
 use Rattle.mesa_record.specs.declared.record.Record.TheVariants as record_of
 use Rattle.mesa_record.specs.mesa_record_fields.declared.error.RecordError.{RecordError}
@@ -9,8 +9,8 @@ use Rattle.mesa_record.specs.Reading.{record_at}
 use Rattle.mesa_record.specs.Rules.{IsRecord, IsTyped}
 use Rattle.mesa_record.proofs.RecordsBoth.{record_found}
 use Rattle.mesa_store_spec.specs.Catalog.{Catalog, empty_catalog, applied}
-use Rattle.mesa_delta.specs.mesa_disk.declared.area.Area.{Area}
-use Rattle.mesa_delta.specs.mesa_disk.declared.area.Area.TheVariants.{Zero, One}
+use Rattle.mesa_commit.specs.mesa_disk.declared.area.Area.{Area}
+use Rattle.mesa_commit.specs.mesa_disk.declared.area.Area.TheVariants.{Zero, One}
 use Rattle.mesa_record.specs.mesa_record_fields.Rules.{IsTypedChange}
 use Rattle.mesa_record.specs.Rules.{IsTypedTable}
 use Rattle.mesa_record.specs.declared.checkpoint.CheckpointTable.{CheckpointTable}

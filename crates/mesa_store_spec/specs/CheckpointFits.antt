@@ -9,8 +9,8 @@ use Rattle.mesa_history_spec.specs.mesa_columns.Changes.{changed}
 use Rattle.mesa_history_spec.specs.mesa_schema.Changes.{Lineage, columns_at, columns_of, epoch_of, max_changes, rule_checked}
 use Rattle.mesa_history_spec.specs.mesa_schema.Views.{max_views}
 use Rattle.mesa_history_spec.specs.mesa_schema.Lineages.{is_view_of}
-use Rattle.mesa_delta.specs.mesa_disk.declared.area.Area.{Area}
-use Rattle.mesa_delta.specs.mesa_disk.declared.area.Area.TheVariants.{Zero, One}
+use Rattle.mesa_commit.specs.mesa_disk.declared.area.Area.{Area}
+use Rattle.mesa_commit.specs.mesa_disk.declared.area.Area.TheVariants.{Zero, One}
 use Rattle.mesa_history_spec.specs.mesa_model.Warehouse.{max_tables, max_versions}
 use Rattle.mesa_record.specs.declared.record.Files.{Files}
 use Rattle.mesa_store_spec.specs.Catalog.{Catalog}

@@ -1,10 +1,10 @@
 -- A disk whose images all stand for one state, and a record that moves it to another.
 use Rattle.std.specs.Prelude.{◌≡◌, ◌≢◌, ◌⊎◌, ℕ, List, Some, Ok, true}
 use Rattle.std.specs.List.{AllByRecursion}
-use Rattle.mesa_delta.specs.mesa_key.Spelling.{AreBytes}
-use Rattle.mesa_delta.specs.mesa_disk.Image.{Image}
-use Rattle.mesa_delta.specs.mesa_disk.Story.{Story}
-use Rattle.mesa_delta.specs.mesa_disk.declared.area.Area.{Area}
+use Rattle.mesa_delta_format.specs.mesa_key.Spelling.{AreBytes}
+use Rattle.mesa_commit.specs.mesa_disk.Image.{Image}
+use Rattle.mesa_commit.specs.mesa_disk.Story.{Story}
+use Rattle.mesa_commit.specs.mesa_disk.declared.area.Area.{Area}
 use Rattle.mesa_commit.specs.Images.{Has, Stands}
 use Rattle.mesa_record.specs.declared.record.Record.{Record}
 use Rattle.mesa_record.specs.Reading.{record_at}

@@ -10,7 +10,7 @@ use Rattle.mesa_history_spec.specs.mesa_span.declared.works.Work.{Work}
 use Rattle.mesa_history_spec.specs.mesa_span.declared.works.Work.TheVariants as work
 use Rattle.mesa_history_spec.specs.mesa_span.Ranges.{new_ranges}
 use Rattle.mesa_history_spec.specs.mesa_span.Work.{swapped}
-use Rattle.mesa_delta.specs.mesa_disk.Image.{Image}
+use Rattle.mesa_commit.specs.mesa_disk.Image.{Image}
 use Rattle.mesa_commit.specs.Images.{Has}
 use Rattle.mesa_history_spec.specs.mesa_model.Warehouse.{Table, Warehouse, table_at, with_table, with_tables}
 use Rattle.mesa_history_spec.specs.mesa_model.Load.{with_batch}

@@ -2,8 +2,8 @@
 use lib.Pointwise.{pointwise}
 use Rattle.std.specs.Prelude.{List, Bool, true, false, ◌&&◌, ◌==◌}
 use Rattle.std.specs.Ordering.{int_eq}
-use Rattle.mesa_delta.specs.mesa_key.declared.Format.{Format}
-use Rattle.mesa_delta.specs.mesa_key.declared.Format.TheVariants as format
+use Rattle.mesa_delta_format.specs.mesa_key.declared.Format.{Format}
+use Rattle.mesa_delta_format.specs.mesa_key.declared.Format.TheVariants as format
 use Rattle.mesa_history_spec.specs.mesa_list.Bytes.{same_bytes}
 use Rattle.mesa_history_spec.specs.mesa_file.declared.file_ref.FileRef.{FileRef}
 use Rattle.mesa_record.specs.declared.record.ViewRef.{ViewRef}

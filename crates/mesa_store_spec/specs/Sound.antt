@@ -9,14 +9,14 @@ use Rattle.mesa_history_spec.specs.mesa_schema.Changes.{Lineage, columns_at, col
 use Rattle.mesa_history_spec.specs.mesa_schema.Views.{view_rows}
 use Rattle.mesa_history_spec.specs.mesa_fold.Folded.{folded, rows_of}
 use Rattle.mesa_history_spec.specs.mesa_batch.Totals.{AreAtMost, abs_totals}
-use Rattle.mesa_delta.specs.mesa_disk.Image.{Image}
-use Rattle.mesa_delta.specs.mesa_disk.declared.area.Area.{Area}
+use Rattle.mesa_commit.specs.mesa_disk.Image.{Image}
+use Rattle.mesa_commit.specs.mesa_disk.declared.area.Area.{Area}
 use Rattle.mesa_commit.specs.mesa_journal.Areas.{HasJournal}
 use Rattle.mesa_commit.specs.Images.{Has}
 use Rattle.mesa_record.specs.declared.record.ViewRef.{ViewRef}
-use Rattle.mesa_delta.specs.mesa_block.Layout.{Layout}
-use Rattle.mesa_delta.specs.File.{IsFile, file_bytes}
-use Rattle.mesa_delta.specs.Summary.{IsReferenceOf, file_layout}
+use Rattle.mesa_delta_format.specs.mesa_block.Layout.{Layout}
+use Rattle.mesa_delta_format.specs.File.{IsFile, file_bytes}
+use Rattle.mesa_delta_format.specs.Summary.{IsReferenceOf, file_layout}
 use Rattle.mesa_history_spec.specs.Found.{Kept}
 use Rattle.mesa_store_spec.specs.Catalog.{Delta, Ending, TableMeta, Catalog, start_in}
 use Rattle.mesa_store_spec.specs.Fitting.{LiveFile, base_deltas, deltas_of, live_files, meta_live}

@@ -3,9 +3,9 @@ ghost use Rattle.mesa_store_spec.specs.Catalog.{Catalog};
 ghost use Rattle.mesa_store_spec.specs.Checkpoint.{checkpoint_body, checkpoint_of, stated};
 ghost use Rattle.mesa_store_spec.specs.CheckpointFits.{checkpoint_fits, number_fits};
 ghost use Rattle.mesa_store_spec.specs.Journaled.{catalog};
-ghost use Rattle.mesa_delta.specs.mesa_disk.declared.area.Area.{Area as AreaOf};
+ghost use Rattle.mesa_commit.specs.mesa_disk.declared.area.Area.{Area as AreaOf};
 ghost use Rattle.mesa_commit.specs.mesa_journal.Areas.{Leads, number_of, other_of};
-ghost use Rattle.mesa_delta.specs.mesa_key.Spelling.{AreBytes};
+ghost use Rattle.mesa_delta_format.specs.mesa_key.Spelling.{AreBytes};
 ghost use Rattle.std.specs.List.{AllByRecursion};
 ghost use Rattle.std.specs.Prelude.{◌≡◌, ◌+◌, ◌<◌, ◌^◌, ℕ, List, [], ◌∷◌, Some, true};
 

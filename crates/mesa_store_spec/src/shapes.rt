@@ -2,9 +2,9 @@
 ghost use Rattle.mesa_store_spec.specs.Catalog.{Catalog, applied};
 ghost use Rattle.mesa_store_spec.specs.Fitting.{fits};
 ghost use Rattle.mesa_store_spec.specs.Journaled.{catalog};
-ghost use Rattle.mesa_delta.specs.mesa_disk.declared.area.Area.{Area as AreaOf};
+ghost use Rattle.mesa_commit.specs.mesa_disk.declared.area.Area.{Area as AreaOf};
 ghost use Rattle.mesa_store_spec.specs.Shape.{IsCatalog};
-ghost use Rattle.mesa_delta.specs.mesa_key.Spelling.{AreBytes};
+ghost use Rattle.mesa_delta_format.specs.mesa_key.Spelling.{AreBytes};
 ghost use Rattle.mesa_record.specs.declared.record.Record.{Record as RecordOf};
 ghost use Rattle.mesa_record.specs.Reading.{record_at};
 ghost use Rattle.mesa_record.specs.Rules.{IsTyped};

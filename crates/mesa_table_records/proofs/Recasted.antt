@@ -11,10 +11,10 @@ use Rattle.mesa_schema.specs.Changes.{Lineage, columns_at, columns_of, epoch_of}
 use Rattle.mesa_schema.specs.Recasts.{recast_checked, recast_lineage}
 use Rattle.mesa_schema.proofs.ChosenAgain.{choice_there, names_chosen}
 use Rattle.mesa_catalog_table.specs.mesa_span.Ranges.{start_behind}
-use Rattle.mesa_record.specs.declared.record.Files.{Files}
-use Rattle.mesa_record.specs.declared.checkpoint.CheckpointSingle.{CheckpointSingle}
-use Rattle.mesa_record.specs.declared.recasting.RecastBase.{RecastBase}
-use Rattle.mesa_record.specs.declared.recasting.Recasting.{Recasting}
+use Rattle.mesa_catalog_table.specs.mesa_record.declared.record.Files.{Files}
+use Rattle.mesa_catalog_table.specs.mesa_record.declared.checkpoint.CheckpointSingle.{CheckpointSingle}
+use Rattle.mesa_catalog_table.specs.mesa_record.declared.recasting.RecastBase.{RecastBase}
+use Rattle.mesa_catalog_table.specs.mesa_record.declared.recasting.Recasting.{Recasting}
 use Rattle.mesa_catalog_table.specs.mesa_store_spec.Catalog.{Ending, base_recast, end_in, recast_in, singles_stated, singles_told, start_in}
 use Rattle.mesa_catalog_table.specs.mesa_store_spec.Checkpoint.{stating_single, stating_singles, totals_or_none}
 use Rattle.mesa_catalog_table.specs.mesa_store_spec.CheckpointFits.{are_singles}

@@ -18,9 +18,9 @@ use Rattle.mesa_schema.proofs.Choices.{chosen-slot}
 use Rattle.mesa_schema.proofs.LineageRecasts.{IsAllowed, columns_first, lineage_recast, recast_allowed}
 use Rattle.mesa_batch.specs.Totals.{is_sum, sum_bound, sums_in}
 use Rattle.mesa_file.specs.declared.file_ref.FileRef.{FileRef}
-use Rattle.mesa_record.specs.declared.record.Files.{Files}
-use Rattle.mesa_record.specs.declared.record.ViewRef.{ViewRef}
-use Rattle.mesa_record.specs.declared.checkpoint.CheckpointSingle.{CheckpointSingle}
+use Rattle.mesa_catalog_table.specs.mesa_record.declared.record.Files.{Files}
+use Rattle.mesa_catalog_table.specs.mesa_record.declared.record.ViewRef.{ViewRef}
+use Rattle.mesa_catalog_table.specs.mesa_record.declared.checkpoint.CheckpointSingle.{CheckpointSingle}
 use Rattle.mesa_catalog_table.specs.mesa_store_spec.Catalog.{Delta}
 use Rattle.mesa_catalog_table.specs.mesa_store_spec.Checkpoint.{stating_single}
 use Rattle.mesa_catalog_table.specs.mesa_store_spec.Fitting.{counts_view, files_renewed, is_view_ref, single_renewed, singles_renewed}

@@ -14,9 +14,9 @@ use Rattle.mesa_catalog_table.specs.mesa_columns.Columns.{Columns, value_names}
 use Rattle.mesa_catalog_table.specs.mesa_columns.Changes.{columns_after}
 use Rattle.mesa_schema.specs.Changes.{Lineage, columns_at, columns_of, drop_rule, epoch_of, rule_checked, with_change}
 use Rattle.mesa_catalog_table.specs.mesa_span.Ranges.{start_behind}
-use Rattle.mesa_record.specs.declared.checkpoint.CheckpointRange.{CheckpointRange}
-use Rattle.mesa_record.specs.declared.checkpoint.CheckpointSingle.{CheckpointSingle}
-use Rattle.mesa_record.specs.declared.checkpoint.CheckpointTable.{CheckpointTable}
+use Rattle.mesa_catalog_table.specs.mesa_record.declared.checkpoint.CheckpointRange.{CheckpointRange}
+use Rattle.mesa_catalog_table.specs.mesa_record.declared.checkpoint.CheckpointSingle.{CheckpointSingle}
+use Rattle.mesa_catalog_table.specs.mesa_record.declared.checkpoint.CheckpointTable.{CheckpointTable}
 use Rattle.mesa_catalog_table.specs.mesa_store_spec.Catalog.{Delta, empty_delta, end_in}
 use Rattle.mesa_catalog_table.specs.mesa_store_spec.Checkpoint.{lineage_stated, range_stated, single_stated, singles_stated, meta_stated, to_stated}
 use Rattle.mesa_catalog_table.specs.mesa_store_spec.CheckpointFits.{are_singles, are_tens, base_fits, oldest_fits, plain, range_fits, single_fits}

@@ -5,7 +5,7 @@ use Rattle.std.specs.declared.alloc.Global.{Global}
 use Rattle.std.specs.declared.sync.Arc.{Arc}
 use Rattle.std.proofs.lemmas.List.{append-nil, length-take-le, map-append, take_more}
 use Rattle.mesa_catalog_table.specs.mesa_span.Ranges.{end_of}
-use Rattle.mesa_record.specs.declared.checkpoint.CheckpointTable.{CheckpointTable}
+use Rattle.mesa_catalog_table.specs.mesa_record.declared.checkpoint.CheckpointTable.{CheckpointTable}
 use Rattle.mesa_catalog_table.specs.mesa_store_spec.Catalog.{Delta, empty_delta}
 use Rattle.mesa_catalog_table.specs.mesa_store_spec.Checkpoint.{stating_range, stating_singles, stating_table}
 use Rattle.mesa_catalog_table.specs.declared.table.Loaded.{Loaded}

@@ -6,11 +6,11 @@ use Rattle.mesa_schema.specs.Recasts.{recast_lineage}
 use Rattle.mesa_batch.specs.Totals.{totals_recast, totals_with}
 use Rattle.mesa_catalog_table.specs.mesa_span.Ranges.{end_of}
 use Rattle.mesa_key.specs.declared.Format.TheVariants as format
-use Rattle.mesa_record.specs.declared.record.Files.{Files}
-use Rattle.mesa_record.specs.declared.record.Part.{Part}
-use Rattle.mesa_record.specs.declared.checkpoint.CheckpointSingle.{CheckpointSingle}
-use Rattle.mesa_record.specs.declared.recasting.RecastBase.{RecastBase}
-use Rattle.mesa_record.specs.declared.recasting.Recasting.{Recasting}
+use Rattle.mesa_catalog_table.specs.mesa_record.declared.record.Files.{Files}
+use Rattle.mesa_catalog_table.specs.mesa_record.declared.record.Part.{Part}
+use Rattle.mesa_catalog_table.specs.mesa_record.declared.checkpoint.CheckpointSingle.{CheckpointSingle}
+use Rattle.mesa_catalog_table.specs.mesa_record.declared.recasting.RecastBase.{RecastBase}
+use Rattle.mesa_catalog_table.specs.mesa_record.declared.recasting.Recasting.{Recasting}
 use Rattle.mesa_catalog_table.specs.mesa_store_spec.Catalog.{Delta, Ending, base_told, part_delta, recast_in}
 use Rattle.mesa_catalog_table.specs.mesa_store_spec.Checkpoint.{totals_or_none}
 use Rattle.mesa_catalog_table.specs.declared.table.Base.{Base}

@@ -4,7 +4,7 @@ use Rattle.mesa_catalog_table.specs.mesa_columns.declared.columns.ValueColumn.{V
 use Rattle.mesa_catalog_table.specs.mesa_columns.Columns.{place_of}
 use Rattle.mesa_schema.specs.Changes.{Lineage}
 use Rattle.mesa_batch.specs.Totals.{is_sum}
-use Rattle.mesa_record.specs.declared.checkpoint.CheckpointSingle.{CheckpointSingle}
+use Rattle.mesa_catalog_table.specs.mesa_record.declared.checkpoint.CheckpointSingle.{CheckpointSingle}
 use Rattle.mesa_catalog_table.specs.mesa_store_spec.Fitting.{singles_renewed}
 
 abbrev pub is_sum_if_any : Option ValueColumn → Bool

@@ -4,8 +4,8 @@ use Rattle.std.specs.List.{range_with_len}
 use Rattle.mesa_catalog_table.specs.mesa_columns.Columns.{Columns, aggs_of}
 use Rattle.mesa_schema.specs.Changes.{Lineage, columns_at, epoch_of}
 use Rattle.mesa_batch.specs.Totals.{sums_in}
-use Rattle.mesa_record.specs.declared.checkpoint.CheckpointRange.{CheckpointRange}
-use Rattle.mesa_record.specs.declared.checkpoint.CheckpointSingle.{CheckpointSingle}
+use Rattle.mesa_catalog_table.specs.mesa_record.declared.checkpoint.CheckpointRange.{CheckpointRange}
+use Rattle.mesa_catalog_table.specs.mesa_record.declared.checkpoint.CheckpointSingle.{CheckpointSingle}
 use Rattle.mesa_catalog_table.specs.mesa_store_spec.Catalog.{Delta}
 use Rattle.mesa_catalog_table.specs.mesa_store_spec.Checkpoint.{range_stated, single_stated, stating_single}
 use Rattle.mesa_catalog_table.specs.declared.table.Loaded.{Loaded}

@@ -5,8 +5,7 @@ ghost use Rattle.mesa_catalog_table.specs.mesa_store_spec.Fitting.{may_be_base a
 ghost use Rattle.mesa_schema.specs.Changes.{epoch_of};
 ghost use Rattle.mesa_catalog_table.specs.Meaning.{IsTable, meta_of, widths_of};
 
-use mesa_catalog_table::{Table, counts_files};
-use mesa_record::Files;
+use mesa_catalog_table::{Files, Table, counts_files};
 
 /// Whether files of an epoch, if there are any, have an aggregate for each value column.
 pub fn counts_files_if_any(t: &Table, epoch: u32, files: &Option<Files>) -> bool

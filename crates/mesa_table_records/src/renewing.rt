@@ -5,7 +5,7 @@ ghost use Rattle.mesa_schema.specs.Changes.{columns_of, epoch_of};
 ghost use Rattle.mesa_catalog_table.specs.mesa_columns.Columns.{aggs_of};
 ghost use Rattle.mesa_schema.specs.Recasts.{recast_checked, recast_columns, recast_lineage};
 ghost use Rattle.mesa_batch.specs.Totals.{sum_bound, sums_in};
-ghost use Rattle.mesa_record.specs.declared.checkpoint.CheckpointSingle.{CheckpointSingle as Told};
+ghost use Rattle.mesa_catalog_table.specs.mesa_record.declared.checkpoint.CheckpointSingle.{CheckpointSingle as Told};
 ghost use Rattle.mesa_catalog_table.specs.mesa_store_spec.Catalog.{recast_in};
 ghost use Rattle.mesa_catalog_table.specs.mesa_store_spec.Checkpoint.{stating_single};
 ghost use Rattle.mesa_catalog_table.specs.mesa_store_spec.Fitting.{base_renewed, files_fit, files_renewed, ranges_renewed, recast_fits, singles_renewed};
@@ -15,8 +15,7 @@ ghost use Rattle.mesa_table_records.specs.Renewed.{is_sum_if_any, is_sum_named, 
 ghost use Rattle.mesa_table_records.specs.Stated.{stating_loaded};
 
 use crate::same::same_views;
-use mesa_catalog_table::{Delta, Loaded, Table, counts_views, keep_bound};
-use mesa_record::{CheckpointSingle, Files, Recasting};
+use mesa_catalog_table::{CheckpointSingle, Delta, Files, Loaded, Recasting, Table, counts_views, keep_bound};
 use mesa_schema::{Evolving, Name, Totals, ValueColumn, place_of};
 use std::sync::Arc;
 

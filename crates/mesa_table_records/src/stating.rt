@@ -4,9 +4,8 @@ ghost use Rattle.mesa_catalog_table.specs.mesa_store_spec.Checkpoint.{stating_ra
 ghost use Rattle.mesa_catalog_table.specs.Meaning.{IsTable, ending_of, meta_of, tens_from};
 ghost use Rattle.mesa_table_records.specs.Stated.{stating_loaded};
 
-use mesa_catalog_table::{Base, Delta, Loaded, Table};
+use mesa_catalog_table::{Base, CheckpointRange, CheckpointSingle, CheckpointTable, Delta, Files, Loaded, Table};
 use mesa_list::{Items, TryCopy};
-use mesa_record::{CheckpointRange, CheckpointSingle, CheckpointTable, Files};
 use mesa_schema::{Change, Evolving, KeyColumn, Totals, ValueColumn, View};
 use std::alloc::{AllocError, Global};
 use std::sync::Arc;

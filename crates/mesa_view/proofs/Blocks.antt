@@ -9,10 +9,10 @@ use Rattle.mesa_columns.specs.Rows.{AreRowsOf, IsRowOf}
 use Rattle.mesa_scan.specs.mesa_file.declared.damage.Damage.{Damage}
 use Rattle.mesa_list.proofs.Whole.{each_split}
 use Rattle.mesa_filter.specs.Filter.{KeyFilter, filtered}
-use Rattle.mesa_delta.specs.Indexed.{Indexed}
+use Rattle.mesa_scan.specs.mesa_delta_format.Indexed.{Indexed}
 use Rattle.mesa_scan.specs.mesa_fold.Folded.{rows_of}
 use Rattle.mesa_delta.specs.Reading.{IsIndexed, index_of}
-use Rattle.mesa_delta.specs.Spread.{blocks_of}
+use Rattle.mesa_scan.specs.mesa_delta_format.Spread.{blocks_of}
 use Rattle.mesa_delta.specs.declared.input.Input.{Input}
 use Rattle.mesa_delta.specs.declared.error.FileError.{FileError}
 use Rattle.mesa_delta.specs.declared.error.FileError.TheVariants as file_error

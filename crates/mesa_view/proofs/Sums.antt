@@ -4,8 +4,8 @@ use Rattle.std.specs.Prelude.{pos, nat_abs, sum_by, map, filter}
 use Rattle.std.proofs.lemmas.List.{map-append, take-append-drop}
 use Rattle.std.proofs.lemmas.List.Elements.{filter-append}
 use Rattle.std.proofs.lemmas.List.Sums.{sum_by-append}
-use Rattle.mesa_delta.specs.mesa_value.Agg.{sum_bound}
-use Rattle.mesa_delta.specs.mesa_key.Spelling.{key_of}
+use Rattle.mesa_scan.specs.mesa_value.Agg.{sum_bound}
+use Rattle.mesa_answer.specs.mesa_key.Spelling.{key_of}
 use Rattle.mesa_columns.specs.declared.rows.Row.{Row}
 use Rattle.mesa_scan.specs.mesa_schema.Changes.{columns_of}
 use Rattle.mesa_columns.specs.Columns.{Columns, kinds_of}
@@ -13,9 +13,9 @@ use Rattle.mesa_scan.specs.mesa_fold.Folded.{rows_of}
 use Rattle.mesa_answer.proofs.mesa_fold.Folds.{rows_of-append}
 use Rattle.mesa_filter.specs.Filter.{KeyFilter, filtered, meets}
 use Rattle.mesa_delta.specs.Reading.{index_of}
-use Rattle.mesa_delta.specs.Spread.{blocks_of}
+use Rattle.mesa_scan.specs.mesa_delta_format.Spread.{blocks_of}
 use Rattle.mesa_delta.specs.declared.input.Input.{Input}
-use Rattle.mesa_delta.proofs.Packing.{blocks_rows}
+use Rattle.mesa_delta.proofs.mesa_delta_format.Packing.{blocks_rows}
 use Rattle.mesa_scan.specs.Cursors.{lift_by}
 use Rattle.mesa_scan.specs.Scanning.{matching}
 use Rattle.mesa_answer.specs.Answering.{KeepsSums}

@@ -2,7 +2,7 @@
 use Rattle.std.proofs.Common.{◌≡◌, ℕ, List, sym, ◌∙◌, subst}
 use Rattle.std.specs.Prelude.{Option, Some, slice_get}
 use Rattle.mesa_delta.specs.Ahead.{AreAhead, AreOfFile, Told, Untested}
-use Rattle.mesa_delta.specs.Indexed.{Indexed}
+use Rattle.mesa_scan.specs.mesa_delta_format.Indexed.{Indexed}
 use Rattle.mesa_delta.specs.Reading.{index_of}
 use Rattle.mesa_delta.specs.declared.input.Input.{Input}
 use Rattle.mesa_scan.specs.Cursors.{IsSameInput, reader_in}

@@ -1,6 +1,6 @@
 use Rattle.std.proofs.Common.{ℕ, ◌∙◌, ap, sym, Bool}
 use Rattle.std.specs.List.{list_all}
-use Rattle.mesa_record.specs.declared.record.Part.{Part}
+use Rattle.mesa_table_records.specs.mesa_record.declared.record.Part.{Part}
 use Rattle.mesa_table_records.specs.mesa_catalog_table.Named.{file_ids, ids_if_any}
 use Rattle.mesa_catalog_records.specs.Named.{held_ids, ids_brought, is_once_new, part_ids}
 use Rattle.mesa_catalog_records.proofs.Ids.{all-flat_map, new_each}

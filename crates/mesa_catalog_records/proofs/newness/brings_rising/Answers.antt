@@ -1,8 +1,8 @@
 use Rattle.std.proofs.Common.{List, ◌∙◌, sym, subst}
 use Rattle.std.specs.Prelude.{Option, flat_map}
-use Rattle.mesa_record.specs.declared.record.Files.{Files}
-use Rattle.mesa_record.specs.declared.record.Part.{Part}
-use Rattle.mesa_record.specs.declared.record.Record.{Record}
+use Rattle.mesa_table_records.specs.mesa_record.declared.record.Files.{Files}
+use Rattle.mesa_table_records.specs.mesa_record.declared.record.Part.{Part}
+use Rattle.mesa_table_records.specs.mesa_record.declared.record.Record.{Record}
 use Rattle.mesa_table_records.specs.mesa_catalog_table.Named.{file_ids, ids_if_any}
 use Rattle.mesa_catalog_records.specs.Named.{RiseTo, ids_brought, part_ids, recast_ids}
 use Rattle.mesa_catalog_records.proofs.Ids.{some_holds}

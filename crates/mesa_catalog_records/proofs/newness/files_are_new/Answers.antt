@@ -1,7 +1,7 @@
 use Rattle.std.proofs.Common.{ℕ, ◌∙◌, ap, sym, map, Bool}
 use Rattle.std.specs.Prelude.{◌&&◌}
 use Rattle.std.specs.List.{list_all}
-use Rattle.mesa_record.specs.declared.record.ViewRef.{ViewRef}
+use Rattle.mesa_table_records.specs.mesa_record.declared.record.ViewRef.{ViewRef}
 use Rattle.mesa_table_records.specs.mesa_catalog_table.Named.{view_id}
 use Rattle.mesa_catalog_records.specs.Named.{held_ids, ids_brought, is_once_new}
 use Rattle.mesa_catalog_records.proofs.Ids.{all-map}

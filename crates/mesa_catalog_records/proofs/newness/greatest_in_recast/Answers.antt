@@ -1,6 +1,6 @@
 use Rattle.std.proofs.Common.{ℕ, ◌≤◌, List, map, subst}
 use Rattle.std.specs.List.{AllByRecursion}
-use Rattle.mesa_record.specs.declared.checkpoint.CheckpointSingle.{CheckpointSingle}
+use Rattle.mesa_table_records.specs.mesa_record.declared.checkpoint.CheckpointSingle.{CheckpointSingle}
 use Rattle.mesa_catalog_records.specs.Named.{recast_base_ids, told_id}
 use Rattle.mesa_catalog_records.proofs.Ids.{all_below, all_joined}
 use Rattle.mesa_catalog_records.proofs.newness.greatest_in_recast.Goals as goal

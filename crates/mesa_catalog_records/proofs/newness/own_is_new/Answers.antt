@@ -1,7 +1,7 @@
 use Rattle.std.proofs.Common.{◌≡◌, ℕ, ◌∙◌, ap, sym, refl, Bool, true, false, Option}
 use Rattle.std.specs.Prelude.{◌&&◌}
 use Rattle.std.specs.List.{list_all}
-use Rattle.mesa_record.specs.declared.record.Files.{Files}
+use Rattle.mesa_table_records.specs.mesa_record.declared.record.Files.{Files}
 use Rattle.mesa_table_records.specs.mesa_catalog_table.Named.{own_if_any}
 use Rattle.mesa_catalog_records.specs.Named.{held_ids, ids_brought, is_once_new}
 use Rattle.mesa_catalog_records.proofs.newness.own_is_new.Goals as goal

@@ -2,7 +2,7 @@ use Rattle.std.proofs.Common.{ℕ, ◌∙◌, ap, sym, map, Bool}
 use Rattle.std.specs.Prelude.{◌&&◌}
 use Rattle.std.specs.List.{list_all}
 use Rattle.std.proofs.lemmas.List.Folds.{list_all-append}
-use Rattle.mesa_record.specs.declared.checkpoint.CheckpointSingle.{CheckpointSingle}
+use Rattle.mesa_table_records.specs.mesa_record.declared.checkpoint.CheckpointSingle.{CheckpointSingle}
 use Rattle.mesa_catalog_records.specs.Named.{held_ids, ids_brought, is_once_new, recast_base_ids, told_id}
 use Rattle.mesa_catalog_records.proofs.Ids.{all-map}
 use Rattle.mesa_catalog_records.proofs.newness.recast_is_new.Goals as goal

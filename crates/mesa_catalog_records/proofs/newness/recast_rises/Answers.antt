@@ -1,5 +1,5 @@
 use Rattle.std.proofs.Common.{List, map, subst}
-use Rattle.mesa_record.specs.declared.checkpoint.CheckpointSingle.{CheckpointSingle}
+use Rattle.mesa_table_records.specs.mesa_record.declared.checkpoint.CheckpointSingle.{CheckpointSingle}
 use Rattle.mesa_catalog_records.specs.Named.{RiseTo, recast_base_ids, told_id}
 use Rattle.mesa_catalog_records.proofs.Ids.{rise_append, some_so}
 use Rattle.mesa_catalog_records.proofs.newness.recast_rises.Goals as goal

@@ -1,6 +1,6 @@
 use Rattle.std.proofs.Common.{◌∙◌, ap, sym, arith, map}
 use Rattle.std.specs.Prelude.{◌==◌, count_by}
-use Rattle.mesa_record.specs.declared.checkpoint.CheckpointSingle.{CheckpointSingle}
+use Rattle.mesa_table_records.specs.mesa_record.declared.checkpoint.CheckpointSingle.{CheckpointSingle}
 use Rattle.mesa_catalog_records.specs.Named.{recast_base_ids, told_id}
 use Rattle.mesa_catalog_records.proofs.Ids.{times_append, times_mapped}
 use Rattle.mesa_catalog_records.proofs.newness.times_in_recast.Goals as goal

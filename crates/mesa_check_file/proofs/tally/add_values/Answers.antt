@@ -1,6 +1,6 @@
 use Rattle.std.proofs.Common.{◌≡◌, ◌∙◌, pos, get_or, arith, rules}
 use Rattle.std.proofs.lemmas.List.{get_or_default}
-use Rattle.mesa_delta.proofs.Adding.{added_end, added_step, set_length}
+use Rattle.mesa_delta.proofs.mesa_delta_format.Adding.{added_end, added_step, set_length}
 use Rattle.mesa_check_file.proofs.tally.add_values.Goals as goal
 
 pub loop-i-preserved : goal.loop-i-preserved

@@ -1,6 +1,6 @@
 use Rattle.std.proofs.Common.{◌≡◌, ◌++◌, map, drop, take, length}
-use Rattle.mesa_delta.specs.Totals.{added}
-use Rattle.mesa_delta.proofs.Adding.{agg_of}
+use Rattle.mesa_open_files.specs.mesa_delta_format.Totals.{added}
+use Rattle.mesa_delta.proofs.mesa_delta_format.Adding.{agg_of}
 use Rattle.mesa_check_file.proofs.tally.add_values.Given as goal
 
 -- the aggregates so far, and what is still to come of those that are left

@@ -1,6 +1,6 @@
 use Rattle.std.proofs.Common.{◌≡◌, ◌++◌, map, drop}
-use Rattle.mesa_delta.specs.Summary.{all_noted}
-use Rattle.mesa_delta.proofs.Adding.{agg_of}
+use Rattle.mesa_open_files.specs.mesa_delta_format.Summary.{all_noted}
+use Rattle.mesa_delta.proofs.mesa_delta_format.Adding.{agg_of}
 use Rattle.mesa_check_file.proofs.tally.put_noted.Given as goal
 
 abbrev pub invariant-loop-i : goal.invariant-loop-i

@@ -1,6 +1,6 @@
 use Rattle.std.proofs.Common.{◌≡◌, ◌-◌, get_or, length, sym, ◌∙◌, ap, subst, arith}
 use Rattle.std.specs.Prelude.{slice_get, Some}
-use Rattle.mesa_delta.specs.Indexed.{Indexed}
+use Rattle.mesa_open_files.specs.mesa_delta_format.Indexed.{Indexed}
 use Rattle.mesa_merge.specs.Inputs.{known_of, knowns_of}
 use Rattle.mesa_merge.proofs.Inputs.{known_get}
 use Rattle.mesa_compact.proofs.Whole.{known_count}

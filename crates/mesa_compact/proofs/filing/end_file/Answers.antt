@@ -1,5 +1,5 @@
 use Rattle.std.proofs.Common.{◌≡◌, ℕ, ◌∙◌, refl, sym, subst}
-use Rattle.mesa_delta.specs.Summary.{IsReferenceOf}
+use Rattle.mesa_open_files.specs.mesa_delta_format.Summary.{IsReferenceOf}
 use Rattle.mesa_delta.specs.Writing.{id_of, layout_of}
 use Rattle.mesa_compact.proofs.Causing.{caused_finish, caused_ok}
 use Rattle.mesa_compact.proofs.filing.end_file.Goals as goal

@@ -1,6 +1,6 @@
 use Rattle.std.proofs.Common.{◌≡◌, ◌≢◌, ◌+◌, ◌<◌, ◌≤◌, suc, [], ◌∷◌, ◌++◌, List, length, take, get_or, refl, sym, ◌∙◌, ap, subst, arith, add-one, append_assoc, append-nil, length-append}
 use Rattle.std.proofs.lemmas.List.{get_or-set_other, take_all}
-use Rattle.mesa_schema.proofs.mesa_columns.Lists.{all_set}
+use Rattle.mesa_batch.proofs.mesa_columns.Lists.{all_set}
 use Rattle.mesa_compact.specs.mesa_merge.Inputs.{knowns_of}
 use Rattle.mesa_open_files.specs.Inputs.{AreInputsTo}
 use Rattle.mesa_open_files.specs.Recasts.{AreRewritten, IsRangeRewritten, own, recast_ids}

@@ -1,10 +1,10 @@
 use Rattle.std.proofs.Common.{◌≡◌, ◌∙◌, rules, sym, ap, true, false}
 use Rattle.std.proofs.lemmas.Option.{get_or_from_slice_get}
-use Rattle.mesa_block.specs.mesa_columns.declared.rows.Row.{Row}
-use Rattle.mesa_block.specs.Layout.{Layout}
-use Rattle.mesa_block.specs.mesa_columns.Lent.{lent}
-use Rattle.mesa_delta.specs.declared.place.Entry.{Entry}
-use Rattle.mesa_delta.specs.Packing.{goes_on}
+use Rattle.mesa_delta_format.specs.mesa_columns.declared.rows.Row.{Row}
+use Rattle.mesa_delta_format.specs.mesa_block.Layout.{Layout}
+use Rattle.mesa_delta_format.specs.mesa_columns.Lent.{lent}
+use Rattle.mesa_delta_format.specs.declared.place.Entry.{Entry}
+use Rattle.mesa_delta.specs.NextBlock.{goes_on}
 use Rattle.mesa_delta.proofs.Going.{never_allowed, never_counted, one_more_of}
 use Rattle.mesa_delta.proofs.reader.go_on.Goals as goal
 

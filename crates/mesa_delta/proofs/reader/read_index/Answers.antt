@@ -1,10 +1,9 @@
 use Rattle.std.proofs.Common.{◌≡◌, ◌-◌, ◌∙◌, length, inr, rules, sym, ap, subst}
 use Rattle.sha2.specs.Sha256.{sha256}
-use Rattle.mesa_block.specs.Layout.{Layout}
-use Rattle.mesa_delta.specs.Indexed.{IsIndexOf, tail_length}
-use Rattle.mesa_delta.specs.Reading.{tail_place}
+use Rattle.mesa_delta_format.specs.mesa_block.Layout.{Layout}
+use Rattle.mesa_delta_format.specs.Indexed.{IsIndexOf, tail_length, tail_place}
 use Rattle.mesa_delta.specs.Damages.{IsPiece, IsMisfit}
-use Rattle.mesa_disk.specs.mesa_file.declared.damage.Seen.TheVariants.{Fits, Misfit}
+use Rattle.mesa_delta_format.specs.mesa_file.declared.damage.Seen.TheVariants.{Fits, Misfit}
 use Rattle.std.specs.Prelude.{IfNone}
 use Rattle.mesa_delta.proofs.Over.{over_is, no_tail, HasNone}
 use Rattle.mesa_delta.proofs.reader.read_index.Goals as goal

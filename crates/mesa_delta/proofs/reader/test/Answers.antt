@@ -1,11 +1,11 @@
 use Rattle.std.proofs.Common.{◌≡◌, ◌∙◌, ℕ, inr, rules, sym, ap, subst}
 use Rattle.std.specs.Prelude.{IfNone}
 use Rattle.sha2.specs.Sha256.{sha256}
-use Rattle.mesa_block.specs.Layout.{Layout}
-use Rattle.mesa_disk.specs.mesa_file.declared.damage.Seen.TheVariants.{Fits, Misfit}
-use Rattle.mesa_delta.specs.declared.place.Entry.{Entry}
+use Rattle.mesa_delta_format.specs.mesa_block.Layout.{Layout}
+use Rattle.mesa_delta_format.specs.mesa_file.declared.damage.Seen.TheVariants.{Fits, Misfit}
+use Rattle.mesa_delta_format.specs.declared.place.Entry.{Entry}
 use Rattle.mesa_delta.specs.Damages.{IsPiece, IsMisfit}
-use Rattle.mesa_delta.specs.Places.{entry_of}
+use Rattle.mesa_delta_format.specs.Places.{entry_of}
 use Rattle.mesa_delta.specs.Reading.{IsNoneIn}
 use Rattle.mesa_delta.proofs.Indexing.{no_block}
 use Rattle.mesa_delta.proofs.reader.test.Goals as goal

@@ -3,13 +3,13 @@ use Rattle.std.specs.Prelude.{IfSome}
 use Rattle.std.proofs.lemmas.Option.{IfSome_then}
 use Rattle.std.proofs.lemmas.Result.{IfOk-weaker}
 use Rattle.sha2.specs.Sha256.{sha256}
-use Rattle.mesa_block.specs.mesa_key.Order.{short_key}
-use Rattle.mesa_block.specs.mesa_columns.declared.rows.Row.{Row}
-use Rattle.mesa_block.specs.Layout.{Layout}
-use Rattle.mesa_block.specs.Rows.{AreRows}
-use Rattle.mesa_block.specs.Spelling.{block}
+use Rattle.mesa_delta_format.specs.mesa_key.Order.{short_key}
+use Rattle.mesa_delta_format.specs.mesa_columns.declared.rows.Row.{Row}
+use Rattle.mesa_delta_format.specs.mesa_block.Layout.{Layout}
+use Rattle.mesa_delta_format.specs.mesa_block.Rows.{AreRows}
+use Rattle.mesa_delta_format.specs.mesa_block.Spelling.{block}
 use Rattle.mesa_delta.specs.Reading.{IsBlock}
-use Rattle.mesa_delta.specs.Tail.{first_key}
+use Rattle.mesa_delta_format.specs.Tail.{first_key}
 use Rattle.mesa_delta.proofs.Accepting.{block_told}
 use Rattle.mesa_delta.proofs.reader.tested.Goals as goal
 

@@ -1,8 +1,8 @@
 use Rattle.std.proofs.Common.{sym, subst, pos, get_or, rules}
 use Rattle.std.specs.List.{AllByRecursion}
 use Rattle.std.proofs.lemmas.List.{take_more, take_all}
-use Rattle.mesa_block.specs.mesa_value.Agg.{IsAmount}
-use Rattle.mesa_delta.proofs.Spreading.{each_more}
+use Rattle.mesa_delta_format.specs.mesa_value.Agg.{IsAmount}
+use Rattle.mesa_delta_format.proofs.Spreading.{each_more}
 use Rattle.mesa_delta.proofs.writer.are_amounts.Goals as goal
 
 pub loop-value-preserved : goal.loop-value-preserved

@@ -1,6 +1,6 @@
 use Rattle.std.proofs.Common.{◌≡◌, drop}
 use Rattle.std.specs.Prelude.{find}
-use Rattle.mesa_columns.specs.Columns.{chosen, is_replace}
+use Rattle.mesa_fold.specs.mesa_columns.Columns.{chosen, is_replace}
 use Rattle.mesa_filter.proofs.asking.first_replace.Given as goal
 
 -- none of the columns so far is a replace column

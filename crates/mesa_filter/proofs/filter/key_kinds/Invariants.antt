@@ -1,6 +1,6 @@
 use Rattle.std.proofs.Common.{◌≡◌, ◌++◌, drop, map}
-use Rattle.mesa_columns.specs.declared.columns.KeyColumn.{KeyColumn}
-use Rattle.mesa_columns.specs.Columns.{kinds_of}
+use Rattle.mesa_fold.specs.mesa_columns.declared.columns.KeyColumn.{KeyColumn}
+use Rattle.mesa_fold.specs.mesa_columns.Columns.{kinds_of}
 use Rattle.mesa_filter.proofs.filter.key_kinds.Given as goal
 
 -- the types so far and those of the columns that are left are those of all

@@ -1,5 +1,5 @@
 use Rattle.mesa_fold.specs.mesa_key.Spelling.{key_of}
-use Rattle.mesa_columns.specs.Columns.{kinds_of}
+use Rattle.mesa_fold.specs.mesa_columns.Columns.{kinds_of}
 use Rattle.mesa_filter.specs.Filter.{meets}
 use Rattle.mesa_fold.proofs.FilteredFolds.{filtered_folds}
 use Rattle.mesa_filter.proofs.laws.filters_folds.Goals as goal

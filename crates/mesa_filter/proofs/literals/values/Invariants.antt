@@ -1,5 +1,5 @@
 use Rattle.std.proofs.Common.{◌≡◌, drop}
-use Rattle.mesa_columns.specs.Numbers.{key_value_of}
+use Rattle.mesa_fold.specs.mesa_columns.Numbers.{key_value_of}
 use Rattle.mesa_filter.specs.Filter.{each_some}
 use Rattle.mesa_filter.proofs.Texts.{after}
 use Rattle.mesa_filter.proofs.literals.values.Given as goal

@@ -1,9 +1,9 @@
 use Rattle.std.proofs.Common.{◌∙◌, ap, sym, length, map}
 use Rattle.std.proofs.lemmas.List.{take_rest}
-use Rattle.mesa_columns.specs.declared.columns.KeyColumn.{KeyColumn}
+use Rattle.mesa_fold.specs.mesa_columns.declared.columns.KeyColumn.{KeyColumn}
 use Rattle.std.specs.Prelude.{slice_get}
-use Rattle.mesa_columns.specs.Numbers.{key_value_of}
-use Rattle.mesa_columns.specs.Columns.{place_of}
+use Rattle.mesa_fold.specs.mesa_columns.Numbers.{key_value_of}
+use Rattle.mesa_fold.specs.mesa_columns.Columns.{place_of}
 use Rattle.mesa_filter.specs.Filter.{each_some}
 use Rattle.mesa_filter.proofs.Forms.{bad_literal, kind_there, no_column, spelled, well_formed}
 use Rattle.mesa_filter.proofs.parsing.term.Goals as goal

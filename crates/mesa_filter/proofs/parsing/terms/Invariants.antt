@@ -1,5 +1,5 @@
 use Rattle.std.proofs.Common.{◌≡◌, ◌≤◌, length, true}
-use Rattle.mesa_columns.specs.Columns.{kinds_of}
+use Rattle.mesa_fold.specs.mesa_columns.Columns.{kinds_of}
 use Rattle.mesa_filter.specs.Filter.{are_within, filter_of, terms_from}
 use Rattle.mesa_list.proofs.Lists.{ahead}
 use Rattle.mesa_filter.proofs.parsing.terms.Given as goal

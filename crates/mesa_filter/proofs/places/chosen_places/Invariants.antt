@@ -1,5 +1,5 @@
 use Rattle.std.proofs.Common.{◌≡◌, ◌++◌, drop, map, true}
-use Rattle.mesa_columns.specs.Columns.{places_in}
+use Rattle.mesa_fold.specs.mesa_columns.Columns.{places_in}
 use Rattle.mesa_filter.specs.Query.{are_places}
 use Rattle.mesa_filter.proofs.places.chosen_places.Given as goal
 

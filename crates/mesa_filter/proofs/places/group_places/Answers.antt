@@ -2,7 +2,7 @@ use Rattle.std.proofs.Common.{◌≡◌, ◌≢◌, ◌∙◌, sym, ap, subst, m
 use Rattle.std.specs.Prelude.{IfErr}
 use Rattle.mesa_list.specs.Bytes.{same_bytes}
 use Rattle.mesa_list.specs.Split.{split_at}
-use Rattle.mesa_columns.specs.declared.columns.KeyColumn.{KeyColumn}
+use Rattle.mesa_fold.specs.mesa_columns.declared.columns.KeyColumn.{KeyColumn}
 use Rattle.mesa_filter.specs.declared.words.QueryError.TheVariants.{Memory}
 use Rattle.mesa_filter.specs.Asked.{places_of}
 use Rattle.mesa_filter.proofs.PlacesAsked.{group_named}

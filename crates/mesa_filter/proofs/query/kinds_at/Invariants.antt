@@ -1,5 +1,5 @@
 use Rattle.std.proofs.Common.{◌≡◌, ◌++◌, drop}
-use Rattle.mesa_columns.specs.Columns.{chosen}
+use Rattle.mesa_fold.specs.mesa_columns.Columns.{chosen}
 use Rattle.mesa_filter.proofs.query.kinds_at.Given as goal
 
 -- the types so far and those at the places that are left are all

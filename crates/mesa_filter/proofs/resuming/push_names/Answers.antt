@@ -1,5 +1,5 @@
 use Rattle.std.proofs.Common.{◌∙◌, ◌++◌, ap, sym}
-use Rattle.mesa_columns.specs.declared.columns.KeyColumn.{KeyColumn}
+use Rattle.mesa_fold.specs.mesa_columns.declared.columns.KeyColumn.{KeyColumn}
 use Rattle.mesa_filter.proofs.Joins.{first_joined, later_joined}
 use Rattle.mesa_filter.proofs.PlacesAsked.{names_next, place_within}
 use Rattle.mesa_filter.proofs.resuming.push_names.Goals as goal

@@ -1,7 +1,7 @@
 use Rattle.std.proofs.Common.{◌≡◌, ◌++◌, drop, map}
 use Rattle.std.specs.List.{join_with_byte}
-use Rattle.mesa_columns.specs.declared.columns.KeyColumn.{KeyColumn}
-use Rattle.mesa_columns.specs.Columns.{chosen}
+use Rattle.mesa_fold.specs.mesa_columns.declared.columns.KeyColumn.{KeyColumn}
+use Rattle.mesa_fold.specs.mesa_columns.Columns.{chosen}
 use Rattle.mesa_filter.proofs.Joins.{rest_from}
 use Rattle.mesa_filter.proofs.resuming.push_names.Given as goal
 

@@ -1,5 +1,5 @@
 use Rattle.std.proofs.Common.{◌≡◌, ℕ, ◌∙◌, refl, sym, subst}
-use Rattle.mesa_delta.specs.Summary.{IsReferenceOf}
+use Rattle.mesa_open_files.specs.mesa_delta_format.Summary.{IsReferenceOf}
 use Rattle.mesa_delta.specs.Writing.{id_of, layout_of}
 use Rattle.mesa_load.proofs.writing.finish.Goals as goal
 

@@ -1,5 +1,5 @@
 use Rattle.std.proofs.Common.{get_or, ◌∙◌, ap}
-use Rattle.mesa_delta.specs.Indexed.{Indexed}
+use Rattle.mesa_scan.specs.mesa_delta_format.Indexed.{Indexed}
 use Rattle.mesa_merge.specs.Inputs.{known_of}
 use Rattle.mesa_merge.proofs.Inputs.{known_get}
 use Rattle.mesa_merge.proofs.sums.file_at.Goals as goal

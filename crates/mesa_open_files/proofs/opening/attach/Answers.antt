@@ -1,9 +1,9 @@
 use Rattle.std.proofs.Common.{◌≡◌, ◌∙◌, ℕ, List, Option, sym, subst}
 use Rattle.sha2.specs.Sha256.{sha256}
 use Rattle.mesa_disk.specs.Image.{Image}
-use Rattle.mesa_delta.specs.Indexed.{Indexed, IsIndexOf}
+use Rattle.mesa_scan.specs.mesa_delta_format.Indexed.{Indexed, IsIndexOf}
 use Rattle.mesa_delta.specs.Reading.{IsReaderOf, index_of}
-use Rattle.mesa_delta.specs.Summary.{file_layout}
+use Rattle.mesa_scan.specs.mesa_delta_format.Summary.{file_layout}
 use Rattle.mesa_open_files.specs.Opening.{IsTrueOf}
 use Rattle.mesa_open_files.proofs.Attaching.{known_of_reader, read_index}
 use Rattle.mesa_open_files.proofs.opening.attach.Goals as goal

@@ -8,7 +8,7 @@ use Rattle.mesa_open_files.specs.mesa_columns.Columns.{kinds_of}
 use Rattle.mesa_filter.specs.Filter.{filtered}
 use Rattle.mesa_filter.specs.Query.{are_places}
 use Rattle.mesa_delta.specs.Ahead.{AreAhead}
-use Rattle.mesa_delta.specs.Indexed.{Indexed}
+use Rattle.mesa_open_files.specs.mesa_delta_format.Indexed.{Indexed}
 use Rattle.mesa_merge.specs.Faults.{faults_of}
 use Rattle.mesa_merge.specs.Inputs.{IsTold, Known, known_of, knowns_of, tolds_of}
 use Rattle.mesa_merge.proofs.Causing.{cause_on, cause_quiet}

@@ -3,7 +3,7 @@ use Rattle.std.proofs.lemmas.List.{get_or_default}
 use Rattle.std.proofs.lemmas.Result.{err_from_is_err_and}
 use Rattle.std.specs.Prelude.{Err}
 use Rattle.mesa_file.specs.declared.file_id.FileId.{FileId}
-use Rattle.mesa_delta.specs.Indexed.{Indexed}
+use Rattle.mesa_open_files.specs.mesa_delta_format.Indexed.{Indexed}
 use Rattle.mesa_delta.specs.Reading.{index_of}
 use Rattle.mesa_answer.specs.Gathered.{key_at_hand, wanted_of}
 use Rattle.mesa_merge.proofs.Causing.{cause_quiet}

@@ -1,7 +1,7 @@
 use Rattle.std.proofs.Common.{◌≡◌, ⊎_elim, ◌+◌, [], Some, Err, refl, sym, ◌∙◌, subst, arith}
 use Rattle.std.specs.Prelude.{◌≢◌, ◌↔◌}
 use Rattle.mesa_disk.specs.Image.{Image}
-use Rattle.mesa_catalog.specs.mesa_commit.Filed.{FilesAdopted}
+use Rattle.mesa_store.specs.mesa_commit.Filed.{FilesAdopted}
 use Rattle.mesa_store_spec.specs.Ids.{named}
 use Rattle.mesa_catalog.specs.declared.begun.Begun.{Begun}
 use Rattle.mesa_recover.specs.declared.error.OpenError.TheVariants as open_error

@@ -1,7 +1,7 @@
 use Rattle.std.proofs.Common.{ℕ, ◌++◌, ◌∷◌, [], ap, subst, sym}
 use Rattle.mesa_disk.specs.Story.{Steps}
 use Rattle.mesa_disk.specs.declared.area.Area.{Area}
-use Rattle.mesa_catalog.specs.mesa_commit.Turn.{MovesOnly}
+use Rattle.mesa_store.specs.mesa_commit.Turn.{MovesOnly}
 use Rattle.mesa_store_spec.specs.Catalog.{applied}
 use Rattle.mesa_store_spec.specs.Held.{IsHeld}
 use Rattle.mesa_disk.specs.Files.{files_of}

@@ -2,9 +2,9 @@ use Rattle.std.proofs.Common.{◌+◌, ◌<◌, [], Bool, arith, false, get_or, 
 use Rattle.std.specs.Bool.{OnFalse}
 use Rattle.mesa_schema.specs.Lineages.{IsLineage}
 use Rattle.mesa_filter.specs.Pruning.{NoneMeets}
-use Rattle.mesa_delta.specs.Indexed.{Indexed, IsIndex}
+use Rattle.mesa_delta.specs.mesa_delta_format.Indexed.{Indexed, IsIndex}
 use Rattle.mesa_delta.specs.Reading.{index_of}
-use Rattle.mesa_delta.specs.Spread.{blocks_of}
+use Rattle.mesa_delta.specs.mesa_delta_format.Spread.{blocks_of}
 use Rattle.mesa_scan.specs.Allowing.{bounds_in}
 use Rattle.mesa_scan.specs.Scanning.{keys_in}
 use Rattle.mesa_scan.proofs.Skipping.{skipped}

@@ -4,8 +4,8 @@ use Rattle.std.specs.Ordering.{is_lt}
 use Rattle.mesa_delta.specs.mesa_key.Order.{byte_cmp}
 use Rattle.mesa_delta.specs.mesa_columns.declared.rows.Row.{Row}
 use Rattle.mesa_delta.specs.mesa_columns.Lent.{lent}
-use Rattle.mesa_delta.specs.Summary.{last_key}
-use Rattle.mesa_delta.specs.Tail.{first_key}
+use Rattle.mesa_delta.specs.mesa_delta_format.Summary.{last_key}
+use Rattle.mesa_delta.specs.mesa_delta_format.Tail.{first_key}
 use Rattle.mesa_scan.specs.Cursors.{comes_behind}
 use Rattle.mesa_scan.proofs.beginning.follows.Goals as goal
 

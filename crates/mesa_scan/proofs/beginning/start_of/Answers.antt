@@ -7,11 +7,11 @@ use Rattle.mesa_schema.specs.Changes.{columns_of}
 use Rattle.mesa_delta.specs.mesa_columns.Columns.{Columns}
 use Rattle.mesa_delta.specs.mesa_fold.Folded.{rows_of}
 use Rattle.mesa_schema.specs.Lineages.{IsLineage}
-use Rattle.mesa_delta.specs.Indexed.{Indexed, IsIndex}
-use Rattle.mesa_delta.specs.Places.{shorts_of}
+use Rattle.mesa_delta.specs.mesa_delta_format.Indexed.{Indexed, IsIndex}
+use Rattle.mesa_delta.specs.mesa_delta_format.Places.{shorts_of}
 use Rattle.mesa_delta.specs.Reading.{index_of}
-use Rattle.mesa_delta.specs.Spread.{blocks_of}
-use Rattle.mesa_delta.proofs.Searching.{within}
+use Rattle.mesa_delta.specs.mesa_delta_format.Spread.{blocks_of}
+use Rattle.mesa_delta.proofs.mesa_delta_format.Searching.{within}
 use Rattle.mesa_scan.specs.Cursors.{lift_by}
 use Rattle.mesa_scan.specs.Cut.{cut}
 use Rattle.mesa_scan.proofs.Starting.{first_keys, none_before}

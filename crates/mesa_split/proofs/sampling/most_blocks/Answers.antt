@@ -1,5 +1,5 @@
 use Rattle.std.proofs.Common.{◌≡◌, ◌+◌, ◌++◌, ◌∷◌, [], take, List, refl, sym, ap, subst, ◌∙◌}
-use Rattle.mesa_delta.specs.Indexed.{Indexed}
+use Rattle.mesa_compact.specs.mesa_delta_format.Indexed.{Indexed}
 use Rattle.mesa_split.specs.Sampling.{HasMost, indexes_of}
 use Rattle.mesa_split.proofs.Cuts.{index_more, most_step}
 use Rattle.mesa_split.proofs.sampling.most_blocks.Goals as goal

@@ -1,6 +1,6 @@
 use Rattle.std.proofs.Common.{◌≡◌, ◌+◌, ◌<◌, ◌∙◌, ap, arith, length, min}
 use Rattle.std.proofs.lemmas.Result.{IfOk-weaker}
-use Rattle.mesa_delta.specs.Places.{shorts_of}
+use Rattle.mesa_compact.specs.mesa_delta_format.Places.{shorts_of}
 use Rattle.mesa_split.specs.Sampling.{indexes_of}
 use Rattle.mesa_split.proofs.Cuts.{cuts_finer, cuts_rise}
 use Rattle.mesa_split.proofs.sampling.piece_cuts.Goals as goal

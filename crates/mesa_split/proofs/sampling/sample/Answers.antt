@@ -1,6 +1,6 @@
 use Rattle.std.proofs.Common.{◌∙◌, None, ap}
 use Rattle.std.proofs.lemmas.Result.{IfOk-weaker}
-use Rattle.mesa_delta.specs.Places.{shorts_of}
+use Rattle.mesa_compact.specs.mesa_delta_format.Places.{shorts_of}
 use Rattle.mesa_split.specs.Sampling.{indexes_of, risen, spread}
 use Rattle.mesa_split.proofs.Cuts.{cuts_few, cuts_none, cuts_rise, cuts_some}
 use Rattle.mesa_split.proofs.sampling.sample.Goals as goal

@@ -1,6 +1,6 @@
 use Rattle.std.proofs.Common.{◌≡◌, ◌∙◌, ◌+◌, ◌-◌, ◌≤◌, ℕ, None, ap, arith, map}
 use Rattle.std.specs.List.{range_with_len}
-use Rattle.mesa_delta.specs.Places.{shorts_of}
+use Rattle.mesa_compact.specs.mesa_delta_format.Places.{shorts_of}
 use Rattle.mesa_split.specs.Sampling.{part_key, risen}
 use Rattle.mesa_split.proofs.Cuts.{cut_more}
 use Rattle.mesa_split.proofs.sampling.sample_index.Goals as goal

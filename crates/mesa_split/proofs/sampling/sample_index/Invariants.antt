@@ -1,5 +1,5 @@
 use Rattle.std.proofs.Common.{◌≡◌, ◌-◌, ◌≤◌, None}
-use Rattle.mesa_delta.specs.Places.{shorts_of}
+use Rattle.mesa_compact.specs.mesa_delta_format.Places.{shorts_of}
 use Rattle.mesa_split.specs.Sampling.{risen}
 use Rattle.mesa_split.proofs.Cuts.{spread_to}
 use Rattle.mesa_split.proofs.sampling.sample_index.Given as goal

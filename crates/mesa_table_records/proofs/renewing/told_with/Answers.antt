@@ -1,7 +1,7 @@
 use Rattle.std.proofs.Common.{◌≡◌, ◌≤◌, ◌<◌, ◌++◌, ◌∙◌, ap, refl, sym, drop, length, arith, Option, Some, None}
 use Rattle.mesa_schema.specs.Recasts.{recast_lineage}
-use Rattle.mesa_record.specs.declared.record.Files.{Files}
-use Rattle.mesa_record.specs.declared.checkpoint.CheckpointSingle.{CheckpointSingle}
+use Rattle.mesa_catalog_table.specs.mesa_record.declared.record.Files.{Files}
+use Rattle.mesa_catalog_table.specs.mesa_record.declared.checkpoint.CheckpointSingle.{CheckpointSingle}
 use Rattle.mesa_catalog_table.specs.mesa_store_spec.Catalog.{Delta, recast_in}
 use Rattle.mesa_catalog_table.specs.mesa_store_spec.Checkpoint.{stating_single, totals_or_none}
 use Rattle.mesa_catalog_table.specs.mesa_store_spec.Fitting.{singles_renewed}

@@ -1,7 +1,7 @@
 use Rattle.std.proofs.Common.{◌≢◌, ◌+◌, ◌<◌, ◌++◌, ◌∙◌, ap, sym, subst, arith, length, map, get_or}
 use Rattle.std.specs.List.{AllByRecursion}
 use Rattle.std.proofs.lemmas.List.{append-nil, drop_all, get_or_default, take_all}
-use Rattle.mesa_record.specs.declared.record.Part.{Part}
+use Rattle.mesa_table_records.specs.mesa_record.declared.record.Part.{Part}
 use Rattle.mesa_table_records.specs.mesa_store_spec.Catalog.{meta_loaded, metas_loaded}
 use Rattle.mesa_table_records.specs.mesa_catalog_table.Meaning.{IsTable, meta_of}
 use Rattle.mesa_table_records.specs.Readied.{part_in}

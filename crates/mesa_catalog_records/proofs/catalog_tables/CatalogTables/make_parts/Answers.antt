@@ -2,7 +2,7 @@ use Rattle.std.proofs.Common.{◌++◌, ◌∷◌, [], ◌∙◌, ap, sym, subst
 use Rattle.std.specs.Prelude.{◌&&◌}
 use Rattle.std.specs.List.{AllByRecursion}
 use Rattle.std.proofs.lemmas.List.{map_push, take_all, take_more}
-use Rattle.mesa_record.specs.declared.record.Part.{Part}
+use Rattle.mesa_table_records.specs.mesa_record.declared.record.Part.{Part}
 use Rattle.mesa_table_records.specs.mesa_store_spec.Catalog.{meta_at}
 use Rattle.mesa_table_records.specs.mesa_store_spec.Fitting.{is_there, part_fits}
 use Rattle.mesa_catalog_records.specs.Meaning.{catalogue_of}

@@ -3,7 +3,7 @@ use Rattle.std.specs.Prelude.{◌==◌, ◌&&◌}
 use Rattle.std.proofs.lemmas.Bool.Decides.{nat_tests}
 use Rattle.mesa_schema.specs.Changes.{epoch_of}
 use Rattle.mesa_schema.specs.Recasts.{recast_checked, recast_lineage}
-use Rattle.mesa_record.specs.declared.record.Record.TheVariants as record_of
+use Rattle.mesa_table_records.specs.mesa_record.declared.record.Record.TheVariants as record_of
 use Rattle.mesa_table_records.specs.mesa_store_spec.Catalog.{TableMeta, recast_in, meta_at}
 use Rattle.mesa_table_records.specs.mesa_store_spec.Fitting.{is_there, ranges_renewed, recast_fits}
 use Rattle.mesa_table_records.specs.Readied.{IsRecast, recasting_in}

@@ -1,6 +1,6 @@
 use Rattle.std.proofs.Common.{◌++◌, ◌∙◌, ap, sym}
 use Rattle.std.specs.Prelude.{flat_map}
-use Rattle.mesa_record.specs.declared.record.Record.TheVariants as record_of
+use Rattle.mesa_table_records.specs.mesa_record.declared.record.Record.TheVariants as record_of
 use Rattle.mesa_table_records.specs.mesa_store_spec.Catalog.{TableMeta}
 use Rattle.mesa_table_records.specs.mesa_store_spec.Ids.{delta_ids, dropped_deltas, dropped_ids}
 use Rattle.mesa_table_records.proofs.mesa_catalog_table.Pushes.{on_ok}

@@ -1,7 +1,7 @@
 use Rattle.std.proofs.Common.{◌≡◌, refl, arith, rules, ◌∙◌, ap, length}
 use Rattle.std.proofs.lemmas.List.{take_at}
 use Rattle.mesa_open_files.specs.mesa_columns.Columns.{aggs_of}
-use Rattle.mesa_delta.specs.Totals.{added}
+use Rattle.mesa_open_files.specs.mesa_delta_format.Totals.{added}
 use Rattle.mesa_check_file.proofs.Tallying.{ends_more}
 use Rattle.mesa_check_file.proofs.tally.Ends.go_on.Goals as goal
 

@@ -1,5 +1,5 @@
 use Rattle.std.proofs.Common.{◌≡◌, List, ℕ, refl, rules}
-use Rattle.mesa_block.specs.Spelling.{block}
+use Rattle.mesa_delta_format.specs.mesa_block.Spelling.{block}
 use Rattle.mesa_delta.proofs.Placing.{closed}
 use Rattle.mesa_delta.proofs.Putting.{one_more_pending}
 use Rattle.mesa_delta.proofs.blocks.BlockWriter.close.Goals as goal

@@ -1,6 +1,6 @@
 use Rattle.std.proofs.Common.{◌≡◌, rules, ap, sym, ◌∙◌, Some, None}
-use Rattle.mesa_block.specs.mesa_columns.Lent.{lent}
-use Rattle.mesa_block.specs.Fill.{Built}
+use Rattle.mesa_delta_format.specs.mesa_columns.Lent.{lent}
+use Rattle.mesa_delta_format.specs.mesa_block.Fill.{Built}
 use Rattle.mesa_delta.specs.Begun.{begun}
 use Rattle.mesa_delta.proofs.Placing.{begun_first}
 use Rattle.mesa_delta.proofs.blocks.BlockWriter.offer.Goals as goal

@@ -1,8 +1,8 @@
 use Rattle.std.proofs.Common.{◌≡◌, ◌<◌, ◌-◌, ◌+◌, ◌∙◌, ℕ, List, [], ◌∷◌, length, get_or, arith, refl, ap, sym, add-one}
-use Rattle.mesa_block.specs.mesa_columns.declared.rows.Row.{Row}
-use Rattle.mesa_block.specs.mesa_columns.Lent.{lent}
+use Rattle.mesa_delta_format.specs.mesa_columns.declared.rows.Row.{Row}
+use Rattle.mesa_delta_format.specs.mesa_columns.Lent.{lent}
 use Rattle.std.proofs.lemmas.Option.{get_or_from_slice_get}
-use Rattle.mesa_delta.specs.Summary.{last_key}
+use Rattle.mesa_delta_format.specs.Summary.{last_key}
 use Rattle.mesa_delta.proofs.run.Run.after.Goals as goal
 
 at_next : (a : Row) (rows : List Row) (d : Row) (n : ℕ) → (get_or (a ∷ rows) (n + 1) d).key ≡ (get_or rows n d).key

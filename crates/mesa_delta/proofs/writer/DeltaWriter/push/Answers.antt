@@ -1,5 +1,5 @@
-use Rattle.mesa_block.specs.mesa_columns.Lent.{lent}
-use Rattle.mesa_block.proofs.Cells.{wide_cells}
+use Rattle.mesa_delta_format.specs.mesa_columns.Lent.{lent}
+use Rattle.mesa_delta_format.proofs.mesa_block.Cells.{wide_cells}
 use Rattle.mesa_delta.proofs.Taking.{may_push, one_more}
 use Rattle.mesa_delta.proofs.writer.DeltaWriter.push.Goals as goal
 

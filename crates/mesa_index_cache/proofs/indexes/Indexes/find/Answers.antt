@@ -1,8 +1,8 @@
 use Rattle.std.proofs.Common.{◌≡◌, ◌∙◌, ℕ, List, Some, sym, ap, subst}
 use Rattle.std.specs.Option.{option_map}
 use Rattle.sha2.specs.Sha256.{sha256}
-use Rattle.mesa_delta.specs.Indexed.{Indexed, IsIndexOf}
-use Rattle.mesa_delta.specs.Summary.{file_layout}
+use Rattle.mesa_open_files.specs.mesa_delta_format.Indexed.{Indexed, IsIndexOf}
+use Rattle.mesa_open_files.specs.mesa_delta_format.Summary.{file_layout}
 use Rattle.mesa_index_cache.specs.Kept.{index_in, kept_at}
 use Rattle.mesa_index_cache.proofs.indexes.Indexes.find.Goals as goal
 

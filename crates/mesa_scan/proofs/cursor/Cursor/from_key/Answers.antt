@@ -1,7 +1,7 @@
 use Rattle.std.proofs.Common.{[], refl, subst, arith}
 use Rattle.mesa_schema.specs.Lifting.{Lifts}
 use Rattle.mesa_schema.specs.Lineages.{IsLineage}
-use Rattle.mesa_delta.specs.Indexed.{IsIndex}
+use Rattle.mesa_delta.specs.mesa_delta_format.Indexed.{IsIndex}
 use Rattle.mesa_delta.specs.Reading.{index_of}
 use Rattle.mesa_scan.proofs.cursor.Cursor.from_key.Goals as goal
 

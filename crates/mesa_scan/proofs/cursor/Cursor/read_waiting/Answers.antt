@@ -3,8 +3,8 @@ use Rattle.std.proofs.lemmas.Bool.{false≢true}
 use Rattle.std.proofs.lemmas.List.{length-drop}
 use Rattle.std.specs.Prelude.{None}
 use Rattle.mesa_delta.specs.mesa_file.declared.damage.Seen.TheVariants as seen
-use Rattle.mesa_delta.specs.Indexed.{Indexed}
-use Rattle.mesa_delta.specs.Places.{entry_of}
+use Rattle.mesa_delta.specs.mesa_delta_format.Indexed.{Indexed}
+use Rattle.mesa_delta.specs.mesa_delta_format.Places.{entry_of}
 use Rattle.mesa_scan.specs.Cursors.{IsSameInput, block_of, comes_behind, low_of, next_of}
 use Rattle.mesa_scan.proofs.Giving.{given_more, input_failed, input_more, is_fall, told_on}
 use Rattle.mesa_scan.proofs.cursor.Cursor.read_waiting.Goals as goal

@@ -6,7 +6,7 @@ use Rattle.mesa_delta.specs.mesa_columns.declared.rows.Row.{Row}
 use Rattle.mesa_delta.specs.mesa_columns.Lifting.{lifted_with}
 use Rattle.mesa_schema.specs.Lineages.{IsLineage}
 use Rattle.mesa_schema.proofs.mesa_columns.Lists.{all_map}
-use Rattle.mesa_delta.specs.Indexed.{IsIndex}
+use Rattle.mesa_delta.specs.mesa_delta_format.Indexed.{IsIndex}
 use Rattle.mesa_delta.specs.Reading.{index_of}
 use Rattle.mesa_scan.specs.Cursors.{IsSameInput}
 use Rattle.mesa_scan.proofs.Giving.{input_more}

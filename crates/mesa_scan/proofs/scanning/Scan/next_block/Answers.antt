@@ -6,7 +6,7 @@ use Rattle.mesa_delta.specs.mesa_columns.declared.rows.Row.{Row}
 use Rattle.mesa_delta.specs.mesa_columns.Lifting.{lifted_with}
 use Rattle.mesa_schema.specs.Lineages.{IsLineage}
 use Rattle.mesa_schema.proofs.mesa_columns.Lists.{all_map}
-use Rattle.mesa_delta.specs.Indexed.{Indexed, IsIndex}
+use Rattle.mesa_delta.specs.mesa_delta_format.Indexed.{Indexed, IsIndex}
 use Rattle.mesa_delta.specs.Reading.{index_of}
 use Rattle.mesa_scan.specs.Cursors.{IsSameInput, reader_in}
 use Rattle.mesa_scan.specs.Allowing.{allows_block}

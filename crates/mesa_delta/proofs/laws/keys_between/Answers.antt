@@ -1,5 +1,0 @@
-use Rattle.mesa_delta.proofs.Bounding.{between}
-use Rattle.mesa_delta.proofs.laws.keys_between.Goals as goal
-
-pub returns : goal.returns
-returns c = between c.fits_alone.ensures

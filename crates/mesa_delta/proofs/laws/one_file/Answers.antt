@@ -1,5 +1,0 @@
-use Rattle.mesa_delta.proofs.Once.{rows_once}
-use Rattle.mesa_delta.proofs.laws.one_file.Goals as goal
-
-pub returns : goal.returns
-returns c = rows_once c.fits_alone.ensures c.reads_blocks.ensures
