@@ -2,7 +2,7 @@
 use Rattle.std.specs.Prelude.{◌≡◌, ℕ, ◌+◌, List, length, Option}
 use Rattle.std.proofs.Common.{sym, subst}
 use Rattle.std.specs.declared.io.ErrorKind.{ErrorKind}
-use Rattle.mesa_dir.specs.Calls.{Call, Removed, with_call}
+use Rattle.mesa_os.specs.Calls.{Call, Removed, with_call}
 use Rattle.mesa_dir.specs.Opening.{DraftsRemoved, IsDraftName, IsPiece, WrittenAgain, more, piece}
 use Rattle.mesa_dir.specs.Paths.{within}
 

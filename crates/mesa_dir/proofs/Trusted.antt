@@ -2,7 +2,7 @@
 use Rattle.std.specs.Prelude.{◌≡◌, ℕ, true, List, Option, None, Some, refl}
 use Rattle.std.proofs.Common.{ap, ◌∙◌}
 use Rattle.std.specs.declared.io.ErrorKind.{ErrorKind}
-use Rattle.mesa_dir.specs.Calls.{Call, IsOpened, Locked, Measured, Read, Removed, Synced, WroteAt, is_named, is_trusted, no_sync_failed, with_call}
+use Rattle.mesa_os.specs.Calls.{Call, IsOpened, Locked, Measured, Read, Removed, Synced, WroteAt, is_named, is_trusted, no_sync_failed, with_call}
 use Rattle.mesa_dir.specs.Opening.{DraftsRemoved, IsAreaLocked, IsSettled, NamesCleared, WrittenAgain, areas_opened, more, none, nothing, piece}
 use Rattle.mesa_dir.specs.Paths.{within}
 

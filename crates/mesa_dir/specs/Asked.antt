@@ -4,7 +4,7 @@ use Rattle.mesa_disk.specs.declared.area.Area.{Area}
 use Rattle.mesa_disk.specs.declared.area.Area.TheVariants.{Zero, One}
 use Rattle.std.specs.declared.io.ErrorKind.{ErrorKind}
 use Rattle.std.specs.declared.io.ErrorKind.TheVariants.{NotFound}
-use Rattle.mesa_dir.specs.Calls.{Call, Removed, Renamed, Synced, SyncedBytes, is_named, is_durable, is_trusted, with_call}
+use Rattle.mesa_os.specs.Calls.{Call, Removed, Renamed, Synced, SyncedBytes, is_named, is_durable, is_trusted, with_call}
 use Rattle.mesa_dir.specs.Opening.{IsNameSynced, NamesSettled, OneSettled, ZeroSettled}
 
 -- The calls on the folder that has an open folder's name, on the open folder and the names in it, and on the files of its two areas; each the newest first, where they are told.

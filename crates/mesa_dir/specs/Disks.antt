@@ -4,7 +4,7 @@ use Rattle.mesa_disk.specs.Story.{Story}
 use Rattle.mesa_disk.specs.Untold.{untold_story}
 use Rattle.mesa_dir.specs.Asked.{Asked, unasked}
 use Rattle.mesa_dir.specs.Folders.{folder_asked}
-use Rattle.mesa_dir.specs.declared.system.System.{Ghosts}
+use Rattle.mesa_os.specs.declared.system.System.{Ghosts}
 use Rattle.mesa_dir.specs.declared.folder.Folder.{Folder}
 use Rattle.mesa_dir.specs.declared.store.Store.{Store}
 use Rattle.mesa_dir.specs.declared.disk.DirDisk.{DirDisk}

@@ -1,8 +1,8 @@
 -- What is known of a draft in a folder, of a finished file and of a bench.
 use Rattle.std.specs.Prelude.{ℕ, List, Option, string_bytes}
-use Rattle.mesa_dir.specs.Calls.{Call}
+use Rattle.mesa_os.specs.Calls.{Call}
 use Rattle.mesa_dir.specs.Told.{told_bytes}
-use Rattle.mesa_dir.specs.declared.system.System.{Ghosts}
+use Rattle.mesa_os.specs.declared.system.System.{Ghosts}
 use Rattle.mesa_dir.specs.declared.draft.DirDraft.{DirDraft}
 use Rattle.mesa_dir.specs.declared.draft.DirMade.{DirMade}
 use Rattle.mesa_dir.specs.declared.bench.DirBench.{DirBench}

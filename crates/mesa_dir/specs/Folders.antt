@@ -1,8 +1,8 @@
 -- What is known of a folder and its areas.
 use Rattle.std.specs.Prelude.{List, Option}
 use Rattle.mesa_dir.specs.Asked.{Asked, asked}
-use Rattle.mesa_dir.specs.Calls.{Call}
-use Rattle.mesa_dir.specs.declared.system.System.{Ghosts}
+use Rattle.mesa_os.specs.Calls.{Call}
+use Rattle.mesa_os.specs.declared.system.System.{Ghosts}
 use Rattle.mesa_dir.specs.declared.area_file.AreaFile.{AreaFile}
 use Rattle.mesa_dir.specs.declared.folder.Folder.{Folder}
 

@@ -1,4 +1,4 @@
-pub mod Calls
+pub use Rattle.mesa_os.specs as mesa_os
 pub mod Paths
 pub mod Told
 pub mod Opening

@@ -2,7 +2,7 @@
 use Rattle.std.specs.Prelude.{◌≡◌, ◌⊎◌, ℕ, ◌+◌, true, List, length, Option, None, Some, codes}
 use Rattle.std.specs.declared.io.ErrorKind.{ErrorKind}
 use Rattle.std.specs.declared.io.ErrorKind.TheVariants.{AlreadyExists}
-use Rattle.mesa_dir.specs.Calls.{Call, IsOpened, Locked, MadeFolder, Measured, OpenedWithin, Read, Removed, Synced, WroteAt, with_call}
+use Rattle.mesa_os.specs.Calls.{Call, IsOpened, Locked, MadeFolder, Measured, OpenedWithin, Read, Removed, Synced, WroteAt, with_call}
 use Rattle.mesa_dir.specs.Paths.{IsNumbered, one_path_of, within, zero_path_of}
 
 -- One call made the folder of this path, or found that it was there.

@@ -1,6 +1,6 @@
 -- What is known of an adopted file that is read.
 use Rattle.std.specs.Prelude.{ℕ, List, Option}
-use Rattle.mesa_dir.specs.Calls.{Call}
+use Rattle.mesa_os.specs.Calls.{Call}
 use Rattle.mesa_dir.specs.declared.reader.DirReader.{DirReader}
 
 -- the calls on the file, the newest first, where they are told

@@ -1,7 +1,7 @@
 -- What a file's calls say of its bytes.
 use Rattle.std.specs.Prelude.{◌≡◌, ℕ, List, [], ◌∷◌, ◌++◌, length, if◌then◌else◌, Option, None, Some, option_map}
 use Rattle.std.proofs.Common.{ap, sym, ◌∙◌}
-use Rattle.mesa_dir.specs.Calls.{Call, Wrote}
+use Rattle.mesa_os.specs.Calls.{Call, Wrote}
 
 -- the bytes that a call added
 abbrev pub written_by : Call → List ℕ

@@ -2,7 +2,7 @@
 ghost use Rattle.std.specs.Prelude.{◌≡◌, ◌<◌, ◌≤◌, length, IfOk, OnOk};
 ghost use Rattle.mesa_dir.specs.Opening.{IsPiece, WrittenAgain};
 
-use crate::System;
+use mesa_os::System;
 use std::io;
 
 // How many of the bytes that are left a buffer of this length takes.

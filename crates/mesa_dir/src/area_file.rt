@@ -1,9 +1,9 @@
 // The file of a journal area.
 ghost use Rattle.std.specs.Prelude.{◌≡◌, true};
-ghost use Rattle.mesa_dir.specs.Calls.{is_durable};
+ghost use Rattle.mesa_os.specs.Calls.{is_durable};
 
-use crate::System;
 use crate::again::write_again;
+use mesa_os::System;
 use std::io;
 
 // How many bytes are written again at once.
@@ -20,7 +20,7 @@ pub(crate) struct AreaFile<S: System> {
 
 impl<S: System> AreaFile<S> {
     ghost use Rattle.std.specs.Prelude.{◌⊎◌, IfOk, IsTrue, OnOk, is_ok};
-    ghost use Rattle.mesa_dir.specs.Calls.{Read, Synced, SyncedBytes, WroteAt, with_call};
+    ghost use Rattle.mesa_os.specs.Calls.{Read, Synced, SyncedBytes, WroteAt, with_call};
     ghost use Rattle.mesa_dir.specs.Folders.{area_calls};
     ghost use Rattle.mesa_dir.specs.Opening.{IsSettled};
 

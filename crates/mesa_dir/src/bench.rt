@@ -3,9 +3,10 @@ ghost use Rattle.std.specs.Prelude.{◌≡◌, IfOk};
 
 use crate::draft::Unadopted;
 use crate::names::draft_path;
-use crate::{DirDraft, DirMade, System};
+use crate::{DirDraft, DirMade};
 use mesa_disk::{Bench, DraftError, FileId};
 use mesa_io::FaultCount;
+use mesa_os::System;
 use std::alloc::AllocError;
 use std::io::{self, ErrorKind};
 
@@ -21,7 +22,7 @@ pub struct DirBench<S: System> {
 
 impl<S: System> DirBench<S> {
     ghost use Rattle.std.specs.Prelude.{string_bytes};
-    ghost use Rattle.mesa_dir.specs.Calls.{IsCreated};
+    ghost use Rattle.mesa_os.specs.Calls.{IsCreated};
     ghost use Rattle.mesa_dir.specs.Drafts.{bench_faults, bench_folder};
 
     /// A bench in the folder of this path.
@@ -56,7 +57,7 @@ where
     ghost use Rattle.std.specs.Prelude.{◌≤◌, ◌<◌, ℕ, List, [], Some};
     ghost use Rattle.mesa_io.specs.Causes.{Rose, HasFaultCause};
     ghost use Rattle.mesa_disk.specs.declared.failures.DraftError.TheVariants.{Failed};
-    ghost use Rattle.mesa_dir.specs.Calls.{IsCreated};
+    ghost use Rattle.mesa_os.specs.Calls.{IsCreated};
     ghost use Rattle.mesa_dir.specs.Paths.{draft_path_of};
     ghost use Rattle.mesa_dir.specs.Drafts.{bench_faults, bench_folder, draft_bytes, draft_calls, draft_faults, draft_id, path_of_draft};
 

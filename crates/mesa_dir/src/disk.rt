@@ -3,9 +3,10 @@ ghost use Rattle.std.specs.Prelude.{◌<◌, ◌≤◌, ◌^◌};
 ghost use Rattle.mesa_io.specs.Causes.{last};
 
 use crate::store::{Opened, Store};
-use crate::{DirBench, DirMade, DirReader, System};
+use crate::{DirBench, DirMade, DirReader};
 use mesa_disk::{Area, Disk, DiskFailed, FileId, ListFault, OpenFault};
 use mesa_io::FaultCount;
+use mesa_os::System;
 use std::alloc::AllocError;
 use std::io::ErrorKind;
 
@@ -81,7 +82,7 @@ where
     ghost use Rattle.mesa_disk.specs.declared.failures.OpenFault.TheVariants.{Failed as OpenFailed, Absent};
     ghost use Rattle.mesa_io.specs.Causes.{Rose, HasCause, HasFaultCause};
     ghost use Rattle.mesa_dir.specs.Asked.{AllSynced, IsAdopted, IsGone, IsTrusted, IsUnadopted, OnlySynced, with_asked, with_named};
-    ghost use Rattle.mesa_dir.specs.Calls.{IsMeasured, Read, Removed, WroteAt};
+    ghost use Rattle.mesa_os.specs.Calls.{IsMeasured, Read, Removed, WroteAt};
     ghost use Rattle.std.specs.declared.io.ErrorKind.{ErrorKind};
     ghost use Rattle.mesa_dir.specs.Disks.{disk_asked, disk_path, story_of};
     ghost use Rattle.mesa_dir.specs.Drafts.{made_bytes, path_of_made};

@@ -1,11 +1,11 @@
 // Files that are written and not adopted yet.
 ghost use Rattle.std.specs.Prelude.{◌≡◌, true};
-ghost use Rattle.mesa_dir.specs.Calls.{is_whole};
+ghost use Rattle.mesa_os.specs.Calls.{is_whole};
 ghost use Rattle.mesa_dir.specs.Told.{told_bytes, told_sized, written_len};
 
-use crate::System;
 use mesa_disk::{Draft, DraftError, FileId, Made};
 use mesa_io::FaultCount;
+use mesa_os::System;
 use std::io;
 
 /// The name of a file that isn't adopted. Whoever lets it go removes the file.
@@ -23,7 +23,7 @@ impl<S: System> Drop for Unadopted<S> {
 
 impl<S: System> Unadopted<S> {
     ghost use Rattle.std.specs.Prelude.{is_ok, string_bytes};
-    ghost use Rattle.mesa_dir.specs.Calls.{Renamed, with_call};
+    ghost use Rattle.mesa_os.specs.Calls.{Renamed, with_call};
 
     // Gives the file another name in its folder, or removes it.
     fn rename(self, folder: &mut S::Handle, to: &str) -> io::Result<()>
@@ -59,7 +59,7 @@ pub struct DirMade<S: System> {
 
 impl<S: System> DirMade<S> {
     ghost use Rattle.std.specs.Prelude.{is_ok};
-    ghost use Rattle.mesa_dir.specs.Calls.{Renamed, with_call};
+    ghost use Rattle.mesa_os.specs.Calls.{Renamed, with_call};
     ghost use Rattle.mesa_dir.specs.Drafts.{path_of_made};
 
     /// Gives the file the name of an adopted one in its folder, or removes it.
@@ -102,7 +102,7 @@ impl<S: System> DirDraft<S> {
     ghost use Rattle.std.specs.Prelude.{IfErr, OnOk, OnErr};
     ghost use Rattle.mesa_disk.specs.declared.failures.DraftError.TheVariants.{Failed};
     ghost use Rattle.mesa_io.specs.Causes.{Rose};
-    ghost use Rattle.mesa_dir.specs.Calls.{Synced, with_call};
+    ghost use Rattle.mesa_os.specs.Calls.{Synced, with_call};
     ghost use Rattle.mesa_dir.specs.Drafts.{draft_bytes, draft_calls, draft_faults, draft_id, path_of_draft};
 
     // Syncs the file, where no call has failed. A sync after one that failed may succeed though bytes are
@@ -132,7 +132,7 @@ where
     ghost use Rattle.std.specs.Prelude.{◌≤◌, ◌++◌, IfOk, IfErr, OnOk, option_map};
     ghost use Rattle.mesa_io.specs.Causes.{Rose, HasFaultCause};
     ghost use Rattle.mesa_disk.specs.declared.failures.DraftError.TheVariants.{Failed};
-    ghost use Rattle.mesa_dir.specs.Calls.{Synced, Wrote, with_call};
+    ghost use Rattle.mesa_os.specs.Calls.{Synced, Wrote, with_call};
     ghost use Rattle.mesa_dir.specs.Drafts.{draft_bytes, draft_calls, draft_faults, draft_id, path_of_draft, made_bytes, made_calls, made_id, path_of_made};
 
     ghost id_of = { λ d. d.id };

@@ -1,13 +1,14 @@
 // An open folder: which calls of the system each call needs.
 ghost use Rattle.std.specs.Prelude.{◌≡◌, true, false};
 ghost use Rattle.mesa_dir.specs.Asked.{IsTrusted, asked};
-ghost use Rattle.mesa_dir.specs.Calls.{is_named};
+ghost use Rattle.mesa_os.specs.Calls.{is_named};
 
 use crate::area_file::AreaFile;
 use crate::opening::{OpenedFiles, open_files};
 use crate::streams::OpenedFolder;
-use crate::{DirMade, System};
+use crate::DirMade;
 use mesa_disk::Area;
+use mesa_os::System;
 use std::io::{self, ErrorKind};
 
 /// An open folder. As long as it is there, no other process opens it: the file of area 0 is locked. (It is
@@ -42,7 +43,7 @@ fn lost() -> io::Error {
 impl<S: System> Folder<S> {
     ghost use Rattle.std.specs.Prelude.{IfOk, OnOk, OnErr, Option, is_ok};
     ghost use Rattle.mesa_dir.specs.Asked.{AllSynced, IsAdopted, IsFound, IsGone, IsUnadopted, OnlySynced, with_asked, with_named};
-    ghost use Rattle.mesa_dir.specs.Calls.{Read, Removed, Synced, WroteAt, with_call};
+    ghost use Rattle.mesa_os.specs.Calls.{Read, Removed, Synced, WroteAt, with_call};
     ghost use Rattle.std.specs.declared.io.ErrorKind.{ErrorKind};
     ghost use Rattle.mesa_dir.specs.Drafts.{path_of_made};
     ghost use Rattle.mesa_dir.specs.Folders.{folder_asked};

@@ -1,7 +1,7 @@
 // The adopted files of a folder.
-use crate::System;
 use crate::names::adopted_number;
 use mesa_disk::FileId;
+use mesa_os::System;
 use std::io::{self, ErrorKind};
 
 // The number of an entry's id; none where the name isn't an adopted file's, or isn't even text.

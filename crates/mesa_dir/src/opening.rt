@@ -1,12 +1,12 @@
 // How a folder is opened.
 ghost use Rattle.std.specs.Prelude.{◌≡◌, true, List, Option, IfOk, OnOk};
-ghost use Rattle.mesa_dir.specs.Calls.{IsOpened, Locked, with_call};
+ghost use Rattle.mesa_os.specs.Calls.{IsOpened, Locked, with_call};
 ghost use Rattle.mesa_dir.specs.Opening.{DraftsRemoved, IsAreaLocked, IsFolderMade, IsNameSynced, NamesCleared, areas_opened};
 ghost use Rattle.mesa_dir.specs.Paths.{one_path_of, zero_path_of};
 
-use crate::System;
 use crate::names::is_draft;
 use crate::streams::{OpenedFolder, open_behind_streams};
+use mesa_os::System;
 use std::io::{self, ErrorKind};
 
 // Makes a folder, or finds it there.

@@ -3,8 +3,9 @@
 use crate::folder::{Folder, Found};
 use crate::listing::adopted_ids;
 use crate::names::adopted_path;
-use crate::{DirBench, DirMade, DirReader, System};
+use crate::{DirBench, DirMade, DirReader};
 use mesa_disk::{Area, FileId};
+use mesa_os::System;
 use std::alloc::AllocError;
 use std::io::{self, ErrorKind};
 
@@ -44,7 +45,7 @@ fn unopened() -> io::Error {
 impl<S: System> Store<S> {
     ghost use Rattle.std.specs.Prelude.{◌≡◌, ◌⊎◌, IfOk, OnOk, OnErr, Option, true, false};
     ghost use Rattle.mesa_dir.specs.Asked.{AllSynced, IsAdopted, IsFoundOrUnasked, IsGone, IsTrusted, IsUnadopted, OnlySynced, with_asked, with_named};
-    ghost use Rattle.mesa_dir.specs.Calls.{IsMeasured, Read, Removed, WroteAt};
+    ghost use Rattle.mesa_os.specs.Calls.{IsMeasured, Read, Removed, WroteAt};
     ghost use Rattle.std.specs.declared.io.ErrorKind.{ErrorKind};
     ghost use Rattle.mesa_dir.specs.Disks.{store_asked, store_path};
     ghost use Rattle.mesa_dir.specs.Drafts.{bench_faults, bench_folder, path_of_made};

@@ -1,8 +1,8 @@
 // The places of the standard streams.
 ghost use Rattle.std.specs.Prelude.{IfOk};
-ghost use Rattle.mesa_dir.specs.Calls.{IsOpened};
+ghost use Rattle.mesa_os.specs.Calls.{IsOpened};
 
-use crate::System;
+use mesa_os::System;
 use std::io;
 
 // How many standard streams there are.

@@ -1,6 +1,6 @@
 -- What recorded calls tell.
 use Rattle.std.specs.Prelude.{List, map, string_bytes}
-use Rattle.mesa_dir.specs.Calls.{Call, Created, Locked, MadeFolder, Measured, Opened, OpenedWithin, Read, Removed, Renamed, Synced, SyncedBytes, Wrote, WroteAt}
+use Rattle.mesa_dir.specs.mesa_os.Calls.{Call, Created, Locked, MadeFolder, Measured, Opened, OpenedWithin, Read, Removed, Renamed, Synced, SyncedBytes, Wrote, WroteAt}
 use Rattle.mesa_disk_tests.specs.declared.told.Told.{Told}
 use Rattle.mesa_disk_tests.specs.declared.told.Told.TheVariants as told
 

@@ -1,6 +1,6 @@
 // A system that records its calls and tells them.
 ghost use Rattle.std.specs.Prelude.{◌≡◌, ◌∷◌, [], Some, string_bytes};
-ghost use Rattle.mesa_dir.specs.Calls.{failure as failure_of};
+ghost use Rattle.mesa_dir.specs.mesa_os.Calls.{failure as failure_of};
 ghost use Rattle.mesa_disk_tests.specs.Told.{call_of, calls_of};
 
 use crate::told::Told;

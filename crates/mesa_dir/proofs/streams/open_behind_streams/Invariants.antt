@@ -1,4 +1,4 @@
-use Rattle.mesa_dir.specs.Calls.{IsOpened}
+use Rattle.mesa_os.specs.Calls.{IsOpened}
 use Rattle.mesa_dir.proofs.streams.open_behind_streams.Given as goal
 
 abbrev pub invariant-streams : goal.invariant-streams

@@ -1,5 +1,5 @@
 use Rattle.std.proofs.Common.{ap, ◌∙◌}
-use Rattle.mesa_dir.specs.Calls.{is_named, is_trusted}
+use Rattle.mesa_os.specs.Calls.{is_named, is_trusted}
 use Rattle.mesa_dir.proofs.Trusted.{settled_trusted, synced_named, synced_trusted}
 use Rattle.mesa_dir.proofs.folder.Folder.settle.Goals as goal
 

@@ -1,6 +1,6 @@
 // What a folder asks of the system.
 ghost use Rattle.std.specs.Prelude.{◌≡◌, List, Option, IfOk, is_ok};
-ghost use Rattle.mesa_dir.specs.Calls.{Call, Created, IsCreated, IsOpened, Locked, MadeFolder, Measured, Opened, OpenedWithin, Read, Removed, Renamed, Synced, SyncedBytes, Wrote, WroteAt, failure, with_call};
+ghost use Rattle.mesa_os.specs.Calls.{Call, Created, IsCreated, IsOpened, Locked, MadeFolder, Measured, Opened, OpenedWithin, Read, Removed, Renamed, Synced, SyncedBytes, Wrote, WroteAt, failure, with_call};
 
 use std::alloc::Global;
 use std::io;
