@@ -19,7 +19,7 @@ use Rattle.mesa_model.specs.Pins.{is_pin, release_pin, pin_of}
 use Rattle.mesa_model.specs.Warehouse.{Pin, Store, Table, Warehouse, max_versions, table_at}
 use Rattle.mesa_binding.specs.declared.failure.Failure.{Failure}
 use Rattle.mesa_binding.specs.declared.failure.Failure.TheVariants.{Memory, Refused}
-use Rattle.mesa_test_oracle.specs.Kept.{Versioned, known_in, with_batch, with_table_from}
+use Rattle.mesa_oracle_tables.specs.Kept.{Versioned, known_in, with_batch, with_table_from}
 use Rattle.mesa_test_oracle.specs.Pinned.{warehouse_of}
 use Rattle.mesa_binding.specs.Told.{IsDue}
 

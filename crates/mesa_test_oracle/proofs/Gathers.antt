@@ -4,10 +4,10 @@ use Rattle.std.specs.Prelude.{slice_get, option_map, unwrap_or, OnOk, IfErr}
 use Rattle.std.specs.Result.{MatchResult, result_err}
 use Rattle.std.proofs.lemmas.Option.{get_or_from_slice_get, slice_get-map}
 use Rattle.mesa_list.specs.Checks.{◌>>◌, refused_as}
-use Rattle.mesa_answer.specs.mesa_columns.Columns.{Columns, aggs_of}
+use Rattle.mesa_oracle_tables.specs.mesa_columns.Columns.{Columns, aggs_of}
 use Rattle.mesa_schema.specs.Changes.{columns_of}
-use Rattle.mesa_answer.specs.mesa_fold.Folded.{folded}
-use Rattle.mesa_answer.specs.mesa_columns.Rows.{AreRowsOf}
+use Rattle.mesa_oracle_tables.specs.mesa_fold.Folded.{folded}
+use Rattle.mesa_oracle_tables.specs.mesa_columns.Rows.{AreRowsOf}
 use Rattle.mesa_batch.specs.declared.words.RowWords.{RowWords}
 use Rattle.mesa_batch.specs.declared.words.BatchError.{BatchError}
 use Rattle.mesa_batch.specs.declared.words.BatchError.TheVariants as error
@@ -19,7 +19,7 @@ use Rattle.mesa_batch.proofs.RowForms.{batch_forms}
 use Rattle.mesa_model.specs.Refusals.{batch_refusal}
 use Rattle.mesa_binding.specs.declared.failure.Failure.{Failure}
 use Rattle.mesa_binding.specs.Told.{IsDue, batch_failure}
-use Rattle.mesa_test_oracle.specs.Grown.{IsBatchOf}
+use Rattle.mesa_oracle_tables.specs.Grown.{IsBatchOf}
 
 -- what keys compared behind rows and then other rows give
 abbrev pub given : List Named → List Placed → List RowWords → Result (List Placed) BatchError

@@ -7,11 +7,11 @@ use Rattle.mesa_list.specs.Checks.{◌>>=◌}
 use Rattle.mesa_key.specs.declared.KeyType.{KeyType}
 use Rattle.mesa_key.specs.declared.KeyValue.{KeyValue}
 use Rattle.mesa_key.specs.Spelling.{IsKey, is_spelling, key_of, key_spelling}
-use Rattle.mesa_answer.specs.mesa_columns.declared.columns.KeyColumn.{KeyColumn}
-use Rattle.mesa_answer.specs.mesa_columns.declared.rows.Row.{Row}
+use Rattle.mesa_oracle_tables.specs.mesa_columns.declared.columns.KeyColumn.{KeyColumn}
+use Rattle.mesa_oracle_tables.specs.mesa_columns.declared.rows.Row.{Row}
 use Rattle.mesa_schema.specs.Changes.{epoch_of}
-use Rattle.mesa_answer.specs.mesa_columns.Columns.{Columns, chosen, kinds_of}
-use Rattle.mesa_answer.specs.mesa_columns.Rows.{AreRowsOf, IsRowOf}
+use Rattle.mesa_oracle_tables.specs.mesa_columns.Columns.{Columns, chosen, kinds_of}
+use Rattle.mesa_oracle_tables.specs.mesa_columns.Rows.{AreRowsOf, IsRowOf}
 use Rattle.mesa_filter.specs.declared.words.QueryWords.{QueryWords}
 use Rattle.mesa_filter.specs.declared.words.VersionWord.TheVariants as asks
 use Rattle.mesa_filter.specs.Query.{BuiltQuery, IsQueryOf, group_kinds}
@@ -28,7 +28,7 @@ use Rattle.mesa_answer.proofs.Picked.{chosen-map}
 use Rattle.mesa_test_oracle.specs.declared.pins.PlainPin.{PlainPin}
 use Rattle.mesa_binding.specs.Built.{IsBuiltOf}
 use Rattle.mesa_binding.proofs.Queries.{answered}
-use Rattle.mesa_test_oracle.specs.Kept.{Versioned}
+use Rattle.mesa_oracle_tables.specs.Kept.{Versioned}
 use Rattle.mesa_test_oracle.specs.Pinned.{pin_seen, warehouse_of}
 use Rattle.mesa_test_oracle.specs.Plain.{answer_of}
 use Rattle.mesa_test_oracle.proofs.Pinnings.{find-mapped}

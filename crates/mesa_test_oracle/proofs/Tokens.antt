@@ -4,9 +4,9 @@ use Rattle.std.specs.Prelude.{is_none, nat_le, IfOk}
 use Rattle.std.specs.Option.{ok_or}
 use Rattle.mesa_list.specs.Checks.{◌>>=◌, ◌>>◌, refuse_if, refuse_unless, refused_as}
 use Rattle.mesa_schema.specs.Changes.{change_checked, columns_of}
-use Rattle.mesa_answer.specs.mesa_columns.Names.{is_name}
+use Rattle.mesa_oracle_tables.specs.mesa_columns.Names.{is_name}
 use Rattle.mesa_schema.specs.Recasts.{recast_checked}
-use Rattle.mesa_answer.specs.mesa_columns.Schema.{schema_checked}
+use Rattle.mesa_oracle_tables.specs.mesa_columns.Schema.{schema_checked}
 use Rattle.mesa_batch.specs.Batch.{batch_of}
 use Rattle.mesa_filter.specs.declared.words.VersionWord.{VersionWord}
 use Rattle.mesa_model.specs.declared.commands.AlterWords.{AlterWords}

@@ -1,11 +1,11 @@
 -- What is seen of a view.
 use Rattle.std.proofs.Common.{◌≡◌, ℕ, ◌<◌, length, subst, sym, Option, Some}
 use Rattle.std.specs.Prelude.{slice_get}
-use Rattle.mesa_answer.specs.mesa_columns.declared.views.View.{View}
+use Rattle.mesa_oracle_tables.specs.mesa_columns.declared.views.View.{View}
 use Rattle.mesa_schema.specs.Changes.{Lineage}
 use Rattle.mesa_model.specs.Relations.{Relation}
 use Rattle.mesa_model.specs.Warehouse.{Table}
-use Rattle.mesa_test_oracle.proofs.Seen.{some_there}
+use Rattle.mesa_oracle_tables.proofs.Seen.{some_there}
 
 -- what holds of a table's view, told by the table's columns through its life
 pub view_seen : (P : Relation → Type 0) (n : ℕ) (t : Table) (e : Lineage) (view : ℕ) → e ≡ t.lineage → view < length e.views

@@ -2,7 +2,7 @@
 use Rattle.std.specs.Prelude.{ℕ, List, None}
 use Rattle.mesa_model.specs.Warehouse.{Pin, Warehouse}
 use Rattle.mesa_test_oracle.specs.declared.pins.PlainPin.{PlainPin}
-use Rattle.mesa_test_oracle.specs.Kept.{Versioned}
+use Rattle.mesa_oracle_tables.specs.Kept.{Versioned}
 
 -- a pin with its copy of the tables
 abbrev pub pin_seen : PlainPin → Pin

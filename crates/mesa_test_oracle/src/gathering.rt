@@ -4,7 +4,7 @@ ghost use Rattle.mesa_list.specs.Checks.{refused_as};
 ghost use Rattle.mesa_batch.specs.Batch.{Placed as PlacedRow, batch_of};
 ghost use Rattle.mesa_batch.specs.Glance.{tables_of};
 ghost use Rattle.mesa_model.specs.Refusals.{batch_refusal};
-ghost use Rattle.mesa_test_oracle.specs.Grown.{HasRows, IsBatchOf};
+ghost use Rattle.mesa_oracle_tables.specs.Grown.{HasRows, IsBatchOf};
 ghost use Rattle.mesa_binding.specs.Told.{IsDue, batch_failure};
 
 use mesa_batch::{Batch, BatchBuilder, BatchError, Glance, LoadRows};

@@ -5,8 +5,8 @@ ghost use Rattle.mesa_model.specs.Pins.{count_at, counted_at, is_pin};
 ghost use Rattle.mesa_test_oracle.specs.Pinned.{pin_seen};
 ghost use Rattle.mesa_test_oracle.specs.declared.pins.PlainPin.{PlainPin as Held};
 
-use crate::store::PlainStore;
 use mesa_list::{Items, TryCopy};
+use mesa_oracle_tables::PlainStore;
 use std::alloc::AllocError;
 
 /// A session's pin of a version, with the tables and their contents at that version alone.

@@ -17,12 +17,12 @@ mod viewing;
 
 use crate::gathering::gather;
 use crate::pins::{PlainPin, counted, is_held, let_go, push_pin};
-use crate::store::PlainStore;
 use mesa_batch::LoadRows;
 use mesa_binding::Failure;
 use mesa_filter::VersionWord;
 use mesa_list::{Items, TryCopy};
 use mesa_model::{Refusal, Reply};
+use mesa_oracle_tables::PlainStore;
 use mesa_schema::Words;
 use std::alloc::{AllocError, Global};
 use std::marker::Model;

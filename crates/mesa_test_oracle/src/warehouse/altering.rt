@@ -1,16 +1,16 @@
 // Schemas that are changed.
 ghost use Rattle.std.specs.Prelude.{◌≡◌, ◌≢◌, ◌<◌, Ok, Err, IfOk, IfErr, OnOk, OnErr, length};
-ghost use Rattle.mesa_answer.specs.mesa_columns.declared.changes.ChangeError.{ChangeError as WhyNot};
-ghost use Rattle.mesa_answer.specs.mesa_columns.declared.changes.ChangeError.TheVariants as change_error;
+ghost use Rattle.mesa_oracle_tables.specs.mesa_columns.declared.changes.ChangeError.{ChangeError as WhyNot};
+ghost use Rattle.mesa_oracle_tables.specs.mesa_columns.declared.changes.ChangeError.TheVariants as change_error;
 ghost use Rattle.mesa_schema.specs.Changes.{change_checked};
 ghost use Rattle.mesa_model.specs.Step.{done_or_refused};
 ghost use Rattle.mesa_model.specs.Tables.{alter_table, changed_name as name_of};
 ghost use Rattle.mesa_model.specs.Warehouse.{table_at};
 ghost use Rattle.mesa_binding.specs.Told.{IsDue, change_failure as failure_of};
-ghost use Rattle.mesa_test_oracle.specs.Kept.{with_schema_changed};
+ghost use Rattle.mesa_oracle_tables.specs.Kept.{with_schema_changed};
 
+use mesa_oracle_tables::PlainStore;
 use super::PlainWarehouse;
-use crate::store::PlainStore;
 use mesa_binding::{Failure, change_asked, change_failure, changed_name};
 use mesa_list::TryCopy;
 use mesa_model::{AlterWords, Refusal, Reply};

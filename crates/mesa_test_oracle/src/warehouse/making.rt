@@ -5,13 +5,13 @@ ghost use Rattle.mesa_model.specs.Step.{done_or_refused};
 ghost use Rattle.mesa_model.specs.Tables.{make_table as table_made};
 ghost use Rattle.mesa_model.specs.Warehouse.{max_tables};
 ghost use Rattle.mesa_binding.specs.Told.{IsDue};
-ghost use Rattle.mesa_test_oracle.specs.Kept.{with_table_more};
+ghost use Rattle.mesa_oracle_tables.specs.Kept.{with_table_more};
 
-use crate::store::PlainStore;
 use crate::warehouse::PlainWarehouse;
 use mesa_binding::{Failure, read_name, schema_asked};
 use mesa_list::TryCopy;
 use mesa_model::{Refusal, Reply, TableWords};
+use mesa_oracle_tables::PlainStore;
 use mesa_schema::{Name, Schema};
 use std::alloc::{AllocError, Global};
 

@@ -3,9 +3,9 @@ ghost use Rattle.std.specs.Prelude.{◌≡◌, ◌<◌, length, None, Ok, Err, I
 ghost use Rattle.std.specs.List.{AllByRecursion};
 ghost use Rattle.mesa_list.specs.Checks.{refused_as};
 ghost use Rattle.mesa_key.specs.Spelling.{is_spelling};
-ghost use Rattle.mesa_answer.specs.mesa_columns.declared.rows.Row.{Row as AnyRow};
+ghost use Rattle.mesa_oracle_tables.specs.mesa_columns.declared.rows.Row.{Row as AnyRow};
 ghost use Rattle.mesa_schema.specs.Changes.{epoch_of};
-ghost use Rattle.mesa_answer.specs.mesa_columns.Rows.{AreRowsOf};
+ghost use Rattle.mesa_oracle_tables.specs.mesa_columns.Rows.{AreRowsOf};
 ghost use Rattle.mesa_answer.specs.Answering.{grouped_columns};
 ghost use Rattle.mesa_filter.specs.Query.{IsQueryOf, group_kinds, query_of};
 ghost use Rattle.mesa_model.specs.Page.{page_of};
@@ -14,14 +14,13 @@ ghost use Rattle.mesa_model.specs.Refusals.{query_refusal};
 ghost use Rattle.mesa_model.specs.Relations.{relation_columns, relation_content};
 ghost use Rattle.mesa_model.specs.Warehouse.{table_at};
 ghost use Rattle.mesa_binding.specs.Built.{IsBuiltOf};
-ghost use Rattle.mesa_test_oracle.specs.Found.{IsThere, relation_seen};
+ghost use Rattle.mesa_oracle_tables.specs.Found.{IsThere, relation_seen};
 ghost use Rattle.mesa_test_oracle.specs.Plain.{answer_as, answer_of};
 ghost use Rattle.mesa_binding.specs.Told.{IsDue};
 
+use mesa_oracle_tables::{Place, PlainStore};
 use super::PlainWarehouse;
-use crate::names::Place;
 use crate::pins::find_pin;
-use crate::store::PlainStore;
 use mesa_answer::{answer, view_rows};
 use mesa_binding::{Failure, build_query, check_query};
 use mesa_filter::{Query, QueryWords, VersionWord};

@@ -11,7 +11,7 @@ use Rattle.mesa_model.specs.Refusals.{batch_refusal}
 use Rattle.mesa_model.specs.Warehouse.{Warehouse, max_versions}
 use Rattle.mesa_test_oracle.specs.Pinned.{pin_seen, warehouse_of}
 use Rattle.mesa_binding.specs.Told.{IsDue}
-use Rattle.mesa_test_oracle.proofs.Bounds.{not_full}
+use Rattle.mesa_oracle_tables.proofs.Bounds.{not_full}
 use Rattle.mesa_test_oracle.proofs.Commands.{glance_named, load_done, load_full, load_over, load_unread}
 use Rattle.mesa_test_oracle.proofs.warehouse.PlainWarehouse.try_load.Goals as goal
 

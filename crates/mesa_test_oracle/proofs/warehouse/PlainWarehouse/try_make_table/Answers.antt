@@ -3,7 +3,7 @@ use Rattle.std.specs.Prelude.{length, nat_le}
 use Rattle.std.proofs.lemmas.Bool.{le-leb}
 use Rattle.std.proofs.lemmas.Result.{err_from_is_err_and}
 use Rattle.mesa_list.specs.Checks.{refuse_unless}
-use Rattle.mesa_answer.specs.mesa_columns.Names.{is_name}
+use Rattle.mesa_oracle_tables.specs.mesa_columns.Names.{is_name}
 use Rattle.mesa_model.specs.declared.replies.Refusal.TheVariants as no
 use Rattle.mesa_model.specs.declared.replies.Reply.TheVariants as reply
 use Rattle.mesa_model.specs.declared.replies.SchemaFault.TheVariants as fault
@@ -11,7 +11,7 @@ use Rattle.mesa_model.specs.Refusals.{bad_schema}
 use Rattle.mesa_model.specs.Relations.{is_taken}
 use Rattle.mesa_model.specs.Tables.{make_table}
 use Rattle.mesa_model.specs.Warehouse.{Warehouse, max_tables}
-use Rattle.mesa_test_oracle.specs.Kept.{with_table_more}
+use Rattle.mesa_oracle_tables.specs.Kept.{with_table_more}
 use Rattle.mesa_test_oracle.specs.Pinned.{pin_seen, warehouse_of}
 use Rattle.mesa_binding.specs.Told.{IsDue}
 use Rattle.mesa_binding.proofs.Makings.{room_left, table_bad, table_done, table_full, table_taken, table_unnamed}

@@ -2,7 +2,7 @@ use Rattle.std.proofs.Common.{◌≡◌, refl, ◌∙◌, ap, sym, subst, map, N
 use Rattle.std.proofs.lemmas.Result.{err_from_is_err_and}
 use Rattle.mesa_list.specs.Checks.{refuse_unless}
 use Rattle.mesa_schema.specs.Changes.{Lineage, columns_of}
-use Rattle.mesa_answer.specs.mesa_columns.Names.{is_name}
+use Rattle.mesa_oracle_tables.specs.mesa_columns.Names.{is_name}
 use Rattle.mesa_schema.specs.Views.{with_view}
 use Rattle.mesa_model.specs.declared.replies.Refusal.TheVariants as no
 use Rattle.mesa_model.specs.declared.replies.Reply.TheVariants as reply
@@ -12,7 +12,7 @@ use Rattle.mesa_model.specs.Relations.{is_taken, table_number}
 use Rattle.mesa_model.specs.Tables.{make_view}
 use Rattle.mesa_model.specs.Warehouse.{Warehouse}
 use Rattle.mesa_binding.specs.Asked.{more_views_checked}
-use Rattle.mesa_test_oracle.specs.Kept.{with_lineage}
+use Rattle.mesa_oracle_tables.specs.Kept.{with_lineage}
 use Rattle.mesa_test_oracle.specs.Pinned.{pin_seen, warehouse_of}
 use Rattle.mesa_binding.specs.Told.{IsDue}
 use Rattle.mesa_binding.proofs.Viewings.{view_bad, view_done, view_nowhere, view_taken, view_unnamed}

@@ -2,7 +2,7 @@ use Rattle.std.proofs.Common.{◌≡◌, ◌∙◌, ap, sym, Some}
 use Rattle.mesa_model.specs.Relations.{relation_of}
 use Rattle.mesa_answer.proofs.Results.{if_both, if_err}
 use Rattle.mesa_binding.proofs.Queries.{not_built_by}
-use Rattle.mesa_test_oracle.specs.Found.{relation_seen}
+use Rattle.mesa_oracle_tables.specs.Found.{relation_seen}
 use Rattle.mesa_test_oracle.proofs.Queries.{answered_by}
 use Rattle.mesa_test_oracle.proofs.warehouse.PlainWarehouse.try_query.Goals as goal
 

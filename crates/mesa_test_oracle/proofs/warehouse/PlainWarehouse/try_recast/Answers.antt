@@ -10,7 +10,7 @@ use Rattle.mesa_model.specs.Tables.{recast_asked, recast_table}
 use Rattle.mesa_model.specs.Warehouse.{Warehouse, table_at}
 use Rattle.mesa_binding.specs.Told.{IsDue}
 use Rattle.mesa_binding.proofs.Recastings.{recast_done, recast_refused}
-use Rattle.mesa_test_oracle.specs.Kept.{with_table_recast}
+use Rattle.mesa_oracle_tables.specs.Kept.{with_table_recast}
 use Rattle.mesa_test_oracle.specs.Pinned.{pin_seen, warehouse_of}
 use Rattle.mesa_test_oracle.proofs.warehouse.PlainWarehouse.try_recast.Goals as goal
 

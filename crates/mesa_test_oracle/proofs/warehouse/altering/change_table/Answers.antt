@@ -1,6 +1,6 @@
 use Rattle.std.proofs.Common.{◌∙◌, ap, refl}
 use Rattle.std.proofs.lemmas.Result.{err_from_is_err_and}
-use Rattle.mesa_answer.specs.mesa_columns.declared.changes.ChangeError.TheVariants as change_error
+use Rattle.mesa_oracle_tables.specs.mesa_columns.declared.changes.ChangeError.TheVariants as change_error
 use Rattle.mesa_binding.specs.Told.{change_failure}
 use Rattle.mesa_test_oracle.proofs.warehouse.altering.change_table.Goals as goal
 

@@ -6,7 +6,7 @@ use Rattle.mesa_filter.specs.Query.{query_of}
 use Rattle.mesa_model.specs.Refusals.{query_refusal}
 use Rattle.mesa_binding.specs.Built.{IsBuiltOf}
 use Rattle.mesa_binding.specs.Told.{IsDue}
-use Rattle.mesa_test_oracle.specs.Found.{relation_seen}
+use Rattle.mesa_oracle_tables.specs.Found.{relation_seen}
 use Rattle.mesa_test_oracle.proofs.warehouse.querying.answer_at.Goals as goal
 
 pub returns-in_err-query-clause-refused : goal.returns-in_err-query-clause-refused

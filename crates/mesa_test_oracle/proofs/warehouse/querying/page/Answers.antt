@@ -1,8 +1,8 @@
 use Rattle.std.proofs.Common.{◌≡◌, ◌∙◌, ◌<◌, ℕ, List, length, ap, subst, sym, Option, Some, Result, Ok, Err}
 use Rattle.std.specs.Prelude.{IfOk, IfSome, option_and_then, slice_get}
-use Rattle.mesa_answer.specs.mesa_columns.declared.rows.Row.{Row}
+use Rattle.mesa_oracle_tables.specs.mesa_columns.declared.rows.Row.{Row}
 use Rattle.mesa_schema.specs.Changes.{columns_of}
-use Rattle.mesa_answer.specs.mesa_columns.Rows.{AreRowsOf}
+use Rattle.mesa_oracle_tables.specs.mesa_columns.Rows.{AreRowsOf}
 use Rattle.mesa_schema.specs.Views.{view_columns, view_rows}
 use Rattle.mesa_answer.specs.Answering.{KeepsSums}
 use Rattle.mesa_model.specs.declared.replies.Page.{Page}
@@ -10,8 +10,8 @@ use Rattle.mesa_model.specs.Page.{page_of}
 use Rattle.mesa_model.specs.Query.{answer_rows}
 use Rattle.mesa_model.specs.Relations.{Relation, relation_columns, relation_content}
 use Rattle.mesa_model.specs.Warehouse.{Store, content_at, table_at}
-use Rattle.mesa_test_oracle.specs.declared.names.Place.{Place}
-use Rattle.mesa_test_oracle.specs.Found.{relation_seen}
+use Rattle.mesa_oracle_tables.specs.declared.names.Place.{Place}
+use Rattle.mesa_oracle_tables.specs.Found.{relation_seen}
 use Rattle.mesa_test_oracle.proofs.Queries.{page_spells}
 use Rattle.mesa_test_oracle.proofs.Viewed.{view_seen}
 use Rattle.mesa_test_oracle.proofs.warehouse.querying.page.Goals as goal

@@ -1,0 +1,13 @@
+pub mod Adding
+pub mod Bounds
+pub mod Changes
+pub mod Items
+pub mod Newest
+pub mod OneVersion
+pub mod Relations
+pub mod Stores
+pub mod Tables
+pub mod Seen
+pub mod Raising
+pub mod Recasts
+pub mod Lineages
