@@ -2,8 +2,9 @@
 use crate::failure::Failure;
 use mesa_batch::{Glance, LoadRows};
 use mesa_disk::{MemBench, MemMade};
+use mesa_file::Serials;
 use mesa_load::prepare;
-use mesa_open_files::{Prepared, Serials};
+use mesa_open_files::Prepared;
 use std::alloc::Global;
 use std::thread::Threads;
 

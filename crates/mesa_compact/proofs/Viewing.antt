@@ -18,7 +18,7 @@ use Rattle.mesa_merge.specs.Inputs.{AreInputs as AreMergeable}
 use Rattle.mesa_open_files.specs.GivingBack.{own_inputs}
 use Rattle.mesa_open_files.specs.Inputs.{AreInputsTo, AreInputsOf, IsMergeOf}
 use Rattle.mesa_open_files.specs.Made.{IsMadeFile}
-use Rattle.mesa_open_files.specs.Serials.{Drafts, after_drafts, next_serials}
+use Rattle.mesa_file.specs.Serials.{Drafts, after_drafts, next_serials}
 use Rattle.mesa_open_files.specs.Tasks.{AreMergedViews, AreTaskViews, HasOwn, IsMergedView, MergeOnlyTo}
 use Rattle.mesa_open_files.specs.declared.made.MadeFile.{MadeFile}
 use Rattle.mesa_open_files.specs.declared.made.MadeView.{MadeView}

@@ -4,7 +4,7 @@ use Rattle.mesa_file.specs.declared.damage.Damage.{Damage}
 use Rattle.mesa_delta.specs.declared.input.Input.{Input}
 use Rattle.mesa_merge.specs.Inputs.{Known, knowns_of}
 use Rattle.mesa_open_files.specs.GivingBack.{own_inputs}
-use Rattle.mesa_open_files.specs.Serials.{Drafts, after_drafts, drawn}
+use Rattle.mesa_file.specs.Serials.{Drafts, after_drafts, drawn}
 use Rattle.mesa_open_files.specs.declared.made.MadeFiles.{MadeFiles}
 use Rattle.mesa_open_files.specs.declared.made.MadeView.{MadeView}
 use Rattle.mesa_open_files.specs.declared.merging.Spare.{Spare}

@@ -8,7 +8,7 @@ ghost use Rattle.mesa_merge.specs.Inputs.{knowns_of};
 ghost use Rattle.mesa_open_files.specs.GivingBack.{own_inputs, task_inputs};
 ghost use Rattle.mesa_open_files.specs.Inputs.{AreInputsOf, IsMergeOf};
 ghost use Rattle.mesa_open_files.specs.Made.{IsMadeFile};
-ghost use Rattle.mesa_open_files.specs.Serials.{after_drafts};
+ghost use Rattle.mesa_file.specs.Serials.{after_drafts};
 ghost use Rattle.mesa_open_files.specs.Tasks.{AreMergedViews, AreTaskViews, IsMerged, IsTask};
 ghost use Rattle.mesa_compact.specs.Bounded.{AreBounded, AreViewsBounded, IsBounded};
 ghost use Rattle.mesa_compact.specs.Tasks.{AreNumbered, IsFilesDamage, IsSameTask, IsTaskDamage, known_views};
@@ -19,7 +19,8 @@ use crate::gatherers::{gatherers_of, regroupings};
 use crate::views::view_files;
 use mesa_delta::{FileError, Input};
 use mesa_disk::{Bench, FileReader, Made};
-use mesa_open_files::{CompactError, MadeFiles, NewDelta, Serials, Task, TaskView};
+use mesa_file::Serials;
+use mesa_open_files::{CompactError, MadeFiles, NewDelta, Task, TaskView};
 use mesa_schema::Evolving;
 use std::alloc::Global;
 

@@ -3,7 +3,7 @@ use Rattle.std.proofs.Common.{◌≡◌, ℕ, zero, suc, ◌+◌, List, [], ◌�
 use Rattle.std.proofs.lemmas.List.{map-append}
 use Rattle.std.proofs.lemmas.List.Concat.{flat_map-append}
 use Rattle.mesa_open_files.specs.Recasts.{range_file, recast_ids}
-use Rattle.mesa_open_files.specs.Serials.{AreNext, Drafts, after_drafts, drawn, next_ids, next_serials}
+use Rattle.mesa_file.specs.Serials.{AreNext, Drafts, after_drafts, drawn, next_ids, next_serials}
 use Rattle.mesa_open_files.specs.declared.made.MadeFile.{MadeFile}
 use Rattle.mesa_open_files.specs.declared.recasting.RecastedRange.{RecastedRange}
 

@@ -4,7 +4,7 @@ ghost use Rattle.mesa_file.specs.declared.damage.Damage.{Damage as AnyDamage};
 ghost use Rattle.mesa_schema.specs.Recasts.{Recast as Asked};
 ghost use Rattle.mesa_compact.specs.mesa_merge.Faults.{faults_of};
 ghost use Rattle.mesa_open_files.specs.Recasts.{AreRangesOf, AreRewritten, own, recast_ids};
-ghost use Rattle.mesa_open_files.specs.Serials.{AreNext, after_drafts};
+ghost use Rattle.mesa_file.specs.Serials.{AreNext, after_drafts};
 ghost use Rattle.mesa_open_files.specs.declared.recasting.RecastedRange.{RecastedRange as AnyRange};
 ghost use Rattle.mesa_compact.specs.Writing.{HasCauses, damaged_by};
 ghost use Rattle.mesa_copy.specs.Copying.{AreRangesBounded, IsRangesDamage, known_ranges};
@@ -14,7 +14,8 @@ use crate::range::rewrite_range;
 use crate::renewal::Renewal;
 use mesa_delta::FileError;
 use mesa_disk::{Bench, FileReader, Made};
-use mesa_open_files::{CompactError, RecastRange, RecastedRange, Serials};
+use mesa_file::Serials;
+use mesa_open_files::{CompactError, RecastRange, RecastedRange};
 use std::alloc::Global;
 
 /// Rewrites the ranges behind those that are made, in their order. After an error those that were rewritten before it are made too.

@@ -5,7 +5,7 @@ ghost use Rattle.mesa_schema.specs.Changes.{columns_of};
 ghost use Rattle.mesa_schema.specs.Recasts.{recast_keys, recast_values};
 ghost use Rattle.mesa_compact.specs.mesa_merge.Faults.{faults_of};
 ghost use Rattle.mesa_open_files.specs.Recasts.{IsRecastTask, IsRecasted, IsRecastedSoFar, recast_in, recast_ids, recast_inputs, recast_table};
-ghost use Rattle.mesa_open_files.specs.Serials.{AreNext, after_drafts};
+ghost use Rattle.mesa_file.specs.Serials.{AreNext, after_drafts};
 ghost use Rattle.mesa_open_files.specs.declared.recasting.RecastedRange.{RecastedRange as AnyRange};
 ghost use Rattle.mesa_compact.specs.Writing.{HasCauses, damaged_by};
 ghost use Rattle.mesa_copy.specs.Copying.{IsRangesDamage, IsRecastBounded, IsRecastDamage, IsSameRecast};
@@ -14,7 +14,8 @@ use crate::ranges::rewrite_ranges;
 use crate::renewal::Renewal;
 use mesa_delta::FileError;
 use mesa_disk::{Bench, FileReader, Made};
-use mesa_open_files::{CompactError, Recast, Recasted, Serials};
+use mesa_file::Serials;
+use mesa_open_files::{CompactError, Recast, Recasted};
 use std::alloc::Global;
 
 /// Rewrites all ranges of a recast, through new drafts: each file's rows are grouped by the columns that the table is to have. It is done outside turns, while the table is loaded; what comes meanwhile is for `regroup_more`.

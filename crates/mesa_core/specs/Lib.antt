@@ -1,6 +1,5 @@
 pub use Rattle.mesa_recast_turns.specs.mesa_answer as mesa_answer
 pub use Rattle.mesa_recast_turns.specs.mesa_columns as mesa_columns
-pub use Rattle.mesa_open_files.specs.mesa_file as mesa_file
 pub use Rattle.mesa_open_files.specs.mesa_fold as mesa_fold
 pub use Rattle.mesa_history_laws.specs as mesa_history_laws
 pub use Rattle.mesa_recast_turns.specs.mesa_history_spec as mesa_history_spec

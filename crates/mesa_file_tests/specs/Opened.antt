@@ -1,7 +1,7 @@
 -- Files that were opened to be merged.
 use Rattle.std.specs.Prelude.{◌≡◌, ℕ, List, [], ◌∷◌, Option, None}
 use Rattle.std.specs.List.{AllByRecursion}
-use Rattle.mesa_open_files.specs.mesa_file.declared.file_ref.FileRef.{FileRef}
+use Rattle.mesa_file.specs.declared.file_ref.FileRef.{FileRef}
 use Rattle.mesa_schema.specs.Changes.{Lineage, columns_of}
 use Rattle.mesa_delta.specs.declared.input.Input.{Input}
 use Rattle.mesa_scan.specs.Cursors.{IsInput}

@@ -6,7 +6,7 @@ use Rattle.mesa_delta.specs.declared.error.WriteError.{WriteError}
 use Rattle.mesa_delta.specs.declared.error.WriteError.TheVariants as write
 use Rattle.mesa_open_files.specs.Batches.{made_ids}
 use Rattle.mesa_open_files.specs.Made.{Content}
-use Rattle.mesa_open_files.specs.Serials.{AreNext, Drafts, after_drafts, next_ids}
+use Rattle.mesa_file.specs.Serials.{AreNext, Drafts, after_drafts, next_ids}
 use Rattle.mesa_open_files.specs.declared.made.MadeFile.{MadeFile}
 use Rattle.mesa_load.specs.Collected.{HasCause, IsBegun, finished}
 use Rattle.mesa_load.specs.FilesToWrite.{AreDone, HasFiled, HasId, HasWritten, HaveIds, IsCause, IsCounted, IsDone, IsFit, IsReady, content_in}

@@ -3,11 +3,12 @@ ghost use Rattle.std.specs.Prelude.{◌≡◌, ◌≤◌, ℕ, length, IfOk, IfE
 ghost use Rattle.std.specs.List.{AllByRecursion};
 ghost use Rattle.mesa_load.specs.Collected.{IsBegun, IsUnwritten};
 ghost use Rattle.mesa_load.specs.FilesToWrite.{HaveIds};
-ghost use Rattle.mesa_open_files.specs.Serials.{after_drafts, next_ids};
+ghost use Rattle.mesa_file.specs.Serials.{after_drafts, next_ids};
 
 use crate::building::WriteState;
 use mesa_disk::{Bench, DraftError, Made};
-use mesa_open_files::{LoadError, Serials};
+use mesa_file::Serials;
+use mesa_open_files::LoadError;
 use std::alloc::Global;
 
 /// So many empty drafts. Where one can't be made, those before it are given back.

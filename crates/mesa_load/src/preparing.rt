@@ -4,7 +4,7 @@ ghost use Rattle.std.specs.List.{AllByRecursion, list_any};
 ghost use Rattle.mesa_batch.specs.Batch.{Placed as PlacedRow, batch_of};
 ghost use Rattle.mesa_batch.specs.Glance.{tables_of};
 ghost use Rattle.mesa_open_files.specs.Batches.{AreParts, IsPrepared, batch_ids, is_over, made_ids, shares};
-ghost use Rattle.mesa_open_files.specs.Serials.{AreNext, after_drafts};
+ghost use Rattle.mesa_file.specs.Serials.{AreNext, after_drafts};
 ghost use Rattle.mesa_load.specs.Collected.{IsUnwritten};
 ghost use Rattle.mesa_load.specs.FilesToWrite.{IsFit, content_in};
 ghost use Rattle.mesa_load.specs.Plans.{HaveFiles, IsBatched, IsRead};
@@ -17,7 +17,8 @@ use crate::parts::filed_parts;
 use crate::planning::{Plan, plan_batch};
 use mesa_batch::{Batch, BatchBuilder, BatchError, Glance, LoadRows, goes_row_by_row, keeps_forms};
 use mesa_disk::{Bench, Made};
-use mesa_open_files::{LoadError, MadeFile, Prepared, PreparedPart, Serials};
+use mesa_file::Serials;
+use mesa_open_files::{LoadError, MadeFile, Prepared, PreparedPart};
 use std::alloc::Global;
 use std::thread::Threads;
 

@@ -8,7 +8,6 @@ pub use Rattle.mesa_history_spec.specs.mesa_fold as mesa_fold
 pub use Rattle.mesa_scan.specs.mesa_io as mesa_io
 pub use Rattle.mesa_scan.specs as mesa_scan
 pub use Rattle.mesa_scan.specs.mesa_value as mesa_value
-pub mod Serials
 pub mod Errors
 pub mod Made
 pub mod Batches

@@ -9,7 +9,6 @@ mod opening;
 mod prepared;
 mod querying;
 mod recasting;
-mod serials;
 
 pub use delta_disk::DeltaDisk;
 pub use giving_back::{
@@ -22,4 +21,3 @@ pub use opening::{Met, Opened, Unopened, Wanted, open_all, open_one};
 pub use prepared::{LoadError, Prepared, PreparedPart};
 pub use querying::{Pinned, PinnedInput};
 pub use recasting::{Recast, RecastRange, Recasted, RecastedRange};
-pub use serials::{Serials, draws_differ};

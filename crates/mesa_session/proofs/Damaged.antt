@@ -1,8 +1,8 @@
 -- Why files weren't read, as their reading tells it and as a closing turn asks for it: of a merge's files and of a recast's. Of a query's files mesa_query tells it.
 use Rattle.std.proofs.Common.{◌≡◌, inl, inr, ℕ, List, sym, subst}
 use Rattle.std.specs.Prelude.{Option, Some, IfSome}
-use Rattle.mesa_core.specs.mesa_file.declared.damage.Damage.{Damage}
-use Rattle.mesa_core.specs.mesa_file.declared.damage.Seen.TheVariants as seen
+use Rattle.mesa_file.specs.declared.damage.Damage.{Damage}
+use Rattle.mesa_file.specs.declared.damage.Seen.TheVariants as seen
 use Rattle.mesa_delta.specs.declared.input.Input.{Input}
 use Rattle.mesa_open_files.specs.declared.merging.Task.{Task}
 use Rattle.mesa_compact.specs.Damaged.{IsMergeDamage}

@@ -1,6 +1,6 @@
 -- The ids of a session's drafts, over several steps of a command.
 use Rattle.std.proofs.Common.{◌≡◌, ℕ, zero, suc, ◌+◌, refl, ap, ◌∙◌, arith}
-use Rattle.mesa_open_files.specs.Serials.{Drafts, after_drafts, next_serials}
+use Rattle.mesa_file.specs.Serials.{Drafts, after_drafts, next_serials}
 use Rattle.mesa_session.specs.Drafts.{AreOf, GoOn}
 
 drawn_more : (n m : ℕ) (d : Drafts) → after_drafts m (after_drafts n d) ≡ after_drafts (m + n) d

@@ -10,7 +10,7 @@ use Rattle.mesa_core.specs.mesa_schema.Views.{view_columns, view_rows}
 use Rattle.mesa_delta.specs.declared.error.FileError.TheVariants as file
 use Rattle.mesa_delta.specs.declared.input.Input.{Input}
 use Rattle.mesa_io.specs.Causes.{HasFaultCause, last}
-use Rattle.mesa_core.specs.mesa_file.declared.damage.Damage.{Damage}
+use Rattle.mesa_file.specs.declared.damage.Damage.{Damage}
 use Rattle.mesa_core.specs.mesa_merge.Faults.{faults_of}
 use Rattle.mesa_core.specs.mesa_merge.Inputs.{knowns_of}
 use Rattle.mesa_open_files.specs.GivingBack.{task_inputs}

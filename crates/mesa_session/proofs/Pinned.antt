@@ -1,7 +1,7 @@
 -- A pinned query that was answered: what is known of its files is what was known before, and its page is that of the files as they are now.
 use Rattle.std.proofs.Common.{◌≡◌, inl, inr, ⊎_elim, ℕ, ◌<◌, List, [], ◌∷◌, map, refl, sym, ap, ◌∙◌, subst}
 use Rattle.std.specs.Prelude.{◌⊎◌, Option, Result, Ok, Err, IfOk, IfErr}
-use Rattle.mesa_core.specs.mesa_file.declared.damage.Damage.{Damage}
+use Rattle.mesa_file.specs.declared.damage.Damage.{Damage}
 use Rattle.mesa_core.specs.mesa_columns.declared.rows.Row.{Row}
 use Rattle.mesa_core.specs.mesa_columns.Columns.{Columns}
 use Rattle.mesa_core.specs.mesa_schema.Changes.{epoch_of, lifted}

@@ -8,7 +8,7 @@ use Rattle.mesa_copy.specs.Copying.{AreRangesBounded, IsRecastBounded, IsSameRec
 use Rattle.mesa_core.specs.mesa_recast_turns.Rested.{IsLonger}
 use Rattle.mesa_delta.specs.declared.error.FileError.{FileError}
 use Rattle.mesa_delta.specs.declared.error.FileError.TheVariants as file
-use Rattle.mesa_core.specs.mesa_file.declared.damage.Damage.{Damage}
+use Rattle.mesa_file.specs.declared.damage.Damage.{Damage}
 use Rattle.mesa_core.specs.mesa_history_spec.Machine.{Recasts}
 use Rattle.mesa_core.specs.mesa_schema.Changes.{Lineage, columns_of}
 use Rattle.mesa_core.specs.Recasts.{CanBeRegrouped, HasRegrouped, IsUnmade, KnownRecast, known_recast}

@@ -1,6 +1,6 @@
 -- The ids of a session's drafts, from command to command.
 use Rattle.std.specs.Prelude.{◌≡◌, ℕ}
-use Rattle.mesa_open_files.specs.Serials.{Drafts, after_drafts}
+use Rattle.mesa_file.specs.Serials.{Drafts, after_drafts}
 
 -- Ids of this session's drafts in this run.
 abbrev pub AreOf : ℕ → ℕ → Drafts → Type 0

@@ -18,7 +18,7 @@ ghost use Rattle.mesa_core.specs.Recasts.{CanBeRegrouped, IsUnmade, known_recast
 ghost use Rattle.mesa_core.specs.Works.{CanBeMerged, HasMerged, WasGranted, known_task};
 ghost use Rattle.mesa_open_files.specs.Recasts.{IsRecasted, claim_of_recast};
 ghost use Rattle.mesa_open_files.specs.Tasks.{claim_in};
-ghost use Rattle.mesa_open_files.specs.Serials.{after_drafts};
+ghost use Rattle.mesa_file.specs.Serials.{after_drafts};
 ghost use Rattle.mesa_session.specs.Loads.{StaysPrepared};
 
 use crate::outside::regrouped_now;
@@ -28,10 +28,9 @@ use mesa_core::Vault;
 use mesa_delta::FileError;
 use mesa_disk::{Bench, Disk, Made};
 use mesa_engine::{Naming, Who};
+use mesa_file::Serials;
 use mesa_io::Sink;
-use mesa_open_files::{
-    CompactError, DeltaDisk, LoadError, NewDelta, Pinned, Prepared, Recast, Recasted, Serials, Task,
-};
+use mesa_open_files::{CompactError, DeltaDisk, LoadError, NewDelta, Pinned, Prepared, Recast, Recasted, Task};
 use mesa_script::Rendered;
 use mesa_turn::{Pass, TurnLock};
 use std::alloc::{AllocError, Global};

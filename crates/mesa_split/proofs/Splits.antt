@@ -17,7 +17,7 @@ use Rattle.mesa_merge.proofs.Inputs.{SameEnd}
 use Rattle.mesa_open_files.specs.GivingBack.{own_inputs, spare_inputs, task_inputs}
 use Rattle.mesa_open_files.specs.Inputs.{IsMergeOf}
 use Rattle.mesa_open_files.specs.Made.{IsMadeFile}
-use Rattle.mesa_open_files.specs.Serials.{Drafts, after_drafts}
+use Rattle.mesa_file.specs.Serials.{Drafts, after_drafts}
 use Rattle.mesa_open_files.specs.Spares.{IsSpareOf}
 use Rattle.mesa_open_files.specs.Tasks.{AreMergedViews, AreTaskViews, HaveMerged, IsMerged, IsTask}
 use Rattle.mesa_open_files.specs.declared.made.MadeFiles.{MadeFiles}

@@ -8,7 +8,7 @@ use Rattle.mesa_delta.specs.declared.error.FileError.TheVariants.{Read}
 use Rattle.mesa_schema.specs.Changes.{Lineage}
 use Rattle.mesa_merge.specs.Faults.{faults_of}
 use Rattle.mesa_open_files.specs.GivingBack.{task_inputs}
-use Rattle.mesa_open_files.specs.Serials.{Drafts, after_drafts}
+use Rattle.mesa_file.specs.Serials.{Drafts, after_drafts}
 use Rattle.mesa_open_files.specs.Spares.{IsSpareOf}
 use Rattle.mesa_open_files.specs.Tasks.{IsMerged, IsTask}
 use Rattle.mesa_open_files.specs.declared.merging.CompactError.{CompactError}

@@ -2,10 +2,11 @@
 use crate::expected::expect_same;
 use mesa_batch::{Glance, Glanced, LoadRows};
 use mesa_disk::{MemBench, MemMade};
+use mesa_file::Serials;
 use mesa_key::KeyType;
 use mesa_list::Fields;
 use mesa_load::prepare;
-use mesa_open_files::{LoadError, Prepared, Serials};
+use mesa_open_files::{LoadError, Prepared};
 use mesa_schema::{Evolving, KeyColumn, MAX_VIEWS, Name, Schema, ValueColumn};
 use mesa_value::Agg;
 use std::alloc::Global;

@@ -1,7 +1,7 @@
 // Files merged into one.
 ghost use Rattle.std.specs.Prelude.{◌≡◌, [], IfOk, None};
 ghost use Rattle.std.specs.List.{AllByRecursion};
-ghost use Rattle.mesa_open_files.specs.mesa_file.declared.file_ref.FileRef.{FileRef as AnyFile};
+ghost use Rattle.mesa_file.specs.declared.file_ref.FileRef.{FileRef as AnyFile};
 ghost use Rattle.mesa_open_files.specs.Spares.{IsSpareOf};
 ghost use Rattle.mesa_open_files.specs.Tasks.{IsTask};
 ghost use Rattle.mesa_file_tests.specs.Opened.{AreOpened, HaveNoFiles, IsOpenedPart};
@@ -10,8 +10,9 @@ use crate::merge::files::{Form, file_of, input_of, reader_of, table};
 use mesa_compact::merge_task;
 use mesa_delta::Input;
 use mesa_disk::{FileId, FileReader, FileRef, MemBench, MemMade, MemReader};
+use mesa_file::Serials;
 use mesa_key::Format;
-use mesa_open_files::{CompactError, NewDelta, Serials, Spare, Task, TaskView};
+use mesa_open_files::{CompactError, NewDelta, Spare, Task, TaskView};
 use mesa_schema::Evolving;
 use mesa_span::Work;
 use mesa_value::{Agg, Amount};

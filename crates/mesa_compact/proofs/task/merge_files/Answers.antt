@@ -8,7 +8,7 @@ use Rattle.mesa_merge.specs.Inputs.{knowns_of}
 use Rattle.mesa_merge.specs.Inputs.{AreInputs as AreMergeable}
 use Rattle.mesa_merge.proofs.Handing.{refill}
 use Rattle.mesa_open_files.specs.GivingBack.{own_inputs}
-use Rattle.mesa_open_files.specs.Serials.{Drafts, after_drafts, drawn}
+use Rattle.mesa_file.specs.Serials.{Drafts, after_drafts, drawn}
 use Rattle.mesa_delta.specs.declared.input.Input.{Input}
 use Rattle.mesa_answer.specs.Answering.{KeepsSums}
 use Rattle.mesa_open_files.specs.Inputs.{IsMergeOf}

@@ -3,7 +3,7 @@ use Rattle.std.proofs.lemmas.List.{get_or-set_other}
 use Rattle.std.specs.Prelude.{slice_get, Some}
 use Rattle.mesa_open_files.specs.mesa_columns.declared.views.View.{View}
 use Rattle.mesa_schema.specs.Changes.{columns_of}
-use Rattle.mesa_open_files.specs.Serials.{after_drafts, drawn, next_serials}
+use Rattle.mesa_file.specs.Serials.{after_drafts, drawn, next_serials}
 use Rattle.mesa_open_files.specs.Tasks.{IsMergedView}
 use Rattle.mesa_open_files.specs.declared.made.MadeView.{MadeView}
 use Rattle.mesa_open_files.specs.declared.merging.TaskView.{TaskView}

@@ -5,7 +5,7 @@ use Rattle.mesa_open_files.specs.mesa_columns.declared.views.View.{View}
 use Rattle.mesa_schema.specs.Changes.{columns_of}
 use Rattle.mesa_merge.specs.Faults.{faults_of}
 use Rattle.mesa_open_files.specs.GivingBack.{own_inputs}
-use Rattle.mesa_open_files.specs.Serials.{after_drafts, drawn}
+use Rattle.mesa_file.specs.Serials.{after_drafts, drawn}
 use Rattle.mesa_open_files.specs.Tasks.{AreTaskViews, IsMergedView}
 use Rattle.mesa_open_files.specs.declared.made.MadeView.{MadeView}
 use Rattle.mesa_open_files.specs.declared.merging.TaskView.{TaskView}

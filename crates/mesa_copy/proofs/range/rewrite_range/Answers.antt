@@ -11,7 +11,7 @@ use Rattle.mesa_compact.specs.mesa_merge.Inputs.{Known, known_of, knowns_of}
 use Rattle.mesa_open_files.specs.Batches.{made_ids}
 use Rattle.mesa_open_files.specs.Inputs.{AreInputsTo, IsMergeOf}
 use Rattle.mesa_open_files.specs.Recasts.{HasRangeFile, IsRangeRewritten, own, recast_content, recast_ids}
-use Rattle.mesa_open_files.specs.Serials.{AreNext, drawn, next_serials}
+use Rattle.mesa_file.specs.Serials.{AreNext, drawn, next_serials}
 use Rattle.mesa_open_files.specs.declared.made.MadeFile.{MadeFile}
 use Rattle.mesa_open_files.specs.declared.recasting.RecastedRange.{RecastedRange}
 use Rattle.mesa_compact.specs.Bounded.{AreBounded}

@@ -4,7 +4,7 @@ use Rattle.mesa_batch.proofs.mesa_columns.Lists.{all_set}
 use Rattle.mesa_compact.specs.mesa_merge.Inputs.{knowns_of}
 use Rattle.mesa_open_files.specs.Inputs.{AreInputsTo}
 use Rattle.mesa_open_files.specs.Recasts.{AreRewritten, IsRangeRewritten, own, recast_ids}
-use Rattle.mesa_open_files.specs.Serials.{AreNext}
+use Rattle.mesa_file.specs.Serials.{AreNext}
 use Rattle.mesa_open_files.specs.declared.recasting.RecastRange.{RecastRange}
 use Rattle.mesa_compact.specs.Bounded.{AreBounded}
 use Rattle.mesa_compact.proofs.Causing.{caused_memory, caused_ok, caused_on}

@@ -2,7 +2,7 @@ use Rattle.std.proofs.Common.{◌≡◌, ◌≤◌, ◌++◌, ℕ, List, flat_ma
 use Rattle.mesa_schema.specs.Recasts.{Recast}
 use Rattle.mesa_compact.specs.mesa_merge.Faults.{faults_of}
 use Rattle.mesa_open_files.specs.Recasts.{AreRangesOf, AreRewritten, own, recast_ids}
-use Rattle.mesa_open_files.specs.Serials.{AreNext}
+use Rattle.mesa_file.specs.Serials.{AreNext}
 use Rattle.mesa_open_files.specs.declared.recasting.RecastRange.{RecastRange}
 use Rattle.mesa_open_files.specs.declared.recasting.RecastedRange.{RecastedRange}
 use Rattle.mesa_copy.specs.Copying.{known_ranges}

@@ -1,6 +1,6 @@
 use Rattle.std.proofs.Common.{◌≡◌, ◌++◌, ◌∙◌, List, ap, refl, sym, subst}
 use Rattle.mesa_open_files.specs.Recasts.{recast_ids}
-use Rattle.mesa_open_files.specs.Serials.{AreNext}
+use Rattle.mesa_file.specs.Serials.{AreNext}
 use Rattle.mesa_open_files.specs.declared.recasting.RecastedRange.{RecastedRange}
 use Rattle.mesa_compact.proofs.Causing.{caused_ok, caused_on}
 use Rattle.mesa_copy.proofs.task.regroup_task.Goals as goal

@@ -1,7 +1,7 @@
 use Rattle.std.proofs.Common.{ℕ, suc, List, ap, sym, subst, ◌∙◌, add-one, arith}
 use Rattle.std.specs.List.{AllByRecursion}
 use Rattle.mesa_batch.proofs.mesa_list.Whole.{each_push}
-use Rattle.mesa_open_files.specs.Serials.{after_drafts, drawn, next_ids, next_serials}
+use Rattle.mesa_file.specs.Serials.{after_drafts, drawn, next_ids, next_serials}
 use Rattle.mesa_load.specs.Collected.{IsBegun}
 use Rattle.mesa_load.specs.FilesToWrite.{HaveIds, ProgressOf}
 use Rattle.mesa_load.proofs.Written.{ids_more}

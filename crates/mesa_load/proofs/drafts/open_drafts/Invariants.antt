@@ -2,7 +2,7 @@ use Rattle.std.proofs.Common.{◌≡◌, vec_len, vec_capacity}
 use Rattle.std.specs.List.{AllByRecursion}
 use Rattle.mesa_load.specs.Collected.{IsBegun}
 use Rattle.mesa_load.specs.FilesToWrite.{HaveIds}
-use Rattle.mesa_open_files.specs.Serials.{after_drafts, next_ids}
+use Rattle.mesa_file.specs.Serials.{after_drafts, next_ids}
 use Rattle.mesa_load.proofs.drafts.open_drafts.Given as goal
 
 abbrev pub invariant-drafts : goal.invariant-drafts

@@ -1,6 +1,6 @@
 use Rattle.std.proofs.Common.{List, map, Ok, Err, sym, subst}
 use Rattle.std.specs.Prelude.{Bool, IfOk, Result}
-use Rattle.mesa_open_files.specs.Serials.{next_ids}
+use Rattle.mesa_file.specs.Serials.{next_ids}
 use Rattle.mesa_load.specs.Collected.{finished}
 use Rattle.mesa_load.specs.FilesToWrite.{AreDone, content_in}
 use Rattle.mesa_load.specs.Plans.{HaveFiles}

@@ -1,7 +1,7 @@
 use Rattle.std.proofs.Common.{◌∙◌, List, subst, sym}
 use Rattle.mesa_open_files.specs.Batches.{shares}
 use Rattle.mesa_open_files.specs.Made.{Content}
-use Rattle.mesa_open_files.specs.Serials.{AreNext}
+use Rattle.mesa_file.specs.Serials.{AreNext}
 use Rattle.mesa_load.specs.Plans.{HaveFiles}
 use Rattle.mesa_load.proofs.Prepared.{prepared}
 use Rattle.mesa_load.proofs.preparing.build_parts.Goals as goal

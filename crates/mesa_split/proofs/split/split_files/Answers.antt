@@ -10,7 +10,7 @@ use Rattle.mesa_compact.specs.mesa_scan.Cursors.{IsInput}
 use Rattle.mesa_merge.specs.Inputs.{knowns_of}
 use Rattle.mesa_merge.proofs.Handing.{refill}
 use Rattle.mesa_open_files.specs.GivingBack.{own_inputs}
-use Rattle.mesa_open_files.specs.Serials.{Drafts, after_drafts, drawn}
+use Rattle.mesa_file.specs.Serials.{Drafts, after_drafts, drawn}
 use Rattle.mesa_open_files.specs.Spares.{AreSpareInputs}
 use Rattle.mesa_open_files.specs.Tasks.{AreMergedViews, AreTaskViews}
 use Rattle.mesa_open_files.specs.declared.merging.Spare.{Spare}

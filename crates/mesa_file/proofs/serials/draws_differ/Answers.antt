@@ -1,5 +1,5 @@
-use Rattle.mesa_open_files.proofs.Drafts.{others_differ, own_differ}
-use Rattle.mesa_open_files.proofs.serials.draws_differ.Goals as goal
+use Rattle.mesa_file.proofs.Drafts.{others_differ, own_differ}
+use Rattle.mesa_file.proofs.serials.draws_differ.Goals as goal
 
 pub returns-clause-own : goal.returns-clause-own
 returns-clause-own c = own_differ

@@ -1,8 +1,8 @@
 // The ids of a session's drafts.
 ghost use Rattle.std.specs.Prelude.{◌≡◌, ◌+◌, ◌^◌, ◌<◌, ℕ};
-ghost use Rattle.mesa_open_files.specs.Serials.{AreSerials, Drafts as AnyDrafts, after_drafts, drawn, next_serials};
+ghost use Rattle.mesa_file.specs.Serials.{AreSerials, Drafts as AnyDrafts, after_drafts, drawn, next_serials};
 
-use mesa_file::FileId;
+use crate::FileId;
 use std::marker::Model;
 
 /// The ids of a session's drafts in a run, one after the other. Their serial numbers are counted modulo 2^32, so an id
@@ -16,7 +16,7 @@ pub struct Serials {
 }
 
 impl Model for Serials {
-    ghost use Rattle.mesa_open_files.specs.Serials.{Drafts};
+    ghost use Rattle.mesa_file.specs.Serials.{Drafts};
 
     ghost Value = { Drafts };
 

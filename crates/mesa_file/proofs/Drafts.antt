@@ -1,6 +1,6 @@
 -- The ids of drafts, one after the other.
 use Rattle.std.proofs.Common.{◌≡◌, ℕ, zero, suc, ◌+◌, ◌*◌, ◌^◌, ◌%◌, ◌<◌, refl, arith}
-use Rattle.mesa_open_files.specs.Serials.{AreSerials, Drafts, after_drafts, drawn}
+use Rattle.mesa_file.specs.Serials.{AreSerials, Drafts, after_drafts, drawn}
 
 -- a draft changes neither the run nor the session
 run_after : (n : ℕ) (d : Drafts) → (after_drafts n d).run ≡ d.run
