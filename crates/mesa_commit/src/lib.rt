@@ -15,4 +15,4 @@ mod trash;
 pub use commit::commit_turn;
 pub use holding::{holds_tell_files, turns_keep_files};
 pub use restating::restate;
-pub use trash::{Dropped, Hold, freed, is_held, keep_held};
+pub use trash::{Dropped, Hold};

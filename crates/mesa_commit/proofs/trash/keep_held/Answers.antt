@@ -1,7 +1,0 @@
-use Rattle.std.proofs.Common.{rules}
-use Rattle.std.proofs.lemmas.Fn.{filter_same}
-use Rattle.mesa_commit.specs.Holding as spec
-use Rattle.mesa_commit.proofs.trash.keep_held.Goals as goal
-
-pub returns : goal.returns
-returns c = filter_same _ (spec.is_held c.args.holders.now) _ (λ x b f called. search rules) _ _ c.retain.ensures.filtered
