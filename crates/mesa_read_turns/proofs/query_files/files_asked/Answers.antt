@@ -1,7 +1,7 @@
 use Rattle.std.proofs.Common.{◌≡◌, true, sym, subst}
 use Rattle.std.proofs.lemmas.Result.{err_from_is_err_and}
 use Rattle.mesa_read_turns.proofs.Opens.{has_no_asked, has_no_files, met_damage, not_unread, rules_undamaged}
-use Rattle.mesa_pick_files.proofs.Opened.{counted_none}
+use Rattle.mesa_open_files.proofs.Counts.{counted_none}
 use Rattle.mesa_pick_files.proofs.There.{name_there, view_within}
 use Rattle.mesa_read_turns.proofs.query_files.files_asked.Goals as goal
 use Rattle.mesa_engine.specs.mesa_store_spec.Catalog.{meta_at}
