@@ -7,8 +7,11 @@ ghost use Rattle.mesa_catalog_records.specs.Meaning.{AreCatalogTables, catalogue
 ghost use Rattle.mesa_table_records.specs.mesa_catalog_table.Meaning.{IsTable, meta_of};
 
 use crate::catalog_tables::{CatalogTables, MAX_TABLES};
-use mesa_table_records::{Files, Part, Recasting, Record, Table, allows_recast, counts_files, counts_files_if_any, counts_totals, keeps_bound, may_be_base, may_be_cumulative};
 use mesa_schema::{Change, KeyColumn, MAX_VIEWS, Name, Schema, ValueColumn};
+use mesa_table_records::{
+    Files, Part, Recasting, Record, Table, allows_recast, counts_files, counts_files_if_any,
+    counts_totals, keeps_bound, may_be_base, may_be_cumulative,
+};
 
 /// The number of the last run that there may be.
 pub const MAX_RUNS: u32 = (1 << 24) - 1;

@@ -16,9 +16,9 @@ mod readying;
 pub use catalog_tables::{CatalogTables, MAX_TABLES};
 pub use copying::share_tables;
 pub use fitting::MAX_RUNS;
-pub use mesa_table_records::{Checkpoint, CheckpointTable, Record};
 pub use mesa_table_records::{
-    Delta, NoRows, Recorded, Relation, RestoreError, Table, ranges, restore, state,
+    Checkpoint, CheckpointTable, Delta, NoRows, Record, Recorded, Relation, RestoreError, Table,
+    ranges, restore, state,
 };
 pub use newness::{IDS_OF_RUN, brings_new, brings_rising, greatest_with};
 pub use ready::Ready;

@@ -11,7 +11,9 @@ ghost use Rattle.mesa_catalog_records.specs.Named.{RiseTo, held_ids, ids_brought
 
 use crate::catalog_tables::CatalogTables;
 use mesa_file::FileId;
-use mesa_table_records::{CheckpointSingle, Files, Part, RecastBase, Recasting, Record, Table, ViewRef};
+use mesa_table_records::{
+    CheckpointSingle, Files, Part, RecastBase, Recasting, Record, Table, ViewRef,
+};
 
 /// How many ids of files a run has.
 pub const IDS_OF_RUN: u64 = 1 << 40;

@@ -16,8 +16,11 @@ use crate::catalog_tables::CatalogTables;
 use crate::lineages::{lineage_with_change, lineage_with_view, new_lineage, widths_with};
 use crate::ready::Ready;
 use mesa_list::{Items, TryCopy};
-use mesa_table_records::{Base, Delta, Files, Part, ReadyPart, Recasting, Record, Table, make_recast, make_spare, no_totals, totals_changed, totals_with, width_of};
 use mesa_schema::{Change, KeyColumn, Name, ValueColumn};
+use mesa_table_records::{
+    Base, Delta, Files, Part, ReadyPart, Recasting, Record, Table, make_recast, make_spare,
+    no_totals, totals_changed, totals_with, width_of,
+};
 use std::alloc::{AllocError, Global};
 use std::sync::Arc;
 

@@ -13,7 +13,6 @@ mod recording;
 mod relation;
 mod table;
 
-pub use mesa_record::{Checkpoint, CheckpointRange, CheckpointSingle, CheckpointTable, Files, Part, RecastBase, Recasting, Record, ViewRef};
 pub use copying::share_table;
 pub use counting::{
     counts_files, counts_totals, counts_views, epochs_of, first_widths, keep_bound, keeps_bound,
@@ -22,6 +21,10 @@ pub use counting::{
 pub use delta::Delta;
 pub use lending::NoRows;
 pub use lookups::ranges;
+pub use mesa_record::{
+    Checkpoint, CheckpointRange, CheckpointSingle, CheckpointTable, Files, Part, RecastBase,
+    Recasting, Record, ViewRef,
+};
 pub use recorded::Recorded;
 pub use relation::Relation;
 pub use table::{Base, Loaded, Table, make_spare, start_behind};

@@ -21,12 +21,14 @@ ghost use Rattle.mesa_delta_format.specs.Spread.{blocks_of};
 ghost use Rattle.mesa_delta_format.specs.Summary.{IsReferenceOf};
 ghost use Rattle.mesa_delta_format.specs.Tail.{first_key};
 
+use crate::FileError;
 use crate::ahead::Ahead;
 use crate::digesting::Message;
 use crate::piece::{check_digest, check_found, read_piece};
 use crate::run::Run;
-use crate::FileError;
-use mesa_delta_format::{Block, BlockError, Index, begins_before, fits_alone, grows_by_rows, read_block, reads_blocks};
+use mesa_delta_format::{
+    Block, BlockError, Index, begins_before, fits_alone, grows_by_rows, read_block, reads_blocks,
+};
 use mesa_disk::{Damage, FileId, FileReader, FileRef, Seen};
 use mesa_schema::{Format, Schema, short};
 use sha2::{Digest, Sha256};

@@ -9,9 +9,12 @@ mod seeking;
 mod tail;
 mod tally;
 
-pub use mesa_block::{Block, BlockBuilder, BlockError, fits_alone, grows_by_rows, is_full, read_block, reads_blocks, rises, row_size};
 pub use index::Index;
 pub use laws::{begins_before, keys_between, one_file, one_row_more};
+pub use mesa_block::{
+    Block, BlockBuilder, BlockError, fits_alone, grows_by_rows, is_full, read_block, reads_blocks,
+    rises, row_size,
+};
 pub use place::Entry;
 pub use tail::{put_entry, put_foot};
 pub use tally::Tally;

@@ -3,10 +3,10 @@ ghost use Rattle.std.specs.Prelude.{◌≡◌, true, false};
 ghost use Rattle.mesa_dir.specs.Asked.{IsTrusted, asked};
 ghost use Rattle.mesa_os.specs.Calls.{is_named};
 
+use crate::DirMade;
 use crate::area_file::AreaFile;
 use crate::opening::{OpenedFiles, open_files};
 use crate::streams::OpenedFolder;
-use crate::DirMade;
 use mesa_disk::Area;
 use mesa_os::System;
 use std::io::{self, ErrorKind};

@@ -10,5 +10,5 @@ mod serials;
 pub use damage::{Damage, Seen};
 pub use file_id::FileId;
 pub use file_ref::FileRef;
-pub use serials::{Serials, draws_differ};
 pub use mesa_key::{Items, TryCopy};
+pub use serials::{Serials, draws_differ};

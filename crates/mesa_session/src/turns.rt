@@ -30,7 +30,9 @@ use mesa_disk::{Bench, Disk, Made};
 use mesa_engine::{Naming, Who};
 use mesa_file::Serials;
 use mesa_io::Sink;
-use mesa_open_files::{CompactError, DeltaDisk, LoadError, NewDelta, Pinned, Prepared, Recast, Recasted, Task};
+use mesa_open_files::{
+    CompactError, DeltaDisk, LoadError, NewDelta, Pinned, Prepared, Recast, Recasted, Task,
+};
 use mesa_script::Rendered;
 use mesa_turn::{Pass, TurnLock};
 use std::alloc::{AllocError, Global};

@@ -13,10 +13,14 @@ mod stating;
 mod swapping;
 mod totals;
 
-pub use mesa_catalog_table::{Base, Checkpoint, CheckpointSingle, CheckpointTable, Delta, Files, NoRows, Part, RecastBase, Recasting, Record, Recorded, Relation, Table, ViewRef, counts_files, counts_totals, keeps_bound, make_spare, no_totals, ranges, share_table, width_of};
 pub use fitting::{counts_files_if_any, may_be_base, may_be_cumulative};
 pub use loading::load_part;
 pub use mesa_batch::totals_changed;
+pub use mesa_catalog_table::{
+    Base, Checkpoint, CheckpointSingle, CheckpointTable, Delta, Files, NoRows, Part, RecastBase,
+    Recasting, Record, Recorded, Relation, Table, ViewRef, counts_files, counts_totals,
+    keeps_bound, make_spare, no_totals, ranges, share_table, width_of,
+};
 pub use ready::{ReadyPart, ReadyRecast};
 pub use recasting::{make_recast, recast};
 pub use renewing::allows_recast;

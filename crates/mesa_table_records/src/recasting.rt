@@ -14,7 +14,9 @@ ghost use Rattle.mesa_table_records.specs.Stated.{loaded_stated};
 use crate::ReadyRecast;
 use crate::stating::copy_files;
 use mesa_batch::totals_recast;
-use mesa_catalog_table::{Base, CheckpointSingle, Delta, Loaded, RecastBase, Recasting, Table, first_widths};
+use mesa_catalog_table::{
+    Base, CheckpointSingle, Delta, Loaded, RecastBase, Recasting, Table, first_widths,
+};
 use mesa_list::{Items, TryCopy};
 use mesa_schema::{Evolving, Name, Totals};
 use std::alloc::{AllocError, Global};

@@ -15,7 +15,9 @@ ghost use Rattle.mesa_table_records.specs.Renewed.{is_sum_if_any, is_sum_named, 
 ghost use Rattle.mesa_table_records.specs.Stated.{stating_loaded};
 
 use crate::same::same_views;
-use mesa_catalog_table::{CheckpointSingle, Delta, Files, Loaded, Recasting, Table, counts_views, keep_bound};
+use mesa_catalog_table::{
+    CheckpointSingle, Delta, Files, Loaded, Recasting, Table, counts_views, keep_bound,
+};
 use mesa_schema::{Evolving, Name, Totals, ValueColumn, place_of};
 use std::sync::Arc;
 

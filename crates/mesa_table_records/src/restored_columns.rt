@@ -12,7 +12,10 @@ ghost use Rattle.mesa_catalog_table.specs.Meaning.{widths_of};
 ghost use Rattle.mesa_table_records.specs.Stated.{lineage_begun, sums_of};
 
 use crate::restoring::RestoreError;
-use mesa_catalog_table::{CheckpointRange, CheckpointSingle, Files, counts_files, counts_totals, epochs_of, first_widths, keep_bound, repeated, sums_now, width_of};
+use mesa_catalog_table::{
+    CheckpointRange, CheckpointSingle, Files, counts_files, counts_totals, epochs_of, first_widths,
+    keep_bound, repeated, sums_now, width_of,
+};
 use mesa_list::Items;
 use mesa_schema::{
     Change, ChangeError, Evolving, KeyColumn, MAX_CHANGES, MAX_VIEWS, Schema, Totals, ValueColumn,

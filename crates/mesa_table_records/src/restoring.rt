@@ -8,7 +8,9 @@ ghost use Rattle.mesa_catalog_table.specs.Copied.{loaded_as, value_in};
 ghost use Rattle.mesa_table_records.specs.Stated.{delta_stated, loaded_stated};
 
 use crate::restored_columns::{Counted, restore_columns};
-use mesa_catalog_table::{Base, CheckpointRange, CheckpointSingle, CheckpointTable, Delta, Loaded, Table, start_behind};
+use mesa_catalog_table::{
+    Base, CheckpointRange, CheckpointSingle, CheckpointTable, Delta, Loaded, Table, start_behind,
+};
 use mesa_list::Items;
 use std::alloc::{AllocError, AllocFailed, Global};
 use std::collections::VecDeque;

@@ -4,9 +4,9 @@ ghost use Rattle.std.specs.List.{list_all};
 ghost use Rattle.mesa_catalog_table.specs.mesa_record.declared.record.ViewRef.{ViewRef as Seen};
 ghost use Rattle.mesa_catalog_table.specs.mesa_store_spec.SameFiles.{same_contents as match_contents, same_counts as match_counts, same_format as match_formats, same_ref as match_refs, same_view as match_view, same_views as match_views};
 
+use mesa_catalog_table::ViewRef;
 use mesa_file::FileRef;
 use mesa_key::Format;
-use mesa_catalog_table::ViewRef;
 
 // Whether these are the same view files, in the same order.
 pub(crate) fn same_views(a: &[ViewRef], b: &[ViewRef]) -> bool

@@ -4,7 +4,9 @@ ghost use Rattle.mesa_catalog_table.specs.mesa_store_spec.Checkpoint.{stating_ra
 ghost use Rattle.mesa_catalog_table.specs.Meaning.{IsTable, ending_of, meta_of, tens_from};
 ghost use Rattle.mesa_table_records.specs.Stated.{stating_loaded};
 
-use mesa_catalog_table::{Base, CheckpointRange, CheckpointSingle, CheckpointTable, Delta, Files, Loaded, Table};
+use mesa_catalog_table::{
+    Base, CheckpointRange, CheckpointSingle, CheckpointTable, Delta, Files, Loaded, Table,
+};
 use mesa_list::{Items, TryCopy};
 use mesa_schema::{Change, Evolving, KeyColumn, Totals, ValueColumn, View};
 use std::alloc::{AllocError, Global};

@@ -15,12 +15,7 @@ use std::sync::Arc;
 
 impl PlainStore {
     /// Adds a table without rows.
-    pub fn add_table(
-        &mut self,
-        alloc: Global,
-        name: Name,
-        schema: Schema,
-    ) -> Result<(), AllocError>
+    pub fn add_table(&mut self, alloc: Global, name: Name, schema: Schema) -> Result<(), AllocError>
         requires few { length self.old.store.tables < max_tables }
         ensures added { OnOk result (self.new ≡ with_table_more self.old name schema) }
         ensures kept { OnErr result (self.new ≡ self.old) }
@@ -46,12 +41,7 @@ impl PlainStore {
     }
 
     /// Changes a table's schema where its rules allow it: every content is lifted. What pins share stays as it is.
-    pub fn change(
-        &mut self,
-        alloc: Global,
-        table: usize,
-        change: Change,
-    ) -> Result<(), ChangeError>
+    pub fn change(&mut self, alloc: Global, table: usize, change: Change) -> Result<(), ChangeError>
         requires there { table < length self.old.store.tables }
         ensures changed { OnOk result (self.new ≡ with_schema_changed self.old table change) }
         ensures allowed { OnOk result (change_checked (table_at self.old.store table).lineage change ≡ Ok tt) }

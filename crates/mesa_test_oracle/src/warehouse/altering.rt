@@ -9,11 +9,11 @@ ghost use Rattle.mesa_model.specs.Warehouse.{table_at};
 ghost use Rattle.mesa_binding.specs.Told.{IsDue, change_failure as failure_of};
 ghost use Rattle.mesa_oracle_tables.specs.Kept.{with_schema_changed};
 
-use mesa_oracle_tables::PlainStore;
 use super::PlainWarehouse;
 use mesa_binding::{Failure, change_asked, change_failure, changed_name};
 use mesa_list::TryCopy;
 use mesa_model::{AlterWords, Refusal, Reply};
+use mesa_oracle_tables::PlainStore;
 use mesa_schema::Change;
 use std::alloc::{AllocError, Global};
 

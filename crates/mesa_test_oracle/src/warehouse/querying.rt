@@ -18,7 +18,6 @@ ghost use Rattle.mesa_oracle_tables.specs.Found.{IsThere, relation_seen};
 ghost use Rattle.mesa_test_oracle.specs.Plain.{answer_as, answer_of};
 ghost use Rattle.mesa_binding.specs.Told.{IsDue};
 
-use mesa_oracle_tables::{Place, PlainStore};
 use super::PlainWarehouse;
 use crate::pins::find_pin;
 use mesa_answer::{answer, view_rows};
@@ -27,6 +26,7 @@ use mesa_filter::{Query, QueryWords, VersionWord};
 use mesa_key::reads_back;
 use mesa_list::TryCopy;
 use mesa_model::{Page, Refusal};
+use mesa_oracle_tables::{Place, PlainStore};
 use mesa_schema::Schema;
 use std::alloc::{AllocError, Global};
 
