@@ -245,6 +245,26 @@ module _ (id : ℕ) where
   found_past p parts number (t ∷ tables) lt =
       (λ i. times id (ids_if_any (cond (is_other p.table number lt i) (Some p) (part_of number parts))) + found_past p parts (number + 1) tables (omega (arith, lt)) i)
 
+  -- one part more is found at most once
+  found_more : (p : Part) (parts : List Part) (number : ℕ) (tables : List TableMeta) → found (p ∷ parts) number tables ≤ times id (part_ids p) + found parts number tables
+  unfolding found ids_if_any
+  found_more p parts number [] = omega arith
+  found_more p parts number (t ∷ tables) = by (p.table == number) refl (found_more p parts (number + 1) tables)
+    where
+      by : (b : Bool) → (p.table == number) ≡ b → found (p ∷ parts) (number + 1) tables ≤ times id (part_ids p) + found parts (number + 1) tables → found (p ∷ parts) number (t ∷ tables) ≤ times id (part_ids p) + found parts number (t ∷ tables)
+      by true e rest =
+          let same : p.table ≡ number = is_equal p.table number e in
+          let here : times id (ids_if_any (part_of number (p ∷ parts))) ≡ times id (part_ids p) = ap (λ b. times id (ids_if_any (cond b (Some p) (part_of number parts)))) e in
+          let past = found_past p parts (number + 1) tables (omega (arith, same)) in
+          omega (arith, here, past)
+      by false e rest =
+          let here : times id (ids_if_any (part_of number (p ∷ parts))) ≡ times id (ids_if_any (part_of number parts)) = ap (λ b. times id (ids_if_any (cond b (Some p) (part_of number parts)))) e in
+          omega (arith, here, rest)
+
+  found_most : (parts : List Part) (number : ℕ) (tables : List TableMeta) → found parts number tables ≤ times id (flat_map part_ids parts)
+  found_most [] number tables = omega (arith, nothing_found number tables)
+  found_most (p ∷ parts) number tables = omega (arith, found_more p parts number tables, found_most parts number tables, times-append (part_ids p) (flat_map part_ids parts))
+
   -- none of these is of the table
   none_of : (number : ℕ) (parts : List Part) → rise_from (number + 1) (map (λ (p : Part). p.table) parts) ≡ true → part_of number parts ≡ None
   none_of number [] rise = refl
@@ -362,6 +382,31 @@ module _ (id : ℕ) where
   counted c (record_of.ExpireTable table version) rules e = ap (λ (xs : List LiveFile). times id (map live_id xs) + times id []) (expire_table_catalog_tables c table version)
   counted c (record_of.Checkpoint k) rules e = refl
   counted c (record_of.Recast k) rules e = recast_names c k e
+
+  -- No more is named after a record than was named before, and what the record brings, whatever its rules.
+  pub counted_most : (c : Catalog) (r : Record) → kind_fits c r ≡ true → times id (named (applied c r)) ≤ times id (named c) + times id (brought_ids c r)
+  counted_most c (record_of.Run number) e = omega arith
+  counted_most c (record_of.Table name keys values) e =
+      let t = new_meta c name (record { keys = keys; values = values }) in
+      omega (arith, named_of (applied c (record_of.Table name keys values)), named_of c, Of-push c.tables t, none_in (deltas_of t) (new_deltas c name (record { keys = keys; values = values })))
+  counted_most c (record_of.View table name keys values) e =
+      omega (arith, named_of (applied c (record_of.View table name keys values)), named_of c, Of-same c.tables table (meta_viewed (meta_at c table) name keys values) refl)
+  counted_most c (record_of.Alter table change) e =
+      omega (arith, named_of (applied c (record_of.Alter table change)), named_of c, Of-same c.tables table (meta_changed (meta_at c table) change) refl)
+  counted_most c (record_of.Publish version parts) e =
+      let brought = ap (times id) (ids_of_parts c parts) in
+      omega (arith, named_of (applied c (record_of.Publish version parts)), named_of c, loaded_all parts 0 c.tables, found_most parts 0 c.tables, brought)
+  counted_most c (record_of.Swap table base from to epoch files) e =
+      let same = swapped c table base from to epoch files (is_less table (length c.tables) (both_true (is_there c table) (swap_fits c (meta_at c table) base from to epoch files) e).0) in
+      omega (arith, same)
+  counted_most c (record_of.Expire version) e =
+      let same : times id (named (applied c (record_of.Expire version))) ≡ times id (named c) = ap (λ (xs : List LiveFile). times id (map live_id xs)) (expire_catalog_tables c version) in
+      omega (arith, same)
+  counted_most c (record_of.ExpireTable table version) e =
+      let same : times id (named (applied c (record_of.ExpireTable table version))) ≡ times id (named c) = ap (λ (xs : List LiveFile). times id (map live_id xs)) (expire_table_catalog_tables c table version) in
+      omega (arith, same)
+  counted_most c (record_of.Checkpoint k) e = omega arith
+  counted_most c (record_of.Recast k) e = omega (arith, recast_names c k e)
 
   -- ---- new ids
 
