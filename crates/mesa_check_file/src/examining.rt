@@ -121,7 +121,10 @@ fn tally_rows<R: FileReader>(
     let mut cursor = Cursor::of(alloc, input)?;
     let mut row = Row::empty(alloc);
     'rows: for _ in 0..u64::MAX {
-        let more = next_row(&mut cursor, input, &mut row)?;
+        let more = match next_row(&mut cursor, input, &mut row) {
+            Ok(more) => more,
+            Err(error) => return Err(error),
+        };
         if !more {
             return Ok(());
         }

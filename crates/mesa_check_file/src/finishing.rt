@@ -65,7 +65,10 @@ pub(crate) fn finish_merge<R: FileReader>(
         return Ok(());
     }
     'rows: for _ in 0..u64::MAX {
-        let more = merge.next()?;
+        let more = match merge.next() {
+            Ok(more) => more,
+            Err(error) => return Err(error),
+        };
         if !more {
             return Ok(());
         }
@@ -93,7 +96,10 @@ pub(crate) fn finish_input<R: FileReader>(
     }
     let mut row = Row::empty(alloc);
     'rows: for _ in 0..u64::MAX {
-        let more = next_row(cursor, input, &mut row)?;
+        let more = match next_row(cursor, input, &mut row) {
+            Ok(more) => more,
+            Err(error) => return Err(error),
+        };
         if !more {
             return Ok(());
         }

@@ -49,7 +49,10 @@ pub(crate) fn grouped_difference<R: FileReader>(
         → KeepsSums (columns_of table.old.evolving.value) (map (lift_by table.old) all) → ⊥) }
 {
     groups_rise();
-    let rows = derive(alloc, table, view)?;
+    let rows = match derive(alloc, table, view) {
+        Ok(rows) => rows,
+        Err(error) => return Err(error),
+    };
     let mut cursor = Cursor::of(alloc, own)?;
     listed_difference(alloc, rows.as_slice(), &mut cursor, own)
 }
@@ -71,7 +74,10 @@ fn listed_difference<R: FileReader>(
 {
     let mut beside = Row::empty(alloc);
     for row in rows {
-        let read = next_row(cursor, input, &mut beside)?;
+        let read = match next_row(cursor, input, &mut beside) {
+            Ok(read) => read,
+            Err(error) => return Err(error),
+        };
         let one = Some(row.lend());
         let other = read.then_some(beside.lend());
         let difference = difference_at(alloc, one, other)?;
@@ -101,7 +107,10 @@ fn further_key<R: FileReader>(
     same_rows_differ_nowhere();
     cursor.rises(input);
     let mut beside = Row::empty(alloc);
-    let read = next_row(cursor, input, &mut beside)?;
+    let read = match next_row(cursor, input, &mut beside) {
+        Ok(read) => read,
+        Err(error) => return Err(error),
+    };
     let other = read.then_some(beside.lend());
     let difference = difference_at(alloc, None, other)?;
     let Some(key) = difference else {

@@ -53,8 +53,14 @@ pub(crate) fn merged_difference<R: FileReader>(
     let mut cursor = Cursor::of(alloc, input)?;
     let mut beside = Row::empty(alloc);
     'rows: for _ in 0..u64::MAX {
-        let given = merge.next()?;
-        let read = next_row(&mut cursor, input, &mut beside)?;
+        let given = match merge.next() {
+            Ok(given) => given,
+            Err(error) => return Err(error),
+        };
+        let read = match next_row(&mut cursor, input, &mut beside) {
+            Ok(read) => read,
+            Err(error) => return Err(error),
+        };
         let one = given.then_some(merge.row());
         let other = read.then_some(beside.lend());
         let difference = difference_at(alloc, one, other)?;
@@ -92,7 +98,10 @@ pub(crate) fn first_key<R: FileReader>(
     same_rows_differ_nowhere();
     all_are_told();
     folds_by_key();
-    let given = merge.next()?;
+    let given = match merge.next() {
+        Ok(given) => given,
+        Err(error) => return Err(error),
+    };
     let one = given.then_some(merge.row());
     let difference = difference_at(alloc, one, None)?;
     let Some(key) = difference else {

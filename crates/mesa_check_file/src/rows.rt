@@ -36,7 +36,10 @@ pub fn next_row<R: FileReader>(
     ensures accepts { IfErr result (λ e. (d : AnyDamage) → e ≡ file_error.Damaged d → low_of cursor.old ≡ None → IsInput R.bytes input.old
         → (b : List ℕ) (all : List AnyRow) → R.bytes (reader_in input.old) ≡ Some b → IsIndexed (index_of input.old.reader) all b → ⊥) }
 {
-    cursor.fill(input)?;
+    match cursor.fill(input) {
+        Ok(()) => {}
+        Err(error) => return Err(error),
+    }
     cursor.rises(input);
     cursor.ends(input);
     let Some(head) = cursor.head() else {

@@ -41,7 +41,10 @@ pub(crate) fn hold_files<M: Made, D: DeltaDisk<M>>(
     ensures unsound { IfErr result (λ failure. tells_damage failure ≡ true → HasUnsoundFile (D.story disk.old).told metadata.old.state session words.now) }
     ensures kept { OnErr result (metadata.new ≡ metadata.old) }
 {
-    let pinned = files_asked(alloc, disk, metadata, session, words, at)?;
+    let pinned = match files_asked(alloc, disk, metadata, session, words, at) {
+        Ok(pinned) => pinned,
+        Err(failure) => return Err(failure),
+    };
     match hold(metadata, session, words.version, at) {
         Ok(()) => Ok(pinned),
         Err(_) => {

@@ -172,7 +172,10 @@ impl Cursor {
         fits_alone();
         lifts_to_present();
         let _blocks = input.reader.index().blocks();
-        let block = input.reader.take_block(self.next, place, ahead)?;
+        let block = match input.reader.take_block(self.next, place, ahead) {
+            Ok(block) => block,
+            Err(error) => return Err(error),
+        };
         let block = block.lifted(&self.lift)?;
         if !follows(&self.low, &self.block, &block) {
             return Err(FileError::Damaged(fall(input.reader.index(), self.next)));
@@ -211,7 +214,10 @@ impl Cursor {
             → (b : List ℕ) (all : List AnyRow) → R.bytes (reader_in input.old) ≡ Some b → IsIndexed (index_of input.old.reader) all b → ⊥) }
     {
         'reading: while self.given >= self.block.len() && self.next < input.reader.blocks() {
-            self.read(input)?;
+            match self.read(input) {
+                Ok(()) => {}
+                Err(error) => return Err(error),
+            }
         }
         Ok(())
     }

@@ -103,7 +103,10 @@ impl<'a> Scan<'a> {
             self.next += 1;
             return Ok(MatchingRows::none(self.alloc));
         }
-        let block = input.reader.block(self.next)?;
+        let block = match input.reader.block(self.next) {
+            Ok(block) => block,
+            Err(error) => return Err(error),
+        };
         let rows = matching_in(self.alloc, self.filter, block.lifted(&self.lift)?)?;
         self.blocks_read += 1;
         self.next += 1;
@@ -150,7 +153,10 @@ impl<'a> Scan<'a> {
             return Ok(MatchingRows::none(self.alloc));
         }
         self.fill(input, place, ahead)?;
-        let block = input.reader.take_block(self.next, place, ahead)?;
+        let block = match input.reader.take_block(self.next, place, ahead) {
+            Ok(block) => block,
+            Err(error) => return Err(error),
+        };
         let rows = matching_in(self.alloc, self.filter, block.lifted(&self.lift)?)?;
         self.blocks_read += 1;
         self.next += 1;

@@ -7,10 +7,10 @@ use Rattle.mesa_scan.specs.Cursors.{HasGiven, IsAllOf}
 use Rattle.mesa_check_file.proofs.Streams.{same_input}
 use Rattle.mesa_check_file.proofs.finishing.finish_input.Goals as goal
 
-pub returns-in_err-more-clause-never : goal.returns-in_err-more-clause-never
-returns-in_err-more-clause-never g c = λ d is b all told indexed.
+pub returns-in-Err-clause-never : goal.returns-in-Err-clause-never
+returns-in-Err-clause-never g c = λ d is b all told indexed.
     let inv = c.rows.invariant in
-    c.in_err-more.ensures.accepts d is inv.low inv.input b all (inv.same.told ∙ told) (subst (λ x. IsIndexed x all b) (sym inv.same.index) indexed)
+    c.in-Err.ensures.accepts d is inv.low inv.input b all (inv.same.told ∙ told) (subst (λ x. IsIndexed x all b) (sym inv.same.index) indexed)
 
 pub rows-init : goal.rows-init
 rows-init g c = record {
@@ -25,12 +25,12 @@ pub rows-preserved : goal.rows-preserved
 rows-preserved g c =
     let inv = c.rows.invariant in
     let bytes = g.R.FileReader.bytes in
-    let some = rw c.if-not-more.false at c.in_ok-more.ensures.some in
+    let some = rw c.if-not-more.false at c.in-Ok.ensures.some in
     let row : Row = c.next_row.new.row in
     record {
-      input = c.in_ok-more.ensures.input inv.input;
-      same = same_input bytes c.args.input.now c.rows.input c.next_row.new.input inv.same c.in_ok-more.ensures.same;
-      faults = c.in_ok-more.ensures.cause.quiet ∙ inv.faults;
+      input = c.in-Ok.ensures.input inv.input;
+      same = same_input bytes c.args.input.now c.rows.input c.next_row.new.input inv.same c.in-Ok.ensures.same;
+      faults = c.in-Ok.ensures.cause.quiet ∙ inv.faults;
       low = c.next_row.ensures.low ∙ inv.low;
       given = λ before h.
           let now = inv.given before h in
@@ -40,7 +40,7 @@ rows-preserved g c =
 pub returns-then-not-more-clause-rest : goal.returns-then-not-more-clause-rest
 returns-then-not-more-clause-rest g c = λ before h ended.
     let now = c.rows.invariant.given before h in
-    let none = rw c.if-not-more.true at c.in_ok-more.ensures.none in
+    let none = rw c.if-not-more.true at c.in-Ok.ensures.none in
     let end = none (before ++ now.0) now.1 in
     (now.0, end.0, end.1, λ t. absurd (false≢true (sym c.if-ended.false ∙ t)))
 

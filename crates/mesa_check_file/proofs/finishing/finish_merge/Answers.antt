@@ -22,7 +22,7 @@ pub rows-preserved : goal.rows-preserved
 rows-preserved g c =
     let inv = c.rows.invariant in
     let start = c.requires in
-    let answer = c.in_ok-more.ensures.next (inv.merged start.0 start.1 start.2).2.going in
+    let answer = c.in-Ok.ensures.next (inv.merged start.0 start.1 start.2).2.going in
     let some = rw c.if-not-more.false at answer.some in
     let row : Row = row_in c.next.new.self in
     record {
@@ -38,24 +38,24 @@ pub returns-then-not-more-clause-rest : goal.returns-then-not-more-clause-rest
 returns-then-not-more-clause-rest g c = λ s givens h ended.
     let inv = c.rows.invariant in
     let now = inv.merged s givens h in
-    let answer = c.in_ok-more.ensures.next now.2.going in
+    let answer = c.in-Ok.ensures.next now.2.going in
     let none = rw c.if-not-more.true at answer.none in
     (now.0, now.1, subst (λ ks. AreAll ks now.0) (answer.known ∙ inv.known) (none s now.0 now.2).1, now.3, λ t. absurd (false≢true (sym c.if-ended.false ∙ t)))
 
 pub returns-then-ended-clause-cause : goal.returns-then-ended-clause-cause
 returns-then-ended-clause-cause g c = quiet_after (λ e. e ≡ Read) _ _ (Ok tt) refl tt
 
-pub returns-in_err-more-clause-cause : goal.returns-in_err-more-clause-cause
-returns-in_err-more-clause-cause g c =
+pub returns-in-Err-clause-cause : goal.returns-in-Err-clause-cause
+returns-in-Err-clause-cause g c =
     let start = c.requires in
     let inv = c.rows.invariant in
-    failed_after (λ e. e ≡ Read) _ _ _ c.in_err-more.field-0 inv.faults (c.in_err-more.ensures.next (inv.merged start.0 start.1 start.2).2.going).cause
+    failed_after (λ e. e ≡ Read) _ _ _ c.in-Err.error inv.faults (c.in-Err.ensures.next (inv.merged start.0 start.1 start.2).2.going).cause
 
-pub returns-in_err-more-clause-never : goal.returns-in_err-more-clause-never
-returns-in_err-more-clause-never g c = λ d is s givens h contents told bound.
+pub returns-in-Err-clause-never : goal.returns-in-Err-clause-never
+returns-in-Err-clause-never g c = λ d is s givens h contents told bound.
     let inv = c.rows.invariant in
     let now = inv.merged s givens h in
-    (c.in_err-more.ensures.next now.2.going).accepts d is s now.0 now.2 contents (subst (λ ks. AreTold ks contents) (sym inv.known) told)
+    (c.in-Err.ensures.next now.2.going).accepts d is s now.0 now.2 contents (subst (λ ks. AreTold ks contents) (sym inv.known) told)
     (subst (λ ks. KeepsBound (aggs_of s) [] (rows_of (lifted_parts ks contents))) (sym inv.known) bound)
 
 pub returns-clause-cause : goal.returns-clause-cause

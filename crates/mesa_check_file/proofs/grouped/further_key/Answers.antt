@@ -15,13 +15,13 @@ use Rattle.mesa_check_file.proofs.Differing.{differs, front_rises, whole_of}
 use Rattle.mesa_check_file.proofs.Stepping.{GivesOn, gives_on, lent_some}
 use Rattle.mesa_check_file.proofs.grouped.further_key.Goals as goal
 
-pub returns-in_err-read-clause-never : goal.returns-in_err-read-clause-never
-returns-in_err-read-clause-never g c = λ d is b all read indexed. c.in_err-read.ensures.accepts d is c.requires.whole c.requires.input b all read indexed
+pub returns-in-Err-clause-never : goal.returns-in-Err-clause-never
+returns-in-Err-clause-never g c = λ d is b all read indexed. c.in-Err.ensures.accepts d is c.requires.whole c.requires.input b all read indexed
 
 pub returns-in_err-finish_input-clause-never : goal.returns-in_err-finish_input-clause-never
 returns-in_err-finish_input-clause-never g c =
     let p = err_from_is_err_and c.from_residual-in_err-finish_input.result c.from_residual-in_err-finish_input.ensures.1 in
-    let same = c.in_ok-read.ensures.same in
+    let same = c.in-Ok.ensures.same in
     rw (p.1, p.2) (λ d is b all read indexed. c.in_err-finish_input.ensures.never d is b all (same.told ∙ read) (subst (λ x. IsIndexed x all b) (sym same.index) indexed))
 
 pub finish_input-requires-clause-whole : goal.finish_input-requires-clause-whole
@@ -32,13 +32,13 @@ finish_input-requires-clause-whole g c κs within = c.next_row.ensures.low ∙ c
 pub returns-clause-difference : goal.returns-clause-difference
 returns-clause-difference g c = λ front b all h read indexed.
     let bytes = g.R.FileReader.bytes in
-    let beside : Option Row = then_some c.in_ok-read.read c.next_row.new.row in
+    let beside : Option Row = then_some c.in-Ok.read c.next_row.new.row in
     let by : GivesOn bytes c.next_row.new.input c.next_row.new.cursor front beside =
-    gives_on bytes c.args.input.now c.next_row.new.input c.args.cursor.now c.next_row.new.cursor (columns_of c.args.input.now.evolving.value) front beside h c.in_ok-read.ensures.some c.in_ok-read.ensures.none in
+    gives_on bytes c.args.input.now c.next_row.new.input c.args.cursor.now c.next_row.new.cursor (columns_of c.args.input.now.evolving.value) front beside h c.in-Ok.ensures.some c.in-Ok.ensures.none in
     let more = c.in_ok-finish_input.ensures.rest (front ++ option_to_list beside) by.given (λ t. absurd cc) in
     let given : List Row = (front ++ option_to_list beside) ++ more.0 in
     let total : front ≡ (front ++ option_to_list None) ++ [] = sym (append-nil (front ++ []) ∙ append-nil front) in
-    let same : IsSameInput bytes c.args.input.now c.finish_input.new.input = same_input bytes c.args.input.now c.next_row.new.input c.finish_input.new.input c.in_ok-read.ensures.same c.in_ok-finish_input.ensures.same in
+    let same : IsSameInput bytes c.args.input.now c.finish_input.new.input = same_input bytes c.args.input.now c.next_row.new.input c.finish_input.new.input c.in-Ok.ensures.same c.in_ok-finish_input.ensures.same in
     let whole : map (lift_by c.args.input.now) all ≡ given = whole_of bytes c.args.input.now c.finish_input.new.input given all b same more.2 read indexed in
     let lends : option_map lent c.then_some-other.result ≡ beside = lent_some _ _ _ _ c.then_some-other.ensures c.lend.ensures in
     let first : Shows c.in-Some.key None (option_map lent c.then_some-other.result) = rw c.in-Some.is at c.in_ok-difference.ensures.first in
@@ -51,11 +51,11 @@ returns-clause-difference g c = λ front b all h read indexed.
 pub returns-in_default-clause-difference : goal.returns-in_default-clause-difference
 returns-in_default-clause-difference g c = λ front b all h read indexed.
     let bytes = g.R.FileReader.bytes in
-    let beside : Option Row = then_some c.in_ok-read.read c.next_row.new.row in
+    let beside : Option Row = then_some c.in-Ok.read c.next_row.new.row in
     let by : GivesOn bytes c.next_row.new.input c.next_row.new.cursor front beside =
-    gives_on bytes c.args.input.now c.next_row.new.input c.args.cursor.now c.next_row.new.cursor (columns_of c.args.input.now.evolving.value) front beside h c.in_ok-read.ensures.some c.in_ok-read.ensures.none in
+    gives_on bytes c.args.input.now c.next_row.new.input c.args.cursor.now c.next_row.new.cursor (columns_of c.args.input.now.evolving.value) front beside h c.in-Ok.ensures.some c.in-Ok.ensures.none in
     let lends : option_map lent c.then_some-other.result ≡ beside = lent_some _ _ _ _ c.then_some-other.ensures c.lend.ensures in
     let none : None ≡ beside = (rw c.in_default.is at c.in_ok-difference.ensures.same) ∙ lends in
     let whole : map (lift_by c.args.input.now) all ≡ front =
-    whole_of bytes c.args.input.now c.next_row.new.input (front ++ option_to_list beside) all b c.in_ok-read.ensures.same (by.ends (sym none)) read indexed ∙ ap (λ (o : Option Row). front ++ option_to_list o) (sym none) ∙ append-nil front in
+    whole_of bytes c.args.input.now c.next_row.new.input (front ++ option_to_list beside) all b c.in-Ok.ensures.same (by.ends (sym none)) read indexed ∙ ap (λ (o : Option Row). front ++ option_to_list o) (sym none) ∙ append-nil front in
     sym (c.same_rows_differ_nowhere.ensures.same front) ∙ (λ k. first_difference front (sym whole k))

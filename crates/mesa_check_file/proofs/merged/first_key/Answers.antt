@@ -22,19 +22,19 @@ next-requires-after_bounds g c = λ _ _. may_go_on g.R.FileReader.bytes c.args.m
 
 -- ---- failed reads and damage
 
-pub returns-in_err-given-clause-cause : goal.returns-in_err-given-clause-cause
-returns-in_err-given-clause-cause g c = failed_after (λ e. e ≡ Read) _ _ _ c.in_err-given.field-0 refl (c.in_err-given.ensures.next c.requires.2.going).cause
+pub returns-in-Err-clause-cause : goal.returns-in-Err-clause-cause
+returns-in-Err-clause-cause g c = failed_after (λ e. e ≡ Read) _ _ _ c.in-Err.error refl (c.in-Err.ensures.next c.requires.2.going).cause
 
-pub returns-in_err-given-clause-never : goal.returns-in_err-given-clause-never
-returns-in_err-given-clause-never g c = λ d is s givens contents h told keeps. (c.in_err-given.ensures.next h.going).accepts d is s givens h contents told keeps
+pub returns-in-Err-clause-never : goal.returns-in-Err-clause-never
+returns-in-Err-clause-never g c = λ d is s givens contents h told keeps. (c.in-Err.ensures.next h.going).accepts d is s givens h contents told keeps
 
-pub returns-in_err-given-clause-known : goal.returns-in_err-given-clause-known
-returns-in_err-given-clause-known g c = (c.in_err-given.ensures.next c.requires.2.going).known
+pub returns-in-Err-clause-known : goal.returns-in-Err-clause-known
+returns-in-Err-clause-known g c = (c.in-Err.ensures.next c.requires.2.going).known
 
 pub finish_merge-requires-after_bounds : goal.finish_merge-requires-after_bounds
 finish_merge-requires-after_bounds g c κs within =
-    let answer = c.in_ok-given.ensures.next c.requires.2.going in
-    let on = goes_on g.R.FileReader.bytes c.requires.0 c.args.merge.now c.next.new.self c.requires.1 (then_some c.in_ok-given.given (row_in c.next.new.self)) c.requires.2 answer.some answer.none in
+    let answer = c.in-Ok.ensures.next c.requires.2.going in
+    let on = goes_on g.R.FileReader.bytes c.requires.0 c.args.merge.now c.next.new.self c.requires.1 (then_some c.in-Ok.given (row_in c.next.new.self)) c.requires.2 answer.some answer.none in
     (c.requires.0, on.after, on.merged)
 
 pub returns-in_err-finish_merge-clause-never : goal.returns-in_err-finish_merge-clause-never
@@ -42,46 +42,46 @@ returns-in_err-finish_merge-clause-never g c =
     let p = err_from_is_err_and c.from_residual-in_err-finish_merge.result c.from_residual-in_err-finish_merge.ensures.1 in
     let bytes = g.R.FileReader.bytes in
     rw (p.1, p.2) (λ d is s givens contents h told keeps.
-    let answer = c.in_ok-given.ensures.next h.going in
-    let on = goes_on bytes s c.args.merge.now c.next.new.self givens (then_some c.in_ok-given.given (row_in c.next.new.self)) h answer.some answer.none in
+    let answer = c.in-Ok.ensures.next h.going in
+    let on = goes_on bytes s c.args.merge.now c.next.new.self givens (then_some c.in-Ok.given (row_in c.next.new.self)) h answer.some answer.none in
     c.in_err-finish_merge.ensures.never d is s on.after on.merged contents (subst (λ ks. AreTold ks contents) (sym answer.known) told)
     (subst (λ ks. KeepsBound (aggs_of s) [] (rows_of (lifted_parts ks contents))) (sym answer.known) keeps))
 
 pub returns-in_err-finish_merge-clause-known : goal.returns-in_err-finish_merge-clause-known
-returns-in_err-finish_merge-clause-known g c = c.in_err-finish_merge.ensures.known ∙ (c.in_ok-given.ensures.next c.requires.2.going).known
+returns-in_err-finish_merge-clause-known g c = c.in_err-finish_merge.ensures.known ∙ (c.in-Ok.ensures.next c.requires.2.going).known
 
 pub returns-in_err-finish_merge-clause-cause : goal.returns-in_err-finish_merge-clause-cause
 returns-in_err-finish_merge-clause-cause g c =
     let p = err_from_is_err_and c.from_residual-in_err-finish_merge.result c.from_residual-in_err-finish_merge.ensures.1 in
-    rw (p.1, p.2) (failed_after (λ e. e ≡ Read) _ _ _ _ (c.in_ok-given.ensures.next c.requires.2.going).cause.quiet c.in_err-finish_merge.ensures.cause)
+    rw (p.1, p.2) (failed_after (λ e. e ≡ Read) _ _ _ _ (c.in-Ok.ensures.next c.requires.2.going).cause.quiet c.in_err-finish_merge.ensures.cause)
 
 pub returns-in_err-difference-clause-known : goal.returns-in_err-difference-clause-known
-returns-in_err-difference-clause-known g c = (c.in_ok-given.ensures.next c.requires.2.going).known
+returns-in_err-difference-clause-known g c = (c.in-Ok.ensures.next c.requires.2.going).known
 
 pub returns-in_err-difference-clause-cause : goal.returns-in_err-difference-clause-cause
 returns-in_err-difference-clause-cause g c =
     let p = err_from_is_err_and c.from_residual.result c.from_residual.ensures.1 in
-    rw (p.1, p.2) (quiet_after (λ e. e ≡ Read) _ _ (Err Memory) (c.in_ok-given.ensures.next c.requires.2.going).cause.quiet (λ e. cc))
+    rw (p.1, p.2) (quiet_after (λ e. e ≡ Read) _ _ (Err Memory) (c.in-Ok.ensures.next c.requires.2.going).cause.quiet (λ e. cc))
 
 -- ---- the first row, and none
 
 pub returns-clause-known : goal.returns-clause-known
-returns-clause-known g c = c.in_ok-finish_merge.ensures.known ∙ (c.in_ok-given.ensures.next c.requires.2.going).known
+returns-clause-known g c = c.in_ok-finish_merge.ensures.known ∙ (c.in-Ok.ensures.next c.requires.2.going).known
 
 pub returns-clause-cause : goal.returns-clause-cause
-returns-clause-cause g c = quiet_after (λ e. e ≡ Read) _ _ (Ok _) (c.in_ok-finish_merge.ensures.cause.quiet ∙ (c.in_ok-given.ensures.next c.requires.2.going).cause.quiet) tt
+returns-clause-cause g c = quiet_after (λ e. e ≡ Read) _ _ (Ok _) (c.in_ok-finish_merge.ensures.cause.quiet ∙ (c.in-Ok.ensures.next c.requires.2.going).cause.quiet) tt
 
 pub returns-in_default-clause-known : goal.returns-in_default-clause-known
-returns-in_default-clause-known g c = (c.in_ok-given.ensures.next c.requires.2.going).known
+returns-in_default-clause-known g c = (c.in-Ok.ensures.next c.requires.2.going).known
 
 pub returns-in_default-clause-cause : goal.returns-in_default-clause-cause
-returns-in_default-clause-cause g c = quiet_after (λ e. e ≡ Read) _ _ (Ok _) (c.in_ok-given.ensures.next c.requires.2.going).cause.quiet tt
+returns-in_default-clause-cause g c = quiet_after (λ e. e ≡ Read) _ _ (Ok _) (c.in-Ok.ensures.next c.requires.2.going).cause.quiet tt
 
 pub returns-clause-difference : goal.returns-clause-difference
 returns-clause-difference g c = λ s givens contents h nothing told.
     let bytes = g.R.FileReader.bytes in
-    let row : Option Row = then_some c.in_ok-given.given (row_in c.next.new.self) in
-    let answer = c.in_ok-given.ensures.next h.going in
+    let row : Option Row = then_some c.in-Ok.given (row_in c.next.new.self) in
+    let answer = c.in-Ok.ensures.next h.going in
     let on : GoesOn bytes s c.next.new.self (folded (aggs_of s) givens) row = goes_on bytes s c.args.merge.now c.next.new.self givens row h answer.some answer.none in
     let rest = c.in_ok-finish_merge.ensures.rest s on.after on.merged (λ t. absurd cc) in
     let parts : List (List Row) = lifted_parts (knowns_of bytes (inputs_of c.args.merge.now)) contents in
@@ -97,8 +97,8 @@ returns-clause-difference g c = λ s givens contents h nothing told.
 pub returns-in_default-clause-difference : goal.returns-in_default-clause-difference
 returns-in_default-clause-difference g c = λ s givens contents h nothing told.
     let bytes = g.R.FileReader.bytes in
-    let row : Option Row = then_some c.in_ok-given.given (row_in c.next.new.self) in
-    let answer = c.in_ok-given.ensures.next h.going in
+    let row : Option Row = then_some c.in-Ok.given (row_in c.next.new.self) in
+    let answer = c.in-Ok.ensures.next h.going in
     let on : GoesOn bytes s c.next.new.self (folded (aggs_of s) givens) row = goes_on bytes s c.args.merge.now c.next.new.self givens row h answer.some answer.none in
     let lends : option_map lent c.then_some-one.result ≡ row = lent_some _ _ _ _ c.then_some-one.ensures c.row.ensures in
     let none : row ≡ None = sym lends ∙ (rw c.in_default.is at c.in_ok-difference.ensures.same) in

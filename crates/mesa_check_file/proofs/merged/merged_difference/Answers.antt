@@ -32,20 +32,20 @@ rows-preserved g c =
     let bytes = g.R.FileReader.bytes in
     let s : Columns = columns_of c.args.input.now.evolving.value in
     let inv = c.rows.invariant in
-    let row : Option Row = then_some c.in_ok-given.given (row_in c.next.new.self) in
-    let beside : Option Row = then_some c.in_ok-read.read c.next_row.new.row in
-    let answer = c.in_ok-given.ensures.next inv.merged.going in
+    let row : Option Row = then_some c.in-Ok.given (row_in c.next.new.self) in
+    let beside : Option Row = then_some c.in-Ok-next_row.read c.next_row.new.row in
+    let answer = c.in-Ok.ensures.next inv.merged.going in
     let on = goes_on bytes s c.rows.merge c.next.new.self inv.givens row inv.merged answer.some answer.none in
-    let by = gives_on bytes c.rows.input c.next_row.new.input c.rows.cursor c.next_row.new.cursor (columns_of c.rows.input.evolving.value) inv.given beside inv.read c.in_ok-read.ensures.some c.in_ok-read.ensures.none in
+    let by = gives_on bytes c.rows.input c.next_row.new.input c.rows.cursor c.next_row.new.cursor (columns_of c.rows.input.evolving.value) inv.given beside inv.read c.in-Ok-next_row.ensures.some c.in-Ok-next_row.ensures.none in
     let lends : option_map lent c.then_some-one.result ≡ row = lent_some _ _ _ _ c.then_some-one.ensures c.row.ensures in
     let lends_beside : option_map lent c.then_some-other.result ≡ beside = lent_some _ _ _ _ c.then_some-other.ensures c.lend.ensures in
     let alike : row ≡ beside = sym lends ∙ (rw c.in_default.is at c.in_ok-difference.ensures.same) ∙ lends_beside in
     record {
       known = answer.known ∙ inv.known;
       counts = answer.cause.quiet ∙ inv.counts;
-      input = c.in_ok-read.ensures.input inv.input;
-      same = same_input bytes c.args.input.now c.rows.input c.next_row.new.input inv.same c.in_ok-read.ensures.same;
-      faults = c.in_ok-read.ensures.cause.quiet ∙ inv.faults;
+      input = c.in-Ok-next_row.ensures.input inv.input;
+      same = same_input bytes c.args.input.now c.rows.input c.next_row.new.input inv.same c.in-Ok-next_row.ensures.same;
+      faults = c.in-Ok-next_row.ensures.cause.quiet ∙ inv.faults;
       given = inv.given ++ option_to_list beside;
       read = by.given;
       givens = on.after;
@@ -63,23 +63,23 @@ returns-in_err-cursor-clause-cause g c =
 pub returns-clause-cause : goal.returns-clause-cause
 returns-clause-cause g c = none_failed (λ e. e ≡ Read) _ _ _ _ (Err Memory) c.rows.invariant.faults c.rows.invariant.counts (λ e. cc)
 
-pub returns-in_err-given-clause-never : goal.returns-in_err-given-clause-never
-returns-in_err-given-clause-never g c = λ d is contents b all told read indexed keeps.
+pub returns-in-Err-clause-never : goal.returns-in-Err-clause-never
+returns-in-Err-clause-never g c = λ d is contents b all told read indexed keeps.
     let inv = c.rows.invariant in
     let s : Columns = columns_of c.args.input.now.evolving.value in
-    (c.in_err-given.ensures.next inv.merged.going).accepts d is s inv.givens inv.merged contents (subst (λ ks. AreTold ks contents) (sym inv.known) told)
+    (c.in-Err.ensures.next inv.merged.going).accepts d is s inv.givens inv.merged contents (subst (λ ks. AreTold ks contents) (sym inv.known) told)
     (subst (λ ks. KeepsBound (aggs_of s) [] (rows_of (lifted_parts ks contents))) (sym inv.known) keeps)
 
-pub returns-in_err-read-clause-never : goal.returns-in_err-read-clause-never
-returns-in_err-read-clause-never g c = λ d is contents b all told read indexed keeps.
+pub returns-in-Err-next_row-clause-never : goal.returns-in-Err-next_row-clause-never
+returns-in-Err-next_row-clause-never g c = λ d is contents b all told read indexed keeps.
     let inv = c.rows.invariant in
-    c.in_err-read.ensures.accepts d is inv.read.key inv.input b all (inv.same.told ∙ read) (subst (λ x. IsIndexed x all b) (sym inv.same.index) indexed)
+    c.in-Err-next_row.ensures.accepts d is inv.read.key inv.input b all (inv.same.told ∙ read) (subst (λ x. IsIndexed x all b) (sym inv.same.index) indexed)
 
 pub returns-in_err-difference-clause-cause : goal.returns-in_err-difference-clause-cause
 returns-in_err-difference-clause-cause g c =
     let p = err_from_is_err_and c.from_residual-in_err-difference.result c.from_residual-in_err-difference.ensures.1 in
     let inv = c.rows.invariant in
-    rw (p.1, p.2) (none_failed (λ e. e ≡ Read) _ _ _ _ (Err Memory) (c.in_ok-read.ensures.cause.quiet ∙ inv.faults) ((c.in_ok-given.ensures.next inv.merged.going).cause.quiet ∙ inv.counts) (λ e. cc))
+    rw (p.1, p.2) (none_failed (λ e. e ≡ Read) _ _ _ _ (Err Memory) (c.in-Ok-next_row.ensures.cause.quiet ∙ inv.faults) ((c.in-Ok.ensures.next inv.merged.going).cause.quiet ∙ inv.counts) (λ e. cc))
 
 pub returns-in_err-difference-clause-never : goal.returns-in_err-difference-clause-never
 returns-in_err-difference-clause-never g c =
@@ -93,8 +93,8 @@ finish_both-requires-clause-merge g c κs within =
     let bytes = g.R.FileReader.bytes in
     let s : Columns = columns_of c.args.input.now.evolving.value in
     let inv = c.rows.invariant in
-    let answer = c.in_ok-given.ensures.next inv.merged.going in
-    let on = goes_on bytes s c.rows.merge c.next.new.self inv.givens (then_some c.in_ok-given.given (row_in c.next.new.self)) inv.merged answer.some answer.none in
+    let answer = c.in-Ok.ensures.next inv.merged.going in
+    let on = goes_on bytes s c.rows.merge c.next.new.self inv.givens (then_some c.in-Ok.given (row_in c.next.new.self)) inv.merged answer.some answer.none in
     (s, on.after, on.merged)
 
 pub finish_both-requires-clause-whole : goal.finish_both-requires-clause-whole
@@ -104,8 +104,8 @@ pub returns-in_err-finish_both-clause-cause : goal.returns-in_err-finish_both-cl
 returns-in_err-finish_both-clause-cause g c =
     let p = err_from_is_err_and c.from_residual-in_err-finish_both.result c.from_residual-in_err-finish_both.ensures.1 in
     let inv = c.rows.invariant in
-    let one = c.in_ok-read.ensures.cause.quiet ∙ inv.faults in
-    let others = (c.in_ok-given.ensures.next inv.merged.going).cause.quiet ∙ inv.counts in
+    let one = c.in-Ok-next_row.ensures.cause.quiet ∙ inv.faults in
+    let others = (c.in-Ok.ensures.next inv.merged.going).cause.quiet ∙ inv.counts in
     rw (p.1, p.2) (failed_after (λ e. e ≡ Read) _ _ _ _ (λ i. one i ∷ others i) c.in_err-finish_both.ensures.cause)
 
 pub returns-in_err-finish_both-clause-never : goal.returns-in_err-finish_both-clause-never
@@ -114,10 +114,10 @@ returns-in_err-finish_both-clause-never g c =
     let bytes = g.R.FileReader.bytes in
     let s : Columns = columns_of c.args.input.now.evolving.value in
     let inv = c.rows.invariant in
-    let answer = c.in_ok-given.ensures.next inv.merged.going in
-    let on = goes_on bytes s c.rows.merge c.next.new.self inv.givens (then_some c.in_ok-given.given (row_in c.next.new.self)) inv.merged answer.some answer.none in
+    let answer = c.in-Ok.ensures.next inv.merged.going in
+    let on = goes_on bytes s c.rows.merge c.next.new.self inv.givens (then_some c.in-Ok.given (row_in c.next.new.self)) inv.merged answer.some answer.none in
     let known = answer.known ∙ inv.known in
-    let same = same_input bytes c.args.input.now c.rows.input c.next_row.new.input inv.same c.in_ok-read.ensures.same in
+    let same = same_input bytes c.args.input.now c.rows.input c.next_row.new.input inv.same c.in-Ok-next_row.ensures.same in
     rw (p.1, p.2) (λ d is contents b all told read indexed keeps.
     c.in_err-finish_both.ensures.never d is s on.after on.merged contents b all (subst (λ ks. AreTold ks contents) (sym known) told) (same.told ∙ read) (subst (λ x. IsIndexed x all b) (sym same.index) indexed)
     (subst (λ ks. KeepsBound (aggs_of s) [] (rows_of (lifted_parts ks contents))) (sym known) keeps))
@@ -127,21 +127,21 @@ returns-in-Some-clause-difference g c = λ contents b all told read indexed.
     let bytes = g.R.FileReader.bytes in
     let s : Columns = columns_of c.args.input.now.evolving.value in
     let inv = c.rows.invariant in
-    let row : Option Row = then_some c.in_ok-given.given (row_in c.next.new.self) in
-    let beside : Option Row = then_some c.in_ok-read.read c.next_row.new.row in
-    let answer = c.in_ok-given.ensures.next inv.merged.going in
+    let row : Option Row = then_some c.in-Ok.given (row_in c.next.new.self) in
+    let beside : Option Row = then_some c.in-Ok-next_row.read c.next_row.new.row in
+    let answer = c.in-Ok.ensures.next inv.merged.going in
     let on : GoesOn bytes s c.next.new.self (folded (aggs_of s) inv.givens) row = goes_on bytes s c.rows.merge c.next.new.self inv.givens row inv.merged answer.some answer.none in
     let by : GivesOn bytes c.next_row.new.input c.next_row.new.cursor inv.given beside =
-    gives_on bytes c.rows.input c.next_row.new.input c.rows.cursor c.next_row.new.cursor (columns_of c.rows.input.evolving.value) inv.given beside inv.read c.in_ok-read.ensures.some c.in_ok-read.ensures.none in
-    let rest = c.in_ok-finish_both.ensures.rest s on.after on.merged (λ t. on.ends (no_row c.in_ok-given.given (row_in c.next.new.self) t)) in
-    let more = c.in_ok-finish_both.ensures.rows (inv.given ++ option_to_list beside) by.given (λ t. by.ends (no_row c.in_ok-read.read c.next_row.new.row t)) in
+    gives_on bytes c.rows.input c.next_row.new.input c.rows.cursor c.next_row.new.cursor (columns_of c.rows.input.evolving.value) inv.given beside inv.read c.in-Ok-next_row.ensures.some c.in-Ok-next_row.ensures.none in
+    let rest = c.in_ok-finish_both.ensures.rest s on.after on.merged (λ t. on.ends (no_row c.in-Ok.given (row_in c.next.new.self) t)) in
+    let more = c.in_ok-finish_both.ensures.rows (inv.given ++ option_to_list beside) by.given (λ t. by.ends (no_row c.in-Ok-next_row.read c.next_row.new.row t)) in
     let given : List Row = (inv.given ++ option_to_list beside) ++ more.0 in
     let known = answer.known ∙ inv.known in
     let total : folded (aggs_of s) (lifted_parts (knowns_of bytes (inputs_of c.args.merge.now)) contents) ≡ (inv.given ++ option_to_list row) ++ rest.1 =
     fold_of (aggs_of s) (knowns_of bytes (inputs_of c.args.merge.now)) (knowns_of bytes (inputs_of c.next.new.self)) rest.0 contents c.all_are_told.ensures known rest.2 told
     ∙ rest.3 ∙ ap (λ (l : List Row). l ++ rest.1) (on.grows ∙ ap (λ (l : List Row). l ++ option_to_list row) inv.alike) in
     let same : IsSameInput bytes c.args.input.now c.finish_both.new.input =
-    same_input bytes c.args.input.now c.next_row.new.input c.finish_both.new.input (same_input bytes c.args.input.now c.rows.input c.next_row.new.input inv.same c.in_ok-read.ensures.same) c.in_ok-finish_both.ensures.same in
+    same_input bytes c.args.input.now c.next_row.new.input c.finish_both.new.input (same_input bytes c.args.input.now c.rows.input c.next_row.new.input inv.same c.in-Ok-next_row.ensures.same) c.in_ok-finish_both.ensures.same in
     let whole : map (lift_by c.args.input.now) all ≡ given = whole_of bytes c.args.input.now c.finish_both.new.input given all b same more.2 read indexed in
     let lends : option_map lent c.then_some-one.result ≡ row = lent_some _ _ _ _ c.then_some-one.ensures c.row.ensures in
     let lends_beside : option_map lent c.then_some-other.result ≡ beside = lent_some _ _ _ _ c.then_some-other.ensures c.lend.ensures in
@@ -149,7 +149,7 @@ returns-in-Some-clause-difference g c = λ contents b all told read indexed.
     let shows : Shows c.in-Some.key row beside = λ front rows others one other rises rise. first front rows others (one ∙ sym lends) (other ∙ sym lends_beside) rises rise in
     let rises : IsTrue (keys_rise (folded (aggs_of s) (lifted_parts (knowns_of bytes (inputs_of c.args.merge.now)) contents))) = c.folds_by_key.ensures.rise (aggs_of s) (lifted_parts (knowns_of bytes (inputs_of c.args.merge.now)) contents) in
     let rise : IsTrue (keys_rise (map (lift_by c.args.input.now) all)) = subst (λ (l : List Row). IsTrue (keys_rise l)) (sym whole) (front_rises given (at_hand c.finish_both.new.cursor) (c.rises.ensures.rise None given more.1)) in
-    differs inv.given row beside rest.1 more.0 _ _ c.in-Some.key shows total (λ e. rest.4 (ended c.in_ok-given.given (row_in c.next.new.self) e)) whole (λ e. more.3 (ended c.in_ok-read.read c.next_row.new.row e)) rises rise
+    differs inv.given row beside rest.1 more.0 _ _ c.in-Some.key shows total (λ e. rest.4 (ended c.in-Ok.given (row_in c.next.new.self) e)) whole (λ e. more.3 (ended c.in-Ok-next_row.read c.next_row.new.row e)) rises rise
 
 -- ---- both at their ends
 
@@ -158,18 +158,18 @@ returns-then-not-given-clause-difference g c = λ contents b all told read index
     let bytes = g.R.FileReader.bytes in
     let s : Columns = columns_of c.args.input.now.evolving.value in
     let inv = c.rows.invariant in
-    let row : Option Row = then_some c.in_ok-given.given (row_in c.next.new.self) in
-    let beside : Option Row = then_some c.in_ok-read.read c.next_row.new.row in
-    let answer = c.in_ok-given.ensures.next inv.merged.going in
+    let row : Option Row = then_some c.in-Ok.given (row_in c.next.new.self) in
+    let beside : Option Row = then_some c.in-Ok-next_row.read c.next_row.new.row in
+    let answer = c.in-Ok.ensures.next inv.merged.going in
     let on : GoesOn bytes s c.next.new.self (folded (aggs_of s) inv.givens) row = goes_on bytes s c.rows.merge c.next.new.self inv.givens row inv.merged answer.some answer.none in
     let by : GivesOn bytes c.next_row.new.input c.next_row.new.cursor inv.given beside =
-    gives_on bytes c.rows.input c.next_row.new.input c.rows.cursor c.next_row.new.cursor (columns_of c.rows.input.evolving.value) inv.given beside inv.read c.in_ok-read.ensures.some c.in_ok-read.ensures.none in
+    gives_on bytes c.rows.input c.next_row.new.input c.rows.cursor c.next_row.new.cursor (columns_of c.rows.input.evolving.value) inv.given beside inv.read c.in-Ok-next_row.ensures.some c.in-Ok-next_row.ensures.none in
     let lends : option_map lent c.then_some-one.result ≡ row = lent_some _ _ _ _ c.then_some-one.ensures c.row.ensures in
     let lends_beside : option_map lent c.then_some-other.result ≡ beside = lent_some _ _ _ _ c.then_some-other.ensures c.lend.ensures in
     let alike : row ≡ beside = sym lends ∙ (rw c.in_default.is at c.in_ok-difference.ensures.same) ∙ lends_beside in
     let none : row ≡ None = ap (λ more. then_some more (row_in c.next.new.self)) c.if-not-given.true in
     let given : List Row = inv.given ++ option_to_list beside in
-    let same : IsSameInput bytes c.args.input.now c.next_row.new.input = same_input bytes c.args.input.now c.rows.input c.next_row.new.input inv.same c.in_ok-read.ensures.same in
+    let same : IsSameInput bytes c.args.input.now c.next_row.new.input = same_input bytes c.args.input.now c.rows.input c.next_row.new.input inv.same c.in-Ok-next_row.ensures.same in
     let total : folded (aggs_of s) (lifted_parts (knowns_of bytes (inputs_of c.args.merge.now)) contents) ≡ given =
     fold_of (aggs_of s) (knowns_of bytes (inputs_of c.args.merge.now)) (knowns_of bytes (inputs_of c.next.new.self)) on.after contents c.all_are_told.ensures (answer.known ∙ inv.known) (on.ends none) told
     ∙ on.grows ∙ (λ k. inv.alike k ++ option_to_list (alike k)) in

@@ -17,7 +17,7 @@ returns-clause-some g c =
     let rest : at_hand c.step.new.self ≡ some.0 = c.step.ensures.rows ∙ ap (drop 1) some.1 in
     let hand : at_hand c.fill.new.self ≡ row ∷ at_hand c.step.new.self = some.1 ∙ (λ k. sym c.in_ok-fill.ensures k ∷ sym rest k) in
     λ given h.
-    let mid = c.in_ok-fill.ensures.given None given h in
+    let mid = c.in-Ok.ensures.given None given h in
     let form : AreRowsOf (columns_of now.evolving.value) (given ++ row ∷ at_hand c.step.new.self) = subst (λ (l : List Row). AreRowsOf (columns_of now.evolving.value) (given ++ l)) hand (c.rises.ensures.form None given mid) in (
       taken bytes None now c.fill.new.self c.step.new.self given row mid hand c.step.ensures.still,
       subst (λ s. IsRowOf s row) (ap (λ e. columns_of e.value) c.fill.ensures.same.evolving) (form_in (columns_of now.evolving.value) given row (at_hand c.step.new.self) form),
@@ -25,5 +25,5 @@ returns-clause-some g c =
 
 pub returns-in_default-clause-none : goal.returns-in_default-clause-none
 returns-in_default-clause-none g c = λ given h.
-    let mid = c.in_ok-fill.ensures.given None given h in
-    (mid, c.ends.ensures.all given mid c.in_ok-fill.ensures.ready (rw c.in_default.is at c.head.ensures.none))
+    let mid = c.in-Ok.ensures.given None given h in
+    (mid, c.ends.ensures.all given mid c.in-Ok.ensures.ready (rw c.in_default.is at c.head.ensures.none))

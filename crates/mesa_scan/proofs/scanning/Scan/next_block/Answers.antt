@@ -40,30 +40,30 @@ take_block-requires-clause-within g c = λ κs below.
 pub take_block-requires-clause-ahead : goal.take_block-requires-clause-ahead
 take_block-requires-clause-ahead g c = λ κs below. stays_own g.R.FileReader.bytes c.args.input.now c.fill.new.input c.fill.ensures.input c.fill.ensures.bytes c.args.place c.fill.new.ahead (c.fill.ensures.own c.requires.ahead)
 
-pub returns-in_err-block-clause-own : goal.returns-in_err-block-clause-own
-returns-in_err-block-clause-own g c =
+pub returns-in-Err-clause-own : goal.returns-in-Err-clause-own
+returns-in-Err-clause-own g c =
     own_left (g.R.FileReader.bytes (reader_in c.args.input.now)) (index_of c.args.input.now.reader) c.args.place c.fill.new.ahead c.take_block.new.ahead c.take_block.ensures.taken (c.fill.ensures.own c.requires.ahead)
 
-pub returns-in_err-block-clause-ahead : goal.returns-in_err-block-clause-ahead
-returns-in_err-block-clause-ahead g c =
+pub returns-in-Err-clause-ahead : goal.returns-in-Err-clause-ahead
+returns-in-Err-clause-ahead g c =
     λ files at h. ahead_left files c.fill.new.ahead c.take_block.new.ahead c.take_block.ensures.taken (c.fill.ensures.ahead files at h)
 
-pub returns-in_err-block-clause-same : goal.returns-in_err-block-clause-same
-returns-in_err-block-clause-same g c =
+pub returns-in-Err-clause-same : goal.returns-in-Err-clause-same
+returns-in-Err-clause-same g c =
     let bytes = g.R.FileReader.bytes in
     let old = c.args.input.now in
     let fill = c.fill.new.input in
     same_input bytes old fill (record fill { reader = c.take_block.new.self }) (stays_same bytes old fill c.fill.ensures.input c.fill.ensures.bytes) (record { index = c.take_block.ensures.index; evolving = refl; epoch = refl; told = c.take_block.ensures.bytes })
 
-pub returns-in_err-block-clause-input : goal.returns-in_err-block-clause-input
-returns-in_err-block-clause-input g c =
+pub returns-in-Err-clause-input : goal.returns-in-Err-clause-input
+returns-in-Err-clause-input g c =
     let bytes = g.R.FileReader.bytes in
     let old = c.args.input.now in
     let fill = c.fill.new.input in
-    input_failed bytes fill c.take_block.new.self c.in_err-block.ensures.err c.in_err-block.ensures.bytes (stays_input bytes old fill c.fill.ensures.input c.fill.ensures.bytes c.requires.scanning.1.input)
+    input_failed bytes fill c.take_block.new.self c.in-Err.ensures.err c.in-Err.ensures.bytes (stays_input bytes old fill c.fill.ensures.input c.fill.ensures.bytes c.requires.scanning.1.input)
 
-pub returns-in_err-block-clause-damaged : goal.returns-in_err-block-clause-damaged
-returns-in_err-block-clause-damaged g c =
+pub returns-in-Err-clause-damaged : goal.returns-in-Err-clause-damaged
+returns-in-Err-clause-damaged g c =
     λ d e.
     let bytes = g.R.FileReader.bytes in
     let size = g.R.FileReader.size in
@@ -73,8 +73,8 @@ returns-in_err-block-clause-damaged g c =
     let here : IsDamaged bytes size fill d = record {
       block = next_of c.args.self.now;
       before = read.0;
-      shown = c.in_err-block.ensures.damaged d e read.0 read.1;
-      unsound = λ b all told indexed. c.in_err-block.ensures.accepts d e read.0 read.1 b all told indexed;
+      shown = c.in-Err.ensures.damaged d e read.0 read.1;
+      unsound = λ b all told indexed. c.in-Err.ensures.accepts d e read.0 read.1 b all told indexed;
     } in
     damaged_before bytes size old fill d (stays_same bytes old fill c.fill.ensures.input c.fill.ensures.bytes) c.fill.ensures.size here
 
@@ -88,8 +88,8 @@ matching_in-requires g c =
     let same = stays_same bytes input fill c.fill.ensures.input c.fill.ensures.bytes in
     let scanned = stays_scanned bytes input fill c.fill.ensures.input c.fill.ensures.bytes scan c.requires.scanning.0 c.requires.scanning.1 in
     let here : IsLineage fill.evolving.value = subst (λ e. IsLineage e.value) (sym same.evolving) lineage in
-    let spells = block_spells c.reads_back.ensures.passes c.lifts_to_present.ensures.form bytes fill scan c.requires.scanning.0 (next_of scan) c.in_ok-block.block here scanned c.in_ok-block.ensures.block in
-    subst (AllByRecursion (λ (row : Row). IsTrue (is_spelling scan.filter.now.kinds row.key))) (sym c.in_ok-lifted.ensures) (all_map (λ (row : Row). IsTrue (is_spelling scan.filter.now.kinds row.key)) (lifted_with scan.lift) c.in_ok-block.block spells)
+    let spells = block_spells c.reads_back.ensures.passes c.lifts_to_present.ensures.form bytes fill scan c.requires.scanning.0 (next_of scan) c.in-Ok.block here scanned c.in-Ok.ensures.block in
+    subst (AllByRecursion (λ (row : Row). IsTrue (is_spelling scan.filter.now.kinds row.key))) (sym c.in_ok-lifted.ensures) (all_map (λ (row : Row). IsTrue (is_spelling scan.filter.now.kinds row.key)) (lifted_with scan.lift) c.in-Ok.block spells)
 
 pub returns-in_err-lifted-clause-own : goal.returns-in_err-lifted-clause-own
 returns-in_err-lifted-clause-own g c =
@@ -112,7 +112,7 @@ returns-in_err-lifted-clause-input g c =
     let old = c.args.input.now in
     let fill = c.fill.new.input in
     let same : IsSameInput bytes fill (record fill { reader = c.take_block.new.self }) = record { index = c.take_block.ensures.index; evolving = refl; epoch = refl; told = c.take_block.ensures.bytes } in
-    input_more bytes fill (record fill { reader = c.take_block.new.self }) (next_of c.args.self.now) c.in_ok-block.block same c.in_ok-block.ensures.first c.in_ok-block.ensures.next c.in_ok-block.ensures.other (stays_input bytes old fill c.fill.ensures.input c.fill.ensures.bytes c.requires.scanning.1.input)
+    input_more bytes fill (record fill { reader = c.take_block.new.self }) (next_of c.args.self.now) c.in-Ok.block same c.in-Ok.ensures.first c.in-Ok.ensures.next c.in-Ok.ensures.other (stays_input bytes old fill c.fill.ensures.input c.fill.ensures.bytes c.requires.scanning.1.input)
 
 pub returns-in_err-rows-clause-own : goal.returns-in_err-rows-clause-own
 returns-in_err-rows-clause-own g c =
@@ -135,7 +135,7 @@ returns-in_err-rows-clause-input g c =
     let old = c.args.input.now in
     let fill = c.fill.new.input in
     let same : IsSameInput bytes fill (record fill { reader = c.take_block.new.self }) = record { index = c.take_block.ensures.index; evolving = refl; epoch = refl; told = c.take_block.ensures.bytes } in
-    input_more bytes fill (record fill { reader = c.take_block.new.self }) (next_of c.args.self.now) c.in_ok-block.block same c.in_ok-block.ensures.first c.in_ok-block.ensures.next c.in_ok-block.ensures.other (stays_input bytes old fill c.fill.ensures.input c.fill.ensures.bytes c.requires.scanning.1.input)
+    input_more bytes fill (record fill { reader = c.take_block.new.self }) (next_of c.args.self.now) c.in-Ok.block same c.in-Ok.ensures.first c.in-Ok.ensures.next c.in-Ok.ensures.other (stays_input bytes old fill c.fill.ensures.input c.fill.ensures.bytes c.requires.scanning.1.input)
 
 pub overflow_add-self-2 : goal.overflow_add-self-2
 overflow_add-self-2 g c =
@@ -154,10 +154,10 @@ returns-clause-more g c = λ given h.
     let scanned = stays_scanned bytes old fill c.fill.ensures.input c.fill.ensures.bytes was given h in
     let here : IsLineage fill.evolving.value = subst (λ e. IsLineage e.value) (sym moved.evolving) lineage in
     let same : IsSameInput bytes fill (record fill { reader = c.take_block.new.self }) = record { index = c.take_block.ensures.index; evolving = refl; epoch = refl; told = c.take_block.ensures.bytes } in
-    let input = input_more bytes fill (record fill { reader = c.take_block.new.self }) (next_of was) c.in_ok-block.block same c.in_ok-block.ensures.first c.in_ok-block.ensures.next c.in_ok-block.ensures.other scanned.input in
+    let input = input_more bytes fill (record fill { reader = c.take_block.new.self }) (next_of was) c.in-Ok.block same c.in-Ok.ensures.first c.in-Ok.ensures.next c.in-Ok.ensures.other scanned.input in
     let left : next_of was < length (index_of fill.reader).entries = subst (λ (x : Indexed). next_of was < length x.entries) (sym moved.index) c.requires.left in
     let opened : true ≡ allows_block (filter_of was) was.columns (index_of fill.reader) (next_of was) = (rw c.index-index.ensures at c.if-not-may_have.ensures.walk) ∙ ap (λ (x : Indexed). allows_block (filter_of was) was.columns x (next_of was)) (sym moved.index) in
-    rw (c.in_ok-rows.ensures, c.in_ok-lifted.ensures) (onward_read c.lifts_to_present.ensures.form bytes fill (record fill { reader = c.take_block.new.self }) was _ given c.in_ok-block.block here same input scanned left (record { filter = refl; lift = refl; columns = refl; next = refl }) refl opened c.in_ok-block.ensures.block c.in_ok-block.ensures.again)
+    rw (c.in_ok-rows.ensures, c.in_ok-lifted.ensures) (onward_read c.lifts_to_present.ensures.form bytes fill (record fill { reader = c.take_block.new.self }) was _ given c.in-Ok.block here same input scanned left (record { filter = refl; lift = refl; columns = refl; next = refl }) refl opened c.in-Ok.ensures.block c.in-Ok.ensures.again)
 
 pub returns-clause-own : goal.returns-clause-own
 returns-clause-own g c =
@@ -180,4 +180,4 @@ returns-clause-input g c =
     let old = c.args.input.now in
     let fill = c.fill.new.input in
     let same : IsSameInput bytes fill (record fill { reader = c.take_block.new.self }) = record { index = c.take_block.ensures.index; evolving = refl; epoch = refl; told = c.take_block.ensures.bytes } in
-    input_more bytes fill (record fill { reader = c.take_block.new.self }) (next_of c.args.self.now) c.in_ok-block.block same c.in_ok-block.ensures.first c.in_ok-block.ensures.next c.in_ok-block.ensures.other (stays_input bytes old fill c.fill.ensures.input c.fill.ensures.bytes c.requires.scanning.1.input)
+    input_more bytes fill (record fill { reader = c.take_block.new.self }) (next_of c.args.self.now) c.in-Ok.block same c.in-Ok.ensures.first c.in-Ok.ensures.next c.in-Ok.ensures.other (stays_input bytes old fill c.fill.ensures.input c.fill.ensures.bytes c.requires.scanning.1.input)
