@@ -23,7 +23,6 @@ pub fn fits(totals: &Totals, more: &Totals) -> Result<(), u16>
     }
 }
 
-#[tactic(auto, using(mesa_schema::proofs::mesa_columns::Maps::position_map))]
 fn first_over(totals: &[u128], more: &[u128]) -> Option<usize>
     ensures within { IfSome result (λ i. i < length totals.now) }
     ensures column { result ≡ over_bound totals.now more.now }

@@ -28,7 +28,6 @@ pub fn read_name(alloc: Global, bytes: &[u8]) -> Result<Name, Failure>
 }
 
 // The name of the column of these bytes, which are refused where no column has it.
-#[tactic(auto, using(mesa_schema::proofs::mesa_columns::Maps::is_some_position))]
 pub(crate) fn column_name<C: Named>(bytes: &[u8], columns: &[C]) -> Result<Name, Failure>
     ensures read { IfOk result (λ name. name ≡ bytes.now) }
     ensures refused { IfErr result (IsDue (refuse_unless (has_name bytes.now (map C.name_of columns.now)) Refusal.NoColumn)) }

@@ -19,7 +19,6 @@ pub struct Place {
 }
 
 // The number of the table of a name.
-#[tactic(auto, using(mesa_schema::proofs::mesa_columns::Maps::position_map))]
 pub(crate) fn table_place(name: &[u8], tables: &[Glanced]) -> Option<usize>
     ensures within { IfSome result (λ i. i < length tables.now) }
     ensures place { result ≡ place_of name.now (map (λ t. t.name) tables.now) }

@@ -13,7 +13,7 @@ use std::alloc::Global;
 use std::collections::VecDeque;
 use std::marker::Model;
 use std::sync::Arc;
-pub use versions::{push_contents, shared_again};
+pub(crate) use versions::{push_contents, shared_again};
 
 /// The contents of the tables at one version, by the tables' numbers. A table that was made later has none.
 pub(crate) type Contents = Items<Arc<RowList>>;
