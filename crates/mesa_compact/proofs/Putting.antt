@@ -1,11 +1,11 @@
 -- Rows put into several gatherers.
 use Rattle.std.proofs.Common.{◌≡◌, ℕ, zero, suc, ◌<◌, ◌≤◌, List, [], ◌∷◌, sym, subst, ap, refl, length, map, get_or, set, arith}
 use Rattle.std.specs.List.{AllByRecursion}
-use Rattle.std.specs.Prelude.{Option, None, Some, IfSome}
 use Rattle.mesa_open_files.specs.mesa_columns.Columns.{Columns}
+use Rattle.mesa_answer.specs.Gathered.{wanted_of}
 use Rattle.mesa_answer.specs.Gathering.{Wanted}
 use Rattle.mesa_answer.specs.declared.groups.Groups.{Groups}
-use Rattle.mesa_compact.specs.Grouping.{TakesRows, wanted_in}
+use Rattle.mesa_compact.specs.Grouping.{TakesRows}
 
 -- the first so many have one property, and the others another
 abbrev pub AllUpTo : {A : Type 0} → ℕ → (A → Type 0) → (A → Type 0) → List A → Type 0
@@ -54,16 +54,8 @@ all_back f P Q (x ∷ xs) from h = (from x h.0, all_back f P Q xs from h.1)
 
 -- ---- what gatherers take
 
-seen_takes : (s : Columns) (o : Option Groups) → TakesRows s o → IfSome (wanted_in o) (λ w. w.schema ≡ s)
-seen_takes s None h = tt
-seen_takes s (Some g) h = h
-
-takes_seen : (s : Columns) (o : Option Groups) → IfSome (wanted_in o) (λ w. w.schema ≡ s) → TakesRows s o
-takes_seen s None h = tt
-takes_seen s (Some g) h = h
-
 -- they take the same rows still
-pub takes_kept : (s : Columns) (old new : List (Option Groups)) → map wanted_in new ≡ map wanted_in old → AllByRecursion (TakesRows s) old → AllByRecursion (TakesRows s) new
+pub takes_kept : (s : Columns) (old new : List Groups) → map wanted_of new ≡ map wanted_of old → AllByRecursion (TakesRows s) old → AllByRecursion (TakesRows s) new
 takes_kept s old new same h =
-    let Q = λ (o : Option Wanted). IfSome o (λ w. w.schema ≡ s) in
-    all_back wanted_in (TakesRows s) Q new (takes_seen s) (subst (AllByRecursion Q) (sym same) (all_along wanted_in (TakesRows s) Q old (seen_takes s) h))
+    let Q = λ (w : Wanted). w.schema ≡ s in
+    all_back wanted_of (TakesRows s) Q new (λ x its. its) (subst (AllByRecursion Q) (sym same) (all_along wanted_of (TakesRows s) Q old (λ x its. its) h))

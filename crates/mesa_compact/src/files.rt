@@ -7,6 +7,7 @@ ghost use Rattle.mesa_open_files.specs.mesa_columns.Columns.{aggs_of};
 ghost use Rattle.mesa_open_files.specs.mesa_fold.Folded.{folded, rows_of};
 ghost use Rattle.mesa_batch.specs.Bound.{KeepsBound};
 ghost use Rattle.mesa_answer.specs.Answering.{KeepsSums};
+ghost use Rattle.mesa_answer.specs.Gathered.{wanted_of};
 ghost use Rattle.mesa_open_files.specs.mesa_scan.Cursors.{IsInput};
 ghost use Rattle.mesa_merge.specs.Faults.{faults_of};
 ghost use Rattle.mesa_merge.specs.Inputs.{AreAll, AreInputs, AreTold, knowns_of, lifted_parts};
@@ -15,7 +16,7 @@ ghost use Rattle.mesa_open_files.specs.Inputs.{IsMergeOf};
 ghost use Rattle.mesa_open_files.specs.Made.{IsMadeFile};
 ghost use Rattle.mesa_compact.specs.Bounded.{AreBounded};
 ghost use Rattle.mesa_compact.specs.Damaged.{IsMergeDamage, IsNewestOf};
-ghost use Rattle.mesa_compact.specs.Grouping.{HavePut, TakesRows, wanted_in};
+ghost use Rattle.mesa_compact.specs.Grouping.{HavePut, TakesRows};
 ghost use Rattle.mesa_compact.specs.Writing.{HasCauses, damaged_by};
 
 use crate::filing::{begin_file, end_file, give_up};
@@ -38,7 +39,7 @@ pub fn merged_file<M: Made, B: Bench<M>, R: FileReader>(
     id: FileId,
     schema: &Schema,
     inputs: &mut Vec<Input<R>>,
-    groups: &mut [Option<Groups>],
+    groups: &mut [Groups],
 ) -> Result<MadeFile<M>, CompactError>
     requires some { 0 < length inputs.old.items }
     requires inputs { AreInputs R.bytes schema.now inputs.old.items }
@@ -49,7 +50,7 @@ pub fn merged_file<M: Made, B: Bench<M>, R: FileReader>(
     ensures made { IfOk result (λ made. (rows : List AnyRow) × IsMergeOf R.bytes schema.now inputs.old.items rows × IsMadeFile M.bytes M.id_of (record { columns = schema.now; rows = rows }) made × HavePut groups.new rows
         × (AreBounded schema.now (knowns_of R.bytes inputs.old.items) → KeepsSums schema.now rows)) }
     ensures id { IfOk result (λ made. M.id_of made.made ≡ id) }
-    ensures wanted { map wanted_in groups.new ≡ map wanted_in groups.old }
+    ensures wanted { map wanted_of groups.new ≡ map wanted_of groups.old }
     ensures causes { HasCauses (B.faults bench.old) (B.faults bench.new) (faults_of R.faults inputs.old.items) (faults_of R.faults inputs.new.items) (IsMergeDamage R.bytes R.size inputs.new.items) result }
     ensures accepts { IfErr result (λ e. (d : AnyDamage) → e ≡ damaged_by d → (contents : List (List AnyRow)) → AreTold (knowns_of R.bytes inputs.old.items) contents
         → KeepsBound (aggs_of schema.now) [] (rows_of (lifted_parts (knowns_of R.bytes inputs.old.items) contents)) → ⊥) }
@@ -76,7 +77,7 @@ fn merge_into<M: Made, B: Bench<M>, R: FileReader>(
     id: FileId,
     schema: &Schema,
     inputs: Vec<Input<R>>,
-    groups: &mut [Option<Groups>],
+    groups: &mut [Groups],
 ) -> (Vec<Input<R>>, Result<MadeFile<M>, CompactError>)
     requires some { 0 < length inputs.items }
     requires inputs { AreInputs R.bytes schema.now inputs.items }
@@ -87,7 +88,7 @@ fn merge_into<M: Made, B: Bench<M>, R: FileReader>(
     ensures made { IfOk result.1 (λ made. (rows : List AnyRow) × IsMergeOf R.bytes schema.now inputs.items rows × IsMadeFile M.bytes M.id_of (record { columns = schema.now; rows = rows }) made × HavePut groups.new rows
         × (AreBounded schema.now (knowns_of R.bytes inputs.items) → KeepsSums schema.now rows)) }
     ensures id { IfOk result.1 (λ made. M.id_of made.made ≡ id) }
-    ensures wanted { map wanted_in groups.new ≡ map wanted_in groups.old }
+    ensures wanted { map wanted_of groups.new ≡ map wanted_of groups.old }
     ensures causes { HasCauses (B.faults bench.old) (B.faults bench.new) (faults_of R.faults inputs.items) (faults_of R.faults result.0.items) (IsMergeDamage R.bytes R.size result.0.items) result.1 }
     ensures accepts { IfErr result.1 (λ e. (d : AnyDamage) → e ≡ damaged_by d → (contents : List (List AnyRow)) → AreTold (knowns_of R.bytes inputs.items) contents
         → KeepsBound (aggs_of schema.now) [] (rows_of (lifted_parts (knowns_of R.bytes inputs.items) contents)) → ⊥) }
@@ -108,7 +109,7 @@ fn file_of<M: Made, B: Bench<M>, R: FileReader>(
     id: FileId,
     schema: &Schema,
     merge: &mut Merge<R>,
-    groups: &mut [Option<Groups>],
+    groups: &mut [Groups],
 ) -> Result<MadeFile<M>, CompactError>
     requires some { 0 < length (inputs_of merge.old) }
     requires merging { (givens : List (List AnyRow)) × HasMerged R.bytes schema.now merge.old givens × (folded (aggs_of schema.now) givens ≡ []) }
@@ -120,7 +121,7 @@ fn file_of<M: Made, B: Bench<M>, R: FileReader>(
         × IsMadeFile M.bytes M.id_of (record { columns = schema.now; rows = folded (aggs_of schema.now) after }) made × HavePut groups.new (folded (aggs_of schema.now) after)
         × (AreBounded schema.now (knowns_of R.bytes (inputs_of merge.new)) → KeepsSums schema.now (folded (aggs_of schema.now) after))) }
     ensures id { IfOk result (λ made. M.id_of made.made ≡ id) }
-    ensures wanted { map wanted_in groups.new ≡ map wanted_in groups.old }
+    ensures wanted { map wanted_of groups.new ≡ map wanted_of groups.old }
     ensures causes { HasCauses (B.faults bench.old) (B.faults bench.new) (faults_of R.faults (inputs_of merge.old)) (faults_of R.faults (inputs_of merge.new)) (IsMergeDamage R.bytes R.size (inputs_of merge.new)) result }
     ensures accepts { IfErr result (λ e. (d : AnyDamage) → e ≡ damaged_by d → (givens : List (List AnyRow)) → HasMerged R.bytes schema.now merge.old givens → folded (aggs_of schema.now) givens ≡ []
         → (contents : List (List AnyRow)) → AreTold (knowns_of R.bytes (inputs_of merge.old)) contents → KeepsBound (aggs_of schema.now) [] (rows_of (lifted_parts (knowns_of R.bytes (inputs_of merge.old)) contents)) → ⊥) }

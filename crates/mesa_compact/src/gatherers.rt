@@ -1,16 +1,15 @@
-// The groups of views that have no files of their own, before any row was put in.
-ghost use Rattle.std.specs.Prelude.{◌≡◌, [], List, length, IfOk};
-ghost use Rattle.std.specs.Bool.{OnTrue};
+// The groups of views, before any row was put in.
+ghost use Rattle.std.specs.Prelude.{◌≡◌, [], List, IfOk};
 ghost use Rattle.std.specs.List.{AllByRecursion};
 ghost use Rattle.mesa_open_files.specs.mesa_columns.declared.views.View.{View as AnyView};
 ghost use Rattle.mesa_schema.specs.Changes.{columns_of};
+ghost use Rattle.mesa_answer.specs.Gathered.{HasPut, wanted_of};
 ghost use Rattle.mesa_answer.specs.Regrouping.{places_seen};
-ghost use Rattle.mesa_compact.specs.Grouping.{HasPutIn, HavePut, TakesRows, wanted_in};
-ghost use Rattle.mesa_compact.specs.Sources.{ArePlaces, AreSeen, AreSources, HasFiles, IsSourceOf};
+ghost use Rattle.mesa_view.specs.SumDamage.{view_groups};
+ghost use Rattle.mesa_compact.specs.Grouping.{HavePut, TakesRows};
+ghost use Rattle.mesa_compact.specs.Sources.{ArePlaces, AreSeen, AreSources};
 
 use mesa_answer::{Groups, Regrouping};
-use mesa_disk::FileReader;
-use mesa_open_files::TaskView;
 use mesa_schema::{Evolving, Schema};
 use std::alloc::{AllocError, Global};
 
@@ -26,50 +25,33 @@ pub fn regroupings(alloc: Global, evolving: &Evolving) -> Result<Vec<Regrouping>
     Ok(seen)
 }
 
-/// For each view that has no files of its own a gatherer of all its groups, into which no row was put yet.
-pub fn gatherers_of<'a, R: FileReader>(
+/// For each view a gatherer of all its groups, into which no row was put yet.
+pub fn gatherers_of<'a>(
     alloc: Global,
     schema: &'a Schema,
-    views: &[TaskView<R>],
     seen: &'a [Regrouping],
-) -> Result<Vec<Option<Groups<'a>>>, AllocError>
-    requires count { length seen.now ≡ length views.now }
-    requires places { AllByRecursion (ArePlaces schema.now) seen.now }
-    ensures sources { IfOk result (λ groups. (known : List AnyView) → AreSeen schema.now known seen.now → AreSources schema.now known views.now groups.items) }
+) -> Result<Vec<Groups<'a>>, AllocError>
+    requires { AllByRecursion (ArePlaces schema.now) seen.now }
+    ensures sources { IfOk result (λ groups. (views : List AnyView) → AreSeen schema.now views seen.now → AreSources schema.now views groups.items) }
     ensures none { IfOk result (λ groups. HavePut groups.items []) }
     ensures takes { IfOk result (λ groups. AllByRecursion (TakesRows schema.now) groups.items) }
 {
-    let mut groups = Vec::with_capacity(alloc, views.len())?;
-    'views: for i in 0..views.len() {
-        groups.push(gatherer(alloc, schema, &views[i], &seen[i])?)?;
+    let mut groups = Vec::with_capacity(alloc, seen.len())?;
+    'views: for places in seen {
+        groups.push(gatherer(alloc, schema, places)?)?;
     }
     Ok(groups)
 }
 
-fn gatherer<'a, R: FileReader>(
+fn gatherer<'a>(
     alloc: Global,
     schema: &'a Schema,
-    view: &TaskView<R>,
     seen: &'a Regrouping,
-) -> Result<Option<Groups<'a>>, AllocError>
+) -> Result<Groups<'a>, AllocError>
     requires { ArePlaces schema.now seen.now }
-    ensures source { IfOk result (λ o. (v : AnyView) → seen.now ≡ places_seen schema.now v → IsSourceOf schema.now v view.now (wanted_in o)) }
-    ensures none { IfOk result (λ o. HasPutIn [] o) }
-    ensures takes { IfOk result (λ o. TakesRows schema.now o) }
+    ensures source { IfOk result (λ g. (v : AnyView) → seen.now ≡ places_seen schema.now v → wanted_of g ≡ view_groups schema.now v) }
+    ensures none { IfOk result (λ g. HasPut g []) }
+    ensures takes { IfOk result (λ g. TakesRows schema.now g) }
 {
-    if has_files(view) {
-        return Ok(None);
-    }
-    let groups = Groups::all(alloc, schema, seen.columns(), seen.values())?;
-    Ok(Some(groups))
-}
-
-// Whether a view has files of its own.
-fn has_files<R: FileReader>(view: &TaskView<R>) -> bool
-    ensures { OnTrue result (HasFiles view.now) }
-{
-    match &view.inputs {
-        Some(own) => !own.is_empty(),
-        None => false,
-    }
+    Groups::all(alloc, schema, seen.columns(), seen.values())
 }

@@ -8,6 +8,7 @@ ghost use Rattle.mesa_open_files.specs.mesa_fold.Folded.{folded, rows_of};
 ghost use Rattle.mesa_batch.specs.Bound.{KeepsBound};
 ghost use Rattle.mesa_delta.specs.Writing.{HasTaken, columns_of, draft_of, id_of};
 ghost use Rattle.mesa_answer.specs.Answering.{KeepsSums};
+ghost use Rattle.mesa_answer.specs.Gathered.{wanted_of};
 ghost use Rattle.mesa_open_files.specs.mesa_scan.Cursors.{IsInput};
 ghost use Rattle.mesa_merge.specs.Faults.{faults_of};
 ghost use Rattle.mesa_merge.specs.Inputs.{AreAll, AreTold, knowns_of, lifted_parts};
@@ -15,7 +16,7 @@ ghost use Rattle.mesa_merge.specs.Merged.{HasMerged, inputs_of};
 ghost use Rattle.mesa_merge.specs.Sums.{sum_damage};
 ghost use Rattle.mesa_compact.specs.Bounded.{AreBounded};
 ghost use Rattle.mesa_compact.specs.Damaged.{IsMergeDamage};
-ghost use Rattle.mesa_compact.specs.Grouping.{HavePut, TakesRows, wanted_in};
+ghost use Rattle.mesa_compact.specs.Grouping.{HavePut, TakesRows};
 ghost use Rattle.mesa_compact.specs.Writing.{HasCauses, damaged_by};
 
 use crate::grouping::put_all;
@@ -32,7 +33,7 @@ use mesa_schema::folds_by_key;
 pub(crate) fn pour<M: Made, T: Draft<M>, R: FileReader>(
     merge: &mut Merge<R>,
     writer: &mut DeltaWriter<M, T>,
-    groups: &mut [Option<Groups>],
+    groups: &mut [Groups],
 ) -> Result<(), CompactError>
     requires pouring { (givens : List (List AnyRow)) × HasMerged R.bytes (columns_of writer.old) merge.old givens × HasTaken T.bytes writer.old (folded (aggs_of (columns_of writer.old)) givens) × HavePut groups.old (folded (aggs_of (columns_of writer.old)) givens) }
     requires takes { AllByRecursion (TakesRows (columns_of writer.old)) groups.old }
@@ -44,7 +45,7 @@ pub(crate) fn pour<M: Made, T: Draft<M>, R: FileReader>(
     ensures columns { columns_of writer.new ≡ columns_of writer.old }
     ensures id { id_of writer.new ≡ id_of writer.old }
     ensures draft { T.id_of (draft_of writer.new) ≡ T.id_of (draft_of writer.old) }
-    ensures wanted { map wanted_in groups.new ≡ map wanted_in groups.old }
+    ensures wanted { map wanted_of groups.new ≡ map wanted_of groups.old }
     ensures known { knowns_of R.bytes (inputs_of merge.new) ≡ knowns_of R.bytes (inputs_of merge.old) }
     ensures inputs { AllByRecursion (IsInput R.bytes) (inputs_of merge.old) → AllByRecursion (IsInput R.bytes) (inputs_of merge.new) }
     ensures causes { HasCauses (T.faults (draft_of writer.old)) (T.faults (draft_of writer.new)) (faults_of R.faults (inputs_of merge.old)) (faults_of R.faults (inputs_of merge.new)) (IsMergeDamage R.bytes R.size (inputs_of merge.new)) result }

@@ -1,17 +1,17 @@
 // The merge of a task.
-ghost use Rattle.std.specs.Prelude.{◌≡◌, ◌<◌, ◌++◌, ℕ, List, length, flat_map, IfErr, IfOk, IfSome, None, Some, Err};
+ghost use Rattle.std.specs.Prelude.{◌≡◌, ◌<◌, ℕ, List, length, IfErr, IfOk, IfSome, None, Some, Err};
 ghost use Rattle.mesa_file.specs.declared.damage.Damage.{Damage as AnyDamage};
 ghost use Rattle.mesa_open_files.specs.mesa_columns.declared.rows.Row.{Row as AnyRow};
 ghost use Rattle.mesa_schema.specs.Changes.{Lineage, columns_of};
 ghost use Rattle.mesa_merge.specs.Faults.{faults_of};
 ghost use Rattle.mesa_merge.specs.Inputs.{knowns_of};
-ghost use Rattle.mesa_open_files.specs.GivingBack.{own_inputs, task_inputs};
+ghost use Rattle.mesa_open_files.specs.GivingBack.{task_inputs};
 ghost use Rattle.mesa_open_files.specs.Inputs.{AreInputsOf, IsMergeOf};
-ghost use Rattle.mesa_open_files.specs.Made.{IsMadeFile};
+ghost use Rattle.mesa_open_files.specs.Made.{AreMadeFiles};
 ghost use Rattle.mesa_file.specs.Serials.{after_drafts};
-ghost use Rattle.mesa_open_files.specs.Tasks.{AreMergedViews, AreTaskViews, IsMerged, IsTask};
-ghost use Rattle.mesa_compact.specs.Bounded.{AreBounded, AreViewsBounded, IsBounded};
-ghost use Rattle.mesa_compact.specs.Tasks.{AreNumbered, IsFilesDamage, IsSameTask, IsTaskDamage, known_views};
+ghost use Rattle.mesa_open_files.specs.Tasks.{IsMerged, IsTask};
+ghost use Rattle.mesa_compact.specs.Bounded.{AreBounded, IsBounded};
+ghost use Rattle.mesa_compact.specs.Tasks.{AreNumbered, IsFilesDamage, IsSameTask, IsTaskDamage};
 ghost use Rattle.mesa_compact.specs.Writing.{HasCauses, damaged_by};
 
 use crate::files::{merged_file, newest_of};
@@ -20,11 +20,11 @@ use crate::views::view_files;
 use mesa_delta::{FileError, Input};
 use mesa_disk::{Bench, FileReader, Made};
 use mesa_file::Serials;
-use mesa_open_files::{CompactError, MadeFiles, NewDelta, Task, TaskView};
+use mesa_open_files::{CompactError, MadeFiles, NewDelta, Task};
 use mesa_schema::Evolving;
 use std::alloc::Global;
 
-/// Merges a task's range into one delta, through new drafts. A view whose own files are there is merged of them; any other is grouped from the table's rows as they are merged.
+/// Merges a task's range into one delta, through new drafts. Each view is grouped from the table's rows as they are merged.
 /// The task is there still with all of its readers, whatever becomes of the files.
 pub fn merge_task<M: Made, B: Bench<M>, R: FileReader>(
     alloc: Global,
@@ -65,7 +65,7 @@ fn merge_sound<M: Made, B: Bench<M>, R: FileReader>(
     ensures merged { IfOk result (λ delta. (l : Lineage) → IsTask R.bytes l task.old → IsMerged M.bytes M.id_of R.bytes l task.old delta) }
     ensures numbered { IfOk result (λ delta. IfSome delta.files (AreNumbered M.id_of ids.old)) }
     ensures ids { (n : ℕ) × (ids.new ≡ after_drafts n ids.old) }
-    ensures causes { HasCauses (B.faults bench.old) (B.faults bench.new) (faults_of R.faults (task.old.inputs.items ++ flat_map own_inputs task.old.views.items)) (faults_of R.faults (task.new.inputs.items ++ flat_map own_inputs task.new.views.items)) (IsFilesDamage R.bytes R.size task.new.inputs.items task.new.views.items) result }
+    ensures causes { HasCauses (B.faults bench.old) (B.faults bench.new) (faults_of R.faults task.old.inputs.items) (faults_of R.faults task.new.inputs.items) (IsFilesDamage R.bytes R.size task.new.inputs.items) result }
     ensures accepts { IfErr result (λ e. (d : AnyDamage) → e ≡ damaged_by d → (l : Lineage) → IsTask R.bytes l task.old → IsBounded R.bytes l task.old → ⊥) }
     ensures same { IsSameTask R.bytes task.old task.new }
     ensures spare { task.new.spare ≡ task.old.spare }
@@ -77,14 +77,7 @@ fn merge_sound<M: Made, B: Bench<M>, R: FileReader>(
     let Ok(evolving) = task.inputs[0].evolving.clone() else {
         return Err(CompactError::File(FileError::Memory));
     };
-    match merge_files(
-        alloc,
-        bench,
-        ids,
-        &evolving,
-        &mut task.inputs,
-        &mut task.views,
-    ) {
+    match merge_files(alloc, bench, ids, &evolving, &mut task.inputs) {
         Ok(files) => Ok(NewDelta { files: Some(files) }),
         Err(error) => Err(error),
     }
@@ -97,26 +90,21 @@ fn merge_files<M: Made, B: Bench<M>, R: FileReader>(
     ids: &mut Serials,
     evolving: &Evolving,
     inputs: &mut Vec<Input<R>>,
-    views: &mut [TaskView<R>],
 ) -> Result<MadeFiles<M>, CompactError>
     requires some { 0 < length inputs.old.items }
     requires inputs { AreInputsOf R.bytes evolving.now inputs.old.items }
-    requires views { AreTaskViews R.bytes (columns_of evolving.now) 0 evolving.now.views views.old }
-    ensures made { IfOk result (λ made. (rows : List AnyRow) × IsMergeOf R.bytes (columns_of evolving.now) inputs.old.items rows × IsMadeFile M.bytes M.id_of (record { columns = columns_of evolving.now; rows = rows }) made.file
-        × AreMergedViews M.bytes M.id_of R.bytes (columns_of evolving.now) rows evolving.now.views views.old made.views.items) }
+    ensures made { IfOk result (λ made. (rows : List AnyRow) × IsMergeOf R.bytes (columns_of evolving.now) inputs.old.items rows × AreMadeFiles M.bytes M.id_of (columns_of evolving.now) evolving.now.views rows made) }
     ensures numbered { IfOk result (AreNumbered M.id_of ids.old) }
     ensures ids { (n : ℕ) × (ids.new ≡ after_drafts n ids.old) }
     ensures inputs { knowns_of R.bytes inputs.new.items ≡ knowns_of R.bytes inputs.old.items }
     ensures inputs_kept { AreInputsOf R.bytes evolving.now inputs.new.items }
-    ensures views { known_views R.bytes views.new ≡ known_views R.bytes views.old }
-    ensures views_kept { AreTaskViews R.bytes (columns_of evolving.now) 0 evolving.now.views views.new }
-    ensures causes { HasCauses (B.faults bench.old) (B.faults bench.new) (faults_of R.faults (inputs.old.items ++ flat_map own_inputs views.old)) (faults_of R.faults (inputs.new.items ++ flat_map own_inputs views.new)) (IsFilesDamage R.bytes R.size inputs.new.items views.new) result }
-    ensures accepts { IfErr result (λ e. (d : AnyDamage) → e ≡ damaged_by d → AreBounded (columns_of evolving.now) (knowns_of R.bytes inputs.old.items) → AreViewsBounded R.bytes (columns_of evolving.now) evolving.now.views views.old → ⊥) }
+    ensures causes { HasCauses (B.faults bench.old) (B.faults bench.new) (faults_of R.faults inputs.old.items) (faults_of R.faults inputs.new.items) (IsFilesDamage R.bytes R.size inputs.new.items) result }
+    ensures accepts { IfErr result (λ e. (d : AnyDamage) → e ≡ damaged_by d → AreBounded (columns_of evolving.now) (knowns_of R.bytes inputs.old.items) → ⊥) }
 {
     let Ok(seen) = regroupings(alloc, evolving) else {
         return Err(CompactError::File(FileError::Memory));
     };
-    let Ok(mut groups) = gatherers_of(alloc, evolving.present(), views, &seen) else {
+    let Ok(mut groups) = gatherers_of(alloc, evolving.present(), &seen) else {
         return Err(CompactError::File(FileError::Memory));
     };
     let newest = newest_of(inputs);
@@ -125,7 +113,7 @@ fn merge_files<M: Made, B: Bench<M>, R: FileReader>(
         Ok(file) => file,
         Err(error) => return Err(error),
     };
-    match view_files(alloc, bench, ids, evolving, views, groups, newest) {
+    match view_files(alloc, bench, ids, evolving, groups, newest) {
         Ok(views) => Ok(MadeFiles { file, views }),
         Err(error) => Err(error),
     }

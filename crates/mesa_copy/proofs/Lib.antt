@@ -1,3 +1,4 @@
+mod Caused
 pub mod Numbering
 pub mod Rewriting
 pub mod Counting

@@ -1,15 +1,12 @@
 -- Files that were opened to be merged.
-use Rattle.std.specs.Prelude.{◌≡◌, ℕ, List, [], ◌∷◌, Option, None}
-use Rattle.std.specs.List.{AllByRecursion}
+use Rattle.std.specs.Prelude.{◌≡◌, ℕ, List, [], ◌∷◌, Option}
 use Rattle.mesa_file.specs.declared.file_ref.FileRef.{FileRef}
-use Rattle.mesa_schema.specs.Changes.{Lineage, columns_of}
+use Rattle.mesa_schema.specs.Changes.{Lineage}
 use Rattle.mesa_delta.specs.declared.input.Input.{Input}
 use Rattle.mesa_scan.specs.Cursors.{IsInput}
 use Rattle.mesa_open_files.specs.Inputs.{lineage_of}
 use Rattle.mesa_open_files.specs.Spares.{IsReferredBy}
-use Rattle.mesa_open_files.specs.Tasks.{AreTaskViews}
 use Rattle.mesa_open_files.specs.declared.merging.Spare.{Spare}
-use Rattle.mesa_open_files.specs.declared.merging.TaskView.{TaskView}
 
 -- An input is of the file of this reference, which was written at the first epoch of this table.
 pub record IsOpened {R : Type 0} (bytes : R → Option (List ℕ)) (file : FileRef) (l : Lineage) (i : Input R) : Type 0 where
@@ -25,12 +22,6 @@ AreOpened bytes older newer l (a ∷ []) = ⊥
 AreOpened bytes older newer l (a ∷ b ∷ []) = IsOpened bytes older l a × IsOpened bytes newer l b
 AreOpened bytes older newer l (a ∷ b ∷ c ∷ more) = ⊥
 
--- A table's views, none of which has files of its own.
-pub record HaveNoFiles {R : Type 0} (bytes : R → Option (List ℕ)) (l : Lineage) (views : List (TaskView R)) : Type 0 where
-  pub each : AreTaskViews bytes (columns_of l) 0 l.views views
-  pub none : AllByRecursion (λ (v : TaskView R). v.inputs ≡ None) views
-
 -- The readers of a part are of these files.
 pub record IsOpenedPart {R : Type 0} (bytes : R → Option (List ℕ)) (older newer : FileRef) (l : Lineage) (s : Spare R) : Type 0 where
   pub inputs : AreOpened bytes older newer l s.inputs.items
-  pub views : HaveNoFiles bytes l s.views.items

@@ -1,14 +1,12 @@
 -- Readers that are given back.
-use Rattle.std.specs.Prelude.{◌≡◌, ◌⊎◌, ℕ, ◌<◌, ◌≤◌, List, [], ◌∷◌, ◌++◌, map, flat_map, Vec, Option, None, Some}
+use Rattle.std.specs.Prelude.{◌≡◌, ◌⊎◌, ℕ, ◌<◌, ◌≤◌, List, [], ◌∷◌, ◌++◌, map, flat_map}
 use Rattle.std.specs.List.{AllByRecursion}
-use Rattle.std.specs.declared.alloc.Global.{Global}
 use Rattle.mesa_scan.specs.mesa_io.Causes.{Rose}
 use Rattle.mesa_disk.specs.Story.{Story}
 use Rattle.mesa_delta.specs.declared.input.Input.{Input}
 use Rattle.mesa_scan.specs.Cursors.{reader_in}
 use Rattle.mesa_open_files.specs.declared.merging.Spare.{Spare}
 use Rattle.mesa_open_files.specs.declared.merging.Task.{Task}
-use Rattle.mesa_open_files.specs.declared.merging.TaskView.{TaskView}
 use Rattle.mesa_open_files.specs.declared.querying.Pinned.{Pinned}
 use Rattle.mesa_open_files.specs.declared.querying.PinnedInput.{PinnedInput}
 
@@ -24,21 +22,13 @@ pub record GivesBack {R : Type 0} (faults : R → ℕ) (inputs : List (Input R))
   pub counted : AllByRecursion (λ (i : Input R). 0 < faults (reader_in i) → Rose old.read_faults new.read_faults) inputs
   pub quiet : AllByRecursion (λ (i : Input R). faults (reader_in i) ≡ 0) inputs → new.read_faults ≡ old.read_faults
 
-abbrev inputs_in : {R : Type 0} → Option (Vec (Input R) Global) → List (Input R)
-inputs_in None = []
-inputs_in (Some inputs) = inputs.items
-
--- a view's own inputs, if it has any
-abbrev pub own_inputs : {R : Type 0} → TaskView R → List (Input R)
-own_inputs v = inputs_in v.inputs
-
--- all inputs of a further part: the table's, and then each view's
+-- the inputs of a further part
 abbrev pub spare_inputs : {R : Type 0} → Spare R → List (Input R)
-spare_inputs s = s.inputs.items ++ flat_map own_inputs s.views.items
+spare_inputs s = s.inputs.items
 
--- all inputs of a task: the table's, then each view's, and then those of each further part
+-- all inputs of a task: its own, and then those of each further part
 abbrev pub task_inputs : {R : Type 0} → Task R → List (Input R)
-task_inputs t = t.inputs.items ++ flat_map own_inputs t.views.items ++ flat_map spare_inputs t.spare.items
+task_inputs t = t.inputs.items ++ flat_map spare_inputs t.spare.items
 
 -- the inputs of a pinned query
 abbrev pub pinned_inputs : {R : Type 0} → Pinned R → List (Input R)

@@ -1,7 +1,6 @@
 -- Further readers of a task's files.
-use Rattle.std.specs.Prelude.{◌≡◌, ℕ, List, Vec, [], ◌∷◌, length, Option, None, Some, ⊤}
+use Rattle.std.specs.Prelude.{◌≡◌, ℕ, List, [], ◌∷◌, length, Option, None, Some, ⊤}
 use Rattle.std.specs.List.{AllByRecursion}
-use Rattle.std.specs.declared.alloc.Global.{Global}
 use Rattle.sha2.specs.Sha256.{sha256}
 use Rattle.mesa_file.specs.declared.damage.Damage.{Damage}
 use Rattle.mesa_file.specs.declared.file_ref.FileRef.{FileRef}
@@ -14,7 +13,6 @@ use Rattle.mesa_scan.specs.Cursors.{IsInput, reader_in}
 use Rattle.mesa_open_files.specs.Inputs.{lineage_of}
 use Rattle.mesa_open_files.specs.declared.merging.Spare.{Spare}
 use Rattle.mesa_open_files.specs.declared.merging.Task.{Task}
-use Rattle.mesa_open_files.specs.declared.merging.TaskView.{TaskView}
 
 -- An input is of the file of this reference: its index is what a tail with the recorded digest tells.
 abbrev pub IsReferredBy : {R : Type 0} → FileRef → Input R → Type 0
@@ -37,24 +35,9 @@ AreSpareInputs bytes [] (spare ∷ more) = ⊥
 AreSpareInputs bytes (own ∷ owns) [] = ⊥
 AreSpareInputs bytes (own ∷ owns) (spare ∷ more) = IsSpareInput bytes own spare × AreSpareInputs bytes owns more
 
--- A view has own files where the other one has, and they are read again.
-abbrev pub HasSpareOwn : {R : Type 0} → (R → Option (List ℕ)) → Option (Vec (Input R) Global) → Option (Vec (Input R) Global) → Type 0
-HasSpareOwn bytes None None = ⊤
-HasSpareOwn bytes None (Some spare) = ⊥
-HasSpareOwn bytes (Some owns) None = ⊥
-HasSpareOwn bytes (Some owns) (Some spare) = AreSpareInputs bytes owns.items spare.items
-
--- the same views in the same order, with further readers of their own files
-abbrev pub AreSpareViews : {R : Type 0} → (R → Option (List ℕ)) → List (TaskView R) → List (TaskView R) → Type 0
-AreSpareViews bytes [] [] = ⊤
-AreSpareViews bytes [] (spare ∷ more) = ⊥
-AreSpareViews bytes (view ∷ views) [] = ⊥
-AreSpareViews bytes (view ∷ views) (spare ∷ more) = (spare.view ≡ view.view) × HasSpareOwn bytes view.inputs spare.inputs × AreSpareViews bytes views more
-
--- The readers of a further part read just the files of the task, in its order, and those of its views.
-pub record IsSpareOf {R : Type 0} (bytes : R → Option (List ℕ)) (t : Task R) (s : Spare R) : Type 0 where
-  pub inputs : AreSpareInputs bytes t.inputs.items s.inputs.items
-  pub views : AreSpareViews bytes t.views.items s.views.items
+-- The readers of a further part read just the files of the task, in its order.
+abbrev pub IsSpareOf : {R : Type 0} → (R → Option (List ℕ)) → Task R → Spare R → Type 0
+IsSpareOf bytes t s = AreSpareInputs bytes t.inputs.items s.inputs.items
 
 -- A task has readers for so many further parts, each of just its files; and none where one of the files is damaged.
 pub record HasSpares {R : Type 0} (bytes : R → Option (List ℕ)) (more : ℕ) (t : Task R) : Type 0 where

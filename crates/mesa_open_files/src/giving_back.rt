@@ -1,10 +1,10 @@
 // Giving readers back, which takes no memory and can't fail.
 ghost use Rattle.std.specs.Prelude.{[], ◌∷◌, flat_map};
 ghost use Rattle.mesa_disk.specs.Story.{Unmoved};
-ghost use Rattle.mesa_open_files.specs.GivingBack.{GivesBack, own_inputs, pinned_inputs, spare_inputs, task_inputs};
+ghost use Rattle.mesa_open_files.specs.GivingBack.{GivesBack, pinned_inputs, spare_inputs, task_inputs};
 ghost use Rattle.mesa_open_files.specs.Recasts.{own, recast_inputs};
 
-use crate::{Pinned, PinnedInput, Recast, RecastRange, Spare, Task, TaskView};
+use crate::{Pinned, PinnedInput, Recast, RecastRange, Spare, Task};
 use mesa_delta::Input;
 use mesa_disk::{Disk, Made};
 
@@ -32,39 +32,13 @@ pub fn retire_all<M: Made, D: Disk<M>>(disk: &mut D, mut inputs: Vec<Input<D::Re
     inputs.destroy_empty();
 }
 
-// Gives back the readers of a view's own files.
-fn retire_view<M: Made, D: Disk<M>>(disk: &mut D, view: TaskView<D::Reader>)
-    ensures unmoved { Unmoved (D.story disk.old) (D.story disk.new) }
-    ensures given { GivesBack D.Reader.faults (own_inputs view) (D.story disk.old) (D.story disk.new) }
-{
-    let TaskView {
-        view: _view,
-        inputs,
-    } = view;
-    if let Some(inputs) = inputs {
-        retire_all(disk, inputs);
-    }
-}
-
-// Gives back the readers of views' own files.
-fn retire_views<M: Made, D: Disk<M>>(disk: &mut D, mut views: Vec<TaskView<D::Reader>>)
-    ensures unmoved { Unmoved (D.story disk.old) (D.story disk.new) }
-    ensures given { GivesBack D.Reader.faults (flat_map own_inputs views.items) (D.story disk.old) (D.story disk.new) }
-{
-    'views: while let Some(view) = views.pop() {
-        retire_view(disk, view);
-    }
-    views.destroy_empty();
-}
-
 /// Gives back the readers of a further part of a task.
 pub fn retire_spare<M: Made, D: Disk<M>>(disk: &mut D, spare: Spare<D::Reader>)
     ensures unmoved { Unmoved (D.story disk.old) (D.story disk.new) }
     ensures given { GivesBack D.Reader.faults (spare_inputs spare) (D.story disk.old) (D.story disk.new) }
 {
-    let Spare { inputs, views } = spare;
+    let Spare { inputs } = spare;
     retire_all(disk, inputs);
-    retire_views(disk, views);
 }
 
 /// Gives back the readers of further parts of a task.
@@ -89,12 +63,10 @@ pub fn retire_task<M: Made, D: Disk<M>>(disk: &mut D, task: Task<D::Reader>)
         lease: _lease,
         epoch: _epoch,
         inputs,
-        views,
         damage: _damage,
         spare,
     } = task;
     retire_all(disk, inputs);
-    retire_views(disk, views);
     retire_spares(disk, spare);
 }
 

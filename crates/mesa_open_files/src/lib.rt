@@ -16,7 +16,7 @@ pub use giving_back::{
     retire_spares, retire_task,
 };
 pub use made::{MadeFile, MadeFiles, MadeView};
-pub use merging::{CompactError, NewDelta, Spare, Task, TaskView};
+pub use merging::{CompactError, NewDelta, Spare, Task};
 pub use opening::{Met, Opened, Unopened, Wanted, open_all, open_one};
 pub use prepared::{LoadError, Prepared, PreparedPart};
 pub use querying::{Pinned, PinnedInput};

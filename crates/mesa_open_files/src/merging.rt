@@ -10,7 +10,7 @@ use mesa_file::Damage;
 use mesa_span::Work;
 use std::alloc::AllocError;
 
-/// A range of versions that is to be merged into one delta.
+/// A range of versions that is to be merged into one delta. Its views' files are made from the merged rows.
 #[derive(Drop)]
 pub struct Task<R> {
     pub table: u16,
@@ -21,8 +21,6 @@ pub struct Task<R> {
     pub epoch: u32,
     /// The table's files of the range, in version order.
     pub inputs: Vec<Input<R>>,
-    /// One for each view of the table, by their numbers.
-    pub views: Vec<TaskView<R>>,
     /// The first file that was absent or damaged when the files were opened; the merge answers it.
     pub damage: Option<Damage>,
     /// Further readers of the same files, for each part after the first of a merge in parts. None where a file is
@@ -34,15 +32,6 @@ pub struct Task<R> {
 #[derive(Drop)]
 pub struct Spare<R> {
     pub inputs: Vec<Input<R>>,
-    pub views: Vec<TaskView<R>>,
-}
-
-/// A view of a task's table.
-#[derive(Drop)]
-pub struct TaskView<R> {
-    pub view: u8,
-    /// The view's own files of the range in version order, where every delta with rows has one.
-    pub inputs: Option<Vec<Input<R>>>,
 }
 
 /// The finished files of a merged range; none where it has no rows.

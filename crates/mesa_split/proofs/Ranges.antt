@@ -18,11 +18,11 @@ use Rattle.mesa_split.specs.declared.parts.Part.{Part}
 use Rattle.mesa_split.proofs.Staying.{stay_none}
 
 module _ {M R : Type 0} (drawn : M → ℕ) (told : M → Option (List ℕ)) (bytes : R → Option (List ℕ)) (faults size : R → ℕ) (s : Columns) (id newest : ℕ) (own : List (Input R)) where
-  abbrev RangeFile : List (Part R) → List (Part R) → List (Option Groups) → List (Option Groups) → ℕ → ℕ → Result (Option (MadeFile M)) CompactError → Type 0
+  abbrev RangeFile : List (Part R) → List (Part R) → List Groups → List Groups → ℕ → ℕ → Result (Option (MadeFile M)) CompactError → Type 0
   RangeFile olds news groups after before now r = HasRangeFile told drawn bytes faults size s id newest own olds news groups after before now r
 
   -- no file was begun
-  pub range_unbegun : {T : Type 0} (olds : List (Part R)) (groups : List (Option Groups)) (before now : ℕ) (e : CompactError) → AreReady bytes s olds → ((reads : List ℕ) → HasCauses {T = T} before now reads reads (λ (d : Damage). ⊥) (Err e)) → RangeFile olds olds groups groups before now (Err e)
+  pub range_unbegun : {T : Type 0} (olds : List (Part R)) (groups : List Groups) (before now : ℕ) (e : CompactError) → AreReady bytes s olds → ((reads : List ℕ) → HasCauses {T = T} before now reads reads (λ (d : Damage). ⊥) (Err e)) → RangeFile olds olds groups groups before now (Err e)
   range_unbegun olds groups before now e ready causes = record {
     file = tt;
     wanted = refl;
@@ -33,7 +33,7 @@ module _ {M R : Type 0} (drawn : M → ℕ) (told : M → Option (List ℕ)) (by
     accepts = λ d is b keeps. (causes []).damaged d is;
   }
 
-  module _ {D : Type 0} (bytes_on : D → Option (List ℕ)) (id_on faults_on : D → ℕ) (olds news : List (Part R)) (old new : DeltaWriter M (Held M D)) (before now : D) (groups after : List (Option Groups)) where
+  module _ {D : Type 0} (bytes_on : D → Option (List ℕ)) (id_on faults_on : D → ℕ) (olds news : List (Part R)) (old new : DeltaWriter M (Held M D)) (before now : D) (groups after : List Groups) where
     abbrev Run : Result Bool CompactError → Type 0
     Run r = HasRun bytes_on id_on faults_on bytes faults size s newest own olds news old new before now groups after r
 

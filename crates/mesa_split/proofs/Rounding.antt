@@ -69,10 +69,10 @@ pieces_each bytes faults size s cuts at (p ∷ ps) (q ∷ qs) same each =
 
 -- ---- what is written beside
 
-abbrev pub Wrote : {M D U : Type 0} → (D → Option (List ℕ)) → ℕ → List Row → DeltaWriter M (Held M D) → List (Option Groups) → DeltaWriter M (Held M D) → List (Option Groups) → Result U CompactError → Type 0
+abbrev pub Wrote : {M D U : Type 0} → (D → Option (List ℕ)) → ℕ → List Row → DeltaWriter M (Held M D) → List Groups → DeltaWriter M (Held M D) → List Groups → Result U CompactError → Type 0
 Wrote told newest rows old before new now r = HasWritten (held_bytes told) (sent_number told) held_faults newest rows old before new now r
 
-module _ {M D U : Type 0} (told : D → Option (List ℕ)) {newest : ℕ} {rows : List Row} {old new : DeltaWriter M (Held M D)} {before now : List (Option Groups)} where
+module _ {M D U : Type 0} (told : D → Option (List ℕ)) {newest : ℕ} {rows : List Row} {old new : DeltaWriter M (Held M D)} {before now : List Groups} where
   -- it is for the same draft
   pub wrote_sent : {r : Result U CompactError} → Wrote told newest rows old before new now r → sent_bytes told (draft_of new) ≡ sent_bytes told (draft_of old)
   wrote_sent h = told_same _ _ h.draft
@@ -93,7 +93,7 @@ module _ {R : Type 0} (bytes : R → Option (List ℕ)) (faults size : R → ℕ
   moved_after : Moved (counts_in faults olds) (counts_in faults news) (answers_of mid)
   moved_after = subst (λ cs. Moved (counts_in faults olds) cs (answers_of mid)) (sym (same_lists (faults_of faults) mid news lists)) (pieces_moved bytes faults size s cuts first olds mid pieces)
 
-module _ {M D R : Type 0} {told : D → Option (List ℕ)} {drawn counted : D → ℕ} {bytes : R → Option (List ℕ)} {faults size : R → ℕ} {s : Columns} {cuts : List (List ℕ)} {first newest : ℕ} {rows : List Row} {olds : List (Part R)} {old : DeltaWriter M (Held M D)} {before : D} {groups : List (Option Groups)} where
+module _ {M D R : Type 0} {told : D → Option (List ℕ)} {drawn counted : D → ℕ} {bytes : R → Option (List ℕ)} {faults size : R → ℕ} {s : Columns} {cuts : List (List ℕ)} {first newest : ℕ} {rows : List Row} {olds : List (Part R)} {old : DeltaWriter M (Held M D)} {before : D} {groups : List Groups} where
   -- there is no memory
   pub round_memory : AreReady bytes s olds → HasRound told drawn counted bytes faults size s cuts first newest rows olds olds old old before before groups groups (Err (File Memory))
   round_memory ready = record {
@@ -109,7 +109,7 @@ module _ {M D R : Type 0} {told : D → Option (List ℕ)} {drawn counted : D �
   }
 
   -- a part has failed
-  pub round_failed : {news : List (Part R)} {new : DeltaWriter M (Held M D)} {after : List (Option Groups)} (mid : List (Part R)) (rs : Answers) {r : Result (Unit {0}) CompactError} {e : FileError} → HavePieces bytes faults size s cuts first olds mid → lists_in news ≡ lists_in mid → rs ≡ answers_of mid → IsFailureOf rs (Some e) → Wrote told newest rows old groups new after r → HasRound told drawn counted bytes faults size s cuts first newest rows olds news old new before before groups after (Err (File e))
+  pub round_failed : {news : List (Part R)} {new : DeltaWriter M (Held M D)} {after : List Groups} (mid : List (Part R)) (rs : Answers) {r : Result (Unit {0}) CompactError} {e : FileError} → HavePieces bytes faults size s cuts first olds mid → lists_in news ≡ lists_in mid → rs ≡ answers_of mid → IsFailureOf rs (Some e) → Wrote told newest rows old groups new after r → HasRound told drawn counted bytes faults size s cuts first newest rows olds news old new before before groups after (Err (File e))
   round_failed {news = news} mid rs {e = e} pieces lists same why w = record {
     pieces = tt;
     poured = tt;
@@ -125,7 +125,7 @@ module _ {M D R : Type 0} {told : D → Option (List ℕ)} {drawn counted : D �
     by_damage d is = let error : e ≡ Damaged d = cc in subst (λ (xs : Answers). IsSomeBy (Damaged d) xs) same (subst (λ x. IsSomeBy x rs) error why.0)
 
   -- the rows of the round before were not written
-  pub round_unwritten : {news : List (Part R)} {new : DeltaWriter M (Held M D)} {after : List (Option Groups)} (mid : List (Part R)) (rs : Answers) {e : CompactError} → HavePieces bytes faults size s cuts first olds mid → lists_in news ≡ lists_in mid → rs ≡ answers_of mid → AllByRecursion IsGained rs → Wrote {U = Unit {0}} told newest rows old groups new after (Err e) → HasRound told drawn counted bytes faults size s cuts first newest rows olds news old new before before groups after (Err e)
+  pub round_unwritten : {news : List (Part R)} {new : DeltaWriter M (Held M D)} {after : List Groups} (mid : List (Part R)) (rs : Answers) {e : CompactError} → HavePieces bytes faults size s cuts first olds mid → lists_in news ≡ lists_in mid → rs ≡ answers_of mid → AllByRecursion IsGained rs → Wrote {U = Unit {0}} told newest rows old groups new after (Err e) → HasRound told drawn counted bytes faults size s cuts first newest rows olds news old new before before groups after (Err e)
   round_unwritten {news = news} mid rs pieces lists same all w =
       let quiet = wrote_quiet told w in
       record {
@@ -141,7 +141,7 @@ module _ {M D R : Type 0} {told : D → Option (List ℕ)} {drawn counted : D �
       }
 
   -- they were not put on the draft
-  pub round_unflushed : {news : List (Part R)} {new last : DeltaWriter M (Held M D)} {now : D} {after : List (Option Groups)} (mid : List (Part R)) (rs : Answers) {u : Unit {0}} {e : CompactError} → HavePieces bytes faults size s cuts first olds mid → lists_in news ≡ lists_in mid → rs ≡ answers_of mid → AllByRecursion IsGained rs → Wrote told newest rows old groups new after (Ok u) → IsFlushed {U = Unit {0}} told drawn counted new last before now (Err e) → HasRound told drawn counted bytes faults size s cuts first newest rows olds news old last before now groups after (Err e)
+  pub round_unflushed : {news : List (Part R)} {new last : DeltaWriter M (Held M D)} {now : D} {after : List Groups} (mid : List (Part R)) (rs : Answers) {u : Unit {0}} {e : CompactError} → HavePieces bytes faults size s cuts first olds mid → lists_in news ≡ lists_in mid → rs ≡ answers_of mid → AllByRecursion IsGained rs → Wrote told newest rows old groups new after (Ok u) → IsFlushed {U = Unit {0}} told drawn counted new last before now (Err e) → HasRound told drawn counted bytes faults size s cuts first newest rows olds news old last before now groups after (Err e)
   round_unflushed {news = news} mid rs pieces lists same all w f = record {
     pieces = tt;
     poured = tt;
@@ -155,7 +155,7 @@ module _ {M D R : Type 0} {told : D → Option (List ℕ)} {drawn counted : D �
   }
 
   -- all went well
-  pub round_made : {news : List (Part R)} {new last : DeltaWriter M (Held M D)} {now : D} {after : List (Option Groups)} (mid : List (Part R)) {made : Vec (Result (List Row) FileError) Global} {u v : Unit {0}} → HavePieces bytes faults size s cuts first olds mid → lists_in news ≡ lists_in mid → made.items ≡ answers_of mid → AllByRecursion IsGained made.items → Wrote told newest rows old groups new after (Ok u) → IsFlushed told drawn counted new last before now (Ok v) → HasRound told drawn counted bytes faults size s cuts first newest rows olds news old last before now groups after (Ok made)
+  pub round_made : {news : List (Part R)} {new last : DeltaWriter M (Held M D)} {now : D} {after : List Groups} (mid : List (Part R)) {made : Vec (Result (List Row) FileError) Global} {u v : Unit {0}} → HavePieces bytes faults size s cuts first olds mid → lists_in news ≡ lists_in mid → made.items ≡ answers_of mid → AllByRecursion IsGained made.items → Wrote told newest rows old groups new after (Ok u) → IsFlushed told drawn counted new last before now (Ok v) → HasRound told drawn counted bytes faults size s cuts first newest rows olds news old last before now groups after (Ok made)
   round_made {news = news} mid pieces lists same all w f =
       let gained = subst (AllByRecursion IsGained) same all in
       record {
@@ -172,7 +172,7 @@ module _ {M D R : Type 0} {told : D → Option (List ℕ)} {drawn counted : D �
 
 -- ---- the last round
 
-module _ {M D : Type 0} {told : D → Option (List ℕ)} {drawn counted : D → ℕ} {newest : ℕ} {rows : List Row} {old new : DeltaWriter M (Held M D)} {before : D} {groups after : List (Option Groups)} where
+module _ {M D : Type 0} {told : D → Option (List ℕ)} {drawn counted : D → ℕ} {newest : ℕ} {rows : List Row} {old new : DeltaWriter M (Held M D)} {before : D} {groups after : List Groups} where
   pub last_unwritten : {e : CompactError} → Wrote {U = Unit {0}} told newest rows old groups new after (Err e) → HasFlushed {U = Unit {0}} told drawn counted newest rows old new before before groups after (Err e)
   last_unwritten w =
       let quiet = wrote_quiet told w in

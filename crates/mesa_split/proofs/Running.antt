@@ -67,9 +67,9 @@ module _ {R : Type 0} (bytes : R → Option (List ℕ)) (olds parts : List (Part
   bounded_now : (s : Columns) → StayInputs bytes olds parts → AreBounded s (knowns_of bytes (own_in olds)) → AreBounded s (knowns_of bytes (own_in parts))
   bounded_now s stay b = subst (AreBounded s) (sym (own_on bytes olds parts stay.known)) b
 
-module _ {M D R : Type 0} (told : D → Option (List ℕ)) (drawn counted : D → ℕ) (bytes : R → Option (List ℕ)) (faults size : R → ℕ) (s : Columns) (cuts : List (List ℕ)) (newest : ℕ) (olds : List (Part R)) (old : DeltaWriter M (Held M D)) (before : D) (groups : List (Option Groups)) where
+module _ {M D R : Type 0} (told : D → Option (List ℕ)) (drawn counted : D → ℕ) (bytes : R → Option (List ℕ)) (faults size : R → ℕ) (s : Columns) (cuts : List (List ℕ)) (newest : ℕ) (olds : List (Part R)) (old : DeltaWriter M (Held M D)) (before : D) (groups : List Groups) where
   -- The pieces before this one were merged: some rows were written, and those of the last round are held.
-  pub record Runs (parts : List (Part R)) (w : DeltaWriter M (Held M D)) (draft : D) (now : List (Option Groups)) (first : ℕ) (held : Answers) (some : Bool) : Type 0 where
+  pub record Runs (parts : List (Part R)) (w : DeltaWriter M (Held M D)) (draft : D) (now : List Groups) (first : ℕ) (held : Answers) (some : Bool) : Type 0 where
     pub given : List Row
     pub poured : HasPoured (held_bytes told) w now given
     pub pieces : AreFirst s cuts first (knowns_of bytes (own_in olds)) (given ++ joined held)
@@ -81,9 +81,9 @@ module _ {M D R : Type 0} (told : D → Option (List ℕ)) (drawn counted : D �
     pub counts : counts_in faults parts ≡ counts_in faults olds
     pub quiet : counted draft ≡ counted before
 
-module _ {M D R : Type 0} {told : D → Option (List ℕ)} {drawn counted : D → ℕ} {bytes : R → Option (List ℕ)} {faults size : R → ℕ} {s : Columns} {cuts : List (List ℕ)} {newest : ℕ} {olds : List (Part R)} {old : DeltaWriter M (Held M D)} {before : D} {groups : List (Option Groups)} where
+module _ {M D R : Type 0} {told : D → Option (List ℕ)} {drawn counted : D → ℕ} {bytes : R → Option (List ℕ)} {faults size : R → ℕ} {s : Columns} {cuts : List (List ℕ)} {newest : ℕ} {olds : List (Part R)} {old : DeltaWriter M (Held M D)} {before : D} {groups : List Groups} where
   -- the same of a list that is lent
-  pub runs_lent : {parts : List (Part R)} {w : DeltaWriter M (Held M D)} {draft : D} {now : List (Option Groups)} {first : ℕ} {held lent : Answers} {some : Bool} → lent ≡ held → Runs told drawn counted bytes faults size s cuts newest olds old before groups parts w draft now first held some → Runs told drawn counted bytes faults size s cuts newest olds old before groups parts w draft now first lent some
+  pub runs_lent : {parts : List (Part R)} {w : DeltaWriter M (Held M D)} {draft : D} {now : List Groups} {first : ℕ} {held lent : Answers} {some : Bool} → lent ≡ held → Runs told drawn counted bytes faults size s cuts newest olds old before groups parts w draft now first held some → Runs told drawn counted bytes faults size s cuts newest olds old before groups parts w draft now first lent some
   runs_lent {parts = parts} {w = w} {draft = draft} {now = now} {first = first} {some = some} same inv = subst (λ (rs : Answers). Runs told drawn counted bytes faults size s cuts newest olds old before groups parts w draft now first rs some) (sym same) inv
 
   pub runs_first : {none : Answers} → none ≡ [] → AreReady bytes s olds → HasPoured (held_bytes told) old groups [] → sent_bytes told (draft_of old) ≡ told before → Runs told drawn counted bytes faults size s cuts newest olds old before groups olds old before groups 0 none false
@@ -100,7 +100,7 @@ module _ {M D R : Type 0} {told : D → Option (List ℕ)} {drawn counted : D �
     quiet = refl;
   })
 
-  module _ {parts : List (Part R)} {w : DeltaWriter M (Held M D)} {draft : D} {now : List (Option Groups)} {first : ℕ} {held : Answers} {some : Bool} (rise : CutsRise None cuts) (columns : columns_of old ≡ s) (inv : Runs told drawn counted bytes faults size s cuts newest olds old before groups parts w draft now first held some) where
+  module _ {parts : List (Part R)} {w : DeltaWriter M (Held M D)} {draft : D} {now : List Groups} {first : ℕ} {held : Answers} {some : Bool} (rise : CutsRise None cuts) (columns : columns_of old ≡ s) (inv : Runs told drawn counted bytes faults size s cuts newest olds old before groups parts w draft now first held some) where
     total_now : (d : Damage) → d ≡ sum_damage newest → ((given : List Row) → HasPoured (held_bytes told) w now given → IsTrue (keys_rise (given ++ joined held)) → LeavesAmong (RowLeaves (columns_of w)) (given ++ joined held)) → IsFrontTotal s (knowns_of bytes (own_in olds)) newest d
     total_now d is leaves = record {
       rows = inv.given ++ joined held;
@@ -134,7 +134,7 @@ module _ {M D R : Type 0} {told : D → Option (List ℕ)} {drawn counted : D �
     pub run_takes : AllByRecursion (TakesRows s) groups → AllByRecursion (TakesRows (columns_of w)) now
     run_takes takes = takes_kept (columns_of w) groups now inv.over.wanted (subst (λ (t : Columns). AllByRecursion (TakesRows t) groups) (sym (inv.over.columns ∙ columns)) takes)
 
-    over_on : (x : DeltaWriter M (Held M D)) (d : D) (gs : List (Option Groups)) → StaysOver drawn w x draft d now gs → StaysOver drawn old x before d groups gs
+    over_on : (x : DeltaWriter M (Held M D)) (d : D) (gs : List Groups) → StaysOver drawn w x draft d now gs → StaysOver drawn old x before d groups gs
     over_on x d gs more = record { columns = more.columns ∙ inv.over.columns; id = more.id ∙ inv.over.id; draft = more.draft ∙ inv.over.draft; wanted = more.wanted ∙ inv.over.wanted }
 
     drafts_on : {T : Type 0} (d : D) (e : CompactError) → HasFaultCause {T = T} IsDraftFault (counted draft) (counted d) (Err e) → HasFaultCause {T = Bool} IsDraftFault (counted before) (counted d) (Err e)
@@ -146,7 +146,7 @@ module _ {M D R : Type 0} {told : D → Option (List ℕ)} {drawn counted : D �
     }
 
     -- a round has failed
-    pub run_round : {news : List (Part R)} {x : DeltaWriter M (Held M D)} {d : D} {gs : List (Option Groups)} {e : CompactError} → AllTell bytes (own_in olds) olds → HasRound told drawn counted bytes faults size s cuts first newest (joined held) parts news w x draft d now gs (Err e) → HasRun told drawn counted bytes faults size s newest (own_in olds) olds news old x before d groups gs (Err e)
+    pub run_round : {news : List (Part R)} {x : DeltaWriter M (Held M D)} {d : D} {gs : List Groups} {e : CompactError} → AllTell bytes (own_in olds) olds → HasRound told drawn counted bytes faults size s cuts first newest (joined held) parts news w x draft d now gs (Err e) → HasRun told drawn counted bytes faults size s newest (own_in olds) olds news old x before d groups gs (Err e)
     run_round {news = news} {x = x} {d = d} {gs = gs} {e = e} tells h = record {
       all = tt;
       over = over_on x d gs h.over;
@@ -158,7 +158,7 @@ module _ {M D R : Type 0} {told : D → Option (List ℕ)} {drawn counted : D �
     }
 
     -- the last one has
-    pub run_last : {x : DeltaWriter M (Held M D)} {d : D} {gs : List (Option Groups)} {e : CompactError} → HasFlushed {U = Unit {0}} told drawn counted newest (joined held) w x draft d now gs (Err e) → HasRun told drawn counted bytes faults size s newest (own_in olds) olds parts old x before d groups gs (Err e)
+    pub run_last : {x : DeltaWriter M (Held M D)} {d : D} {gs : List Groups} {e : CompactError} → HasFlushed {U = Unit {0}} told drawn counted newest (joined held) w x draft d now gs (Err e) → HasRun told drawn counted bytes faults size s newest (own_in olds) olds parts old x before d groups gs (Err e)
     run_last {x = x} {d = d} {gs = gs} {e = e} h = record {
       all = tt;
       over = over_on x d gs h.over;
@@ -170,7 +170,7 @@ module _ {M D R : Type 0} {told : D → Option (List ℕ)} {drawn counted : D �
     }
 
     -- all pieces were merged and written
-    pub run_made : {x : DeltaWriter M (Held M D)} {d : D} {gs : List (Option Groups)} {u : Unit {0}} → length cuts < first → HasFlushed told drawn counted newest (joined held) w x draft d now gs (Ok u) → HasRun told drawn counted bytes faults size s newest (own_in olds) olds parts old x before d groups gs (Ok some)
+    pub run_made : {x : DeltaWriter M (Held M D)} {d : D} {gs : List Groups} {u : Unit {0}} → length cuts < first → HasFlushed told drawn counted newest (joined held) w x draft d now gs (Ok u) → HasRun told drawn counted bytes faults size s newest (own_in olds) olds parts old x before d groups gs (Ok some)
     run_made {x = x} {d = d} {gs = gs} lt h = record {
       all = record {
         rows = inv.given ++ joined held;
@@ -189,7 +189,7 @@ module _ {M D R : Type 0} {told : D → Option (List ℕ)} {drawn counted : D �
     }
 
     -- one more round
-    pub runs_next : {news : List (Part R)} {x : DeltaWriter M (Held M D)} {d : D} {gs : List (Option Groups)} {made : Vec (Result (List Row) FileError) Global} {next : ℕ} {more : Bool} → AllTell bytes (own_in olds) olds → next ≡ first + length parts
+    pub runs_next : {news : List (Part R)} {x : DeltaWriter M (Held M D)} {d : D} {gs : List Groups} {made : Vec (Result (List Row) FileError) Global} {next : ℕ} {more : Bool} → AllTell bytes (own_in olds) olds → next ≡ first + length parts
         → (more ≡ true → (some ≡ true) ⊎ (0 < length (joined made.items))) → (more ≡ false → (some ≡ false) × (joined made.items ≡ []))
         → HasRound told drawn counted bytes faults size s cuts first newest (joined held) parts news w x draft d now gs (Ok made) → Runs told drawn counted bytes faults size s cuts newest olds old before groups news x d gs next made.items more
     runs_next {news = news} {x = x} {d = d} {gs = gs} {made = made} {next = next} tells is many none h =

@@ -14,29 +14,27 @@ use Rattle.mesa_merge.specs.Faults.{faults_of}
 use Rattle.mesa_merge.specs.Inputs.{knowns_of}
 use Rattle.mesa_merge.specs.Sums.{sum_damage}
 use Rattle.mesa_merge.proofs.Inputs.{SameEnd}
-use Rattle.mesa_open_files.specs.GivingBack.{own_inputs, spare_inputs, task_inputs}
+use Rattle.mesa_open_files.specs.GivingBack.{spare_inputs, task_inputs}
 use Rattle.mesa_open_files.specs.Inputs.{IsMergeOf}
-use Rattle.mesa_open_files.specs.Made.{IsMadeFile}
+use Rattle.mesa_open_files.specs.Made.{AreMadeFiles}
 use Rattle.mesa_file.specs.Serials.{Drafts, after_drafts}
 use Rattle.mesa_open_files.specs.Spares.{IsSpareOf}
-use Rattle.mesa_open_files.specs.Tasks.{AreMergedViews, AreTaskViews, HaveMerged, IsMerged, IsTask}
+use Rattle.mesa_open_files.specs.Tasks.{HaveMerged, IsMerged, IsTask}
 use Rattle.mesa_open_files.specs.declared.made.MadeFiles.{MadeFiles}
 use Rattle.mesa_open_files.specs.declared.merging.CompactError.{CompactError}
 use Rattle.mesa_open_files.specs.declared.merging.CompactError.TheVariants.{File}
 use Rattle.mesa_open_files.specs.declared.merging.Spare.{Spare}
 use Rattle.mesa_open_files.specs.declared.merging.Task.{Task}
-use Rattle.mesa_open_files.specs.declared.merging.TaskView.{TaskView}
-use Rattle.mesa_compact.specs.Bounded.{AreBounded, AreViewsBounded, IsBounded}
+use Rattle.mesa_compact.specs.Bounded.{AreBounded, IsBounded}
 use Rattle.mesa_compact.specs.Damaged.{IsMergeDamage, IsNewestOf, ViewLeaves}
-use Rattle.mesa_compact.specs.Tasks.{AreNumbered, IsSameTask, IsViewDamage, known_views}
+use Rattle.mesa_compact.specs.Tasks.{AreNumbered, IsSameTask, known_spares}
 use Rattle.mesa_compact.specs.Writing.{HasCauses, damaged_by}
-use Rattle.mesa_compact.proofs.Causing.{caused_memory, caused_ok, caused_on, same_end}
+use Rattle.mesa_compact.proofs.Causing.{caused_memory, caused_ok, caused_on}
 use Rattle.mesa_compact.proofs.Tasking.{files_damage, first_table, total_damage}
 use Rattle.mesa_compact.proofs.Viewing.{table_kept}
-use Rattle.mesa_split.specs.Lending.{views_of}
 use Rattle.mesa_split.specs.Rounds.{IsFrontTotal}
 use Rattle.mesa_split.specs.Split.{HasSplit, IsPartsDamage, IsSpareDamage}
-use Rattle.mesa_split.proofs.Splitting.{Known_spares, spares_same, spares_stay, split_ended, split_merged}
+use Rattle.mesa_split.proofs.Splitting.{spares_stay, split_merged}
 
 -- a list that is empty
 pub none_of : {A : Type 0} (xs : List A) (empty : Bool) → empty ≡ (length xs == 0) → empty ≡ true → xs ≡ []
@@ -51,32 +49,23 @@ one_table bytes l k t (i ∷ is) same some a b =
     sym (first_table bytes l t.inputs.items i a.inputs many) ∙ first_table bytes k t.inputs.items i b.inputs many
 
 -- what is told once spares were lent as a list, and came back
-pub spares_put : {R T : Type 0} (bytes : R → Option (List ℕ)) (faults size : R → ℕ) (l : Lineage) (is js more : List (Input R)) (os given ns ms : List (Spare R)) (newest a b : ℕ) (r : Result T CompactError) → given ≡ os → ms ≡ ns
-    → HasCauses a b (faults_of faults (is ++ more ++ flat_map spare_inputs given)) (faults_of faults (js ++ more ++ flat_map spare_inputs ns))
+pub spares_put : {R T : Type 0} (bytes : R → Option (List ℕ)) (faults size : R → ℕ) (l : Lineage) (is js : List (Input R)) (os given ns ms : List (Spare R)) (newest a b : ℕ) (r : Result T CompactError) → given ≡ os → ms ≡ ns
+    → HasCauses a b (faults_of faults (is ++ flat_map spare_inputs given)) (faults_of faults (js ++ flat_map spare_inputs ns))
     (λ d. (IsMergeDamage bytes size js d ⊎ IsSpareDamage bytes size ns d) ⊎ IsFrontTotal (columns_of l) (knowns_of bytes is) newest d) r
-    → HasCauses a b (faults_of faults (is ++ more ++ flat_map spare_inputs os)) (faults_of faults (js ++ more ++ flat_map spare_inputs ms))
+    → HasCauses a b (faults_of faults (is ++ flat_map spare_inputs os)) (faults_of faults (js ++ flat_map spare_inputs ms))
     (λ d. (IsMergeDamage bytes size js d ⊎ IsSpareDamage bytes size ms d) ⊎ IsFrontTotal (columns_of l) (knowns_of bytes is) newest d) r
-spares_put {R = R} bytes faults size l is js more os given ns ms newest a b r lent back h =
-    subst (λ (xs : List (Spare R)). HasCauses a b (faults_of faults (is ++ more ++ flat_map spare_inputs xs)) (faults_of faults (js ++ more ++ flat_map spare_inputs ms))
+spares_put {R = R} bytes faults size l is js os given ns ms newest a b r lent back h =
+    subst (λ (xs : List (Spare R)). HasCauses a b (faults_of faults (is ++ flat_map spare_inputs xs)) (faults_of faults (js ++ flat_map spare_inputs ms))
     (λ d. (IsMergeDamage bytes size js d ⊎ IsSpareDamage bytes size ms d) ⊎ IsFrontTotal (columns_of l) (knowns_of bytes is) newest d) r) lent
-    (subst (λ (xs : List (Spare R)). HasCauses a b (faults_of faults (is ++ more ++ flat_map spare_inputs given)) (faults_of faults (js ++ more ++ flat_map spare_inputs xs))
+    (subst (λ (xs : List (Spare R)). HasCauses a b (faults_of faults (is ++ flat_map spare_inputs given)) (faults_of faults (js ++ flat_map spare_inputs xs))
     (λ d. (IsMergeDamage bytes size js d ⊎ IsSpareDamage bytes size xs d) ⊎ IsFrontTotal (columns_of l) (knowns_of bytes is) newest d) r) (sym back) h)
-
--- and once views were
-pub views_put : {R T : Type 0} (bytes : R → Option (List ℕ)) (faults size : R → ℕ) (l : Lineage) (Put : List Row → Type 0) (rows : List Row) (ts given ns ms : List (TaskView R)) (newest a b : ℕ) (r : Result T CompactError) → given ≡ ts → ms ≡ ns → Put rows
-    → HasCauses a b (faults_of faults (flat_map own_inputs given)) (faults_of faults (flat_map own_inputs ns)) (λ d. IsViewDamage bytes size ns d ⊎ ((d ≡ sum_damage newest) × ((all : List Row) → Put all → ViewLeaves l all))) r
-    → HasCauses a b (faults_of faults (flat_map own_inputs ts)) (faults_of faults (flat_map own_inputs ms)) (λ d. IsViewDamage bytes size ms d ⊎ ((d ≡ sum_damage newest) × ViewLeaves l rows)) r
-views_put {R = R} bytes faults size l Put rows ts given ns ms newest a b r lent back put h =
-    let own = caused_on _ (λ d. IsViewDamage bytes size ns d ⊎ ((d ≡ sum_damage newest) × ViewLeaves l rows)) a a b _ _ _ r r refl refl h (same_end r) (λ d told. elim told [ inl view ↦ inl view | inr total ↦ inr (total.0, total.1 rows put) ]) in
-    subst (λ (xs : List (TaskView R)). HasCauses a b (faults_of faults (flat_map own_inputs xs)) (faults_of faults (flat_map own_inputs ms)) (λ d. IsViewDamage bytes size ms d ⊎ ((d ≡ sum_damage newest) × ViewLeaves l rows)) r) lent
-    (subst (λ (xs : List (TaskView R)). HasCauses a b (faults_of faults (flat_map own_inputs given)) (faults_of faults (flat_map own_inputs xs)) (λ d. IsViewDamage bytes size xs d ⊎ ((d ≡ sum_damage newest) × ViewLeaves l rows)) r) (sym back) own)
 
 module _ {M R : Type 0} (told : M → Option (List ℕ)) (id_of : M → ℕ) (bytes : R → Option (List ℕ)) (faults size : R → ℕ) (old : Task R) where
   abbrev Split : ℕ → ℕ → Task R → Drafts → Drafts → Result (Option (MadeFiles M)) CompactError → Type 0
   Split before now new d e r = HasSplit told id_of bytes faults size before now old new d e r
 
   stays_same : IsSameTask bytes old old
-  stays_same = record { table = refl; work = refl; lease = refl; epoch = refl; damage = refl; inputs = refl; views = refl; spare = refl }
+  stays_same = record { table = refl; work = refl; lease = refl; epoch = refl; damage = refl; inputs = refl; spare = refl }
 
   -- nothing was read
   pub split_memory : (a : ℕ) (d e : Drafts) → (n : ℕ) → e ≡ after_drafts n d → AllByRecursion (IsSpareOf bytes old) old.spare.items → Split a a old d e (Err (File Memory))
@@ -104,34 +93,27 @@ module _ {M R : Type 0} (told : M → Option (List ℕ)) (id_of : M → ℕ) (by
     spares = spares;
   }
 
-  module _ (l : Lineage) (i : Vec (Input R) Global) (s : Vec (Spare R) Global) (v : Vec (TaskView R) Global) (own : IsTask bytes l old) (some : 0 < length old.inputs.items) (spares : AllByRecursion (IsSpareOf bytes old) old.spare.items) where
+  module _ (l : Lineage) (i : Vec (Input R) Global) (s : Vec (Spare R) Global) (own : IsTask bytes l old) (some : 0 < length old.inputs.items) (spares : AllByRecursion (IsSpareOf bytes old) old.spare.items) where
     abbrev pub Now : Task R
-    Now = record old { inputs = i; spare = s; views = v }
+    Now = record old { inputs = i; spare = s }
 
     -- The readers of the task and its spares are back.
     pub record Back : Type 0 where
       pub known : knowns_of bytes i.items ≡ knowns_of bytes old.inputs.items
       pub kept : AllByRecursion (IsInput bytes) i.items
-      pub spare_known : Known_spares bytes s.items ≡ Known_spares bytes old.spare.items
+      pub spare_known : known_spares bytes s.items ≡ known_spares bytes old.spare.items
       pub spare_kept : AllByRecursion (λ (x : Spare R). AllByRecursion (IsInput bytes) x.inputs.items) s.items
-      pub seen : views_of s.items ≡ views_of old.spare.items
-      pub views : known_views bytes v.items ≡ known_views bytes old.views.items
-      pub views_kept : AreTaskViews bytes (columns_of l) 0 l.views v.items
 
     same_now : Back → IsSameTask bytes old Now
-    same_now b = record { table = refl; work = refl; lease = refl; epoch = refl; damage = refl; inputs = b.known; views = b.views; spare = spares_same bytes old.spare.items s.items b.spare_known b.seen }
+    same_now b = record { table = refl; work = refl; lease = refl; epoch = refl; damage = refl; inputs = b.known; spare = b.spare_known }
 
     kept_now : Back → (k : Lineage) → IsTask bytes k old → IsTask bytes k Now
-    kept_now b k t = subst (λ (x : Lineage). IsTask bytes x Now) (one_table bytes l k old old.inputs.items refl some own t) (record {
-      epoch = own.epoch;
-      inputs = table_kept bytes l old.inputs.items i.items b.kept b.known own.inputs;
-      views = b.views_kept;
-    })
+    kept_now b k t = subst (λ (x : Lineage). IsTask bytes x Now) (one_table bytes l k old old.inputs.items refl some own t) (record { epoch = own.epoch; inputs = table_kept bytes l old.inputs.items i.items b.kept b.known own.inputs })
 
     spares_now : Back → AllByRecursion (IsSpareOf bytes Now) s.items
-    spares_now b = spares_stay bytes old Now old.spare.items s.items spares b.known b.views b.spare_known b.seen b.spare_kept
+    spares_now b = spares_stay bytes old Now old.spare.items s.items spares b.known b.spare_known b.spare_kept
 
-    merged_now : (rows : List Row) (files : Option (MadeFiles M)) → IsMergeOf bytes (columns_of l) old.inputs.items rows → HaveMerged told id_of bytes l old rows files → (k : Lineage) → IsTask bytes k old → IsMerged told id_of bytes k old (record { files = files })
+    merged_now : (rows : List Row) (files : Option (MadeFiles M)) → IsMergeOf bytes (columns_of l) old.inputs.items rows → HaveMerged told id_of l rows files → (k : Lineage) → IsTask bytes k old → IsMerged told id_of bytes k old (record { files = files })
     merged_now rows files merge have k t = split_merged told id_of bytes k l old rows files (one_table bytes l k old old.inputs.items refl some own t) merge have
 
     bounded_now : (k : Lineage) → IsTask bytes k old → IsBounded bytes k old → IsBounded bytes l old
@@ -144,18 +126,18 @@ module _ {M R : Type 0} (told : M → Option (List ℕ)) (id_of : M → ℕ) (by
     table_told : (newest : ℕ) (d : Damage) → Back → IsNewestOf (knowns_of bytes old.inputs.items) newest → TableTold newest d → IsPartsDamage bytes size Now d
     table_told newest d b last told_ = elim told_ [
       | inl files ↦ elim files [ inl here ↦ inl (inl here) | inr spare ↦ inr spare ]
-      | inr total ↦ inl (inr (inr (total_damage bytes l old.inputs.items i.items total.rows newest d b.known last own.inputs total.told (inl (total.begins, total.leaves)))))
+      | inr total ↦ inl (inr (total_damage bytes l old.inputs.items i.items total.rows newest d b.known last own.inputs total.told (inl (total.begins, total.leaves))))
     ]
 
     -- the table's file was not written
-    pub split_unmade : {T : Type 0} (before now newest : ℕ) (d e : Drafts) (n : ℕ) (error : CompactError) → Back → v ≡ old.views → e ≡ after_drafts n d → IsNewestOf (knowns_of bytes old.inputs.items) newest
+    pub split_unmade : {T : Type 0} (before now newest : ℕ) (d e : Drafts) (n : ℕ) (error : CompactError) → Back → e ≡ after_drafts n d → IsNewestOf (knowns_of bytes old.inputs.items) newest
         → HasCauses {T = T} before now (faults_of faults (task_inputs old)) (faults_of faults (task_inputs Now)) (TableTold newest) (Err error) → ((x : Damage) → error ≡ damaged_by x → AreBounded (columns_of l) (knowns_of bytes old.inputs.items) → ⊥) → Split before now Now d e (Err error)
-    split_unmade before now newest d e n error b same drawn last causes accepts = record {
+    split_unmade before now newest d e n error b drawn last causes accepts = record {
       merged = tt;
       numbered = tt;
       ids = (n, drawn);
       causes = caused_on _ _ _ _ _ _ _ _ _ _ refl refl causes refl (λ x t. table_told newest x b last t);
-      accepts = λ x is k t bounds. accepts x is (bounded_now k t bounds).table;
+      accepts = λ x is k t bounds. accepts x is (bounded_now k t bounds);
       same = same_now b;
       kept = kept_now b;
       spares = spares_now b;
@@ -177,46 +159,40 @@ module _ {M R : Type 0} (told : M → Option (List ℕ)) (id_of : M → ℕ) (by
 
     -- ---- the views' files
 
-    abbrev ViewTold : ℕ → List Row → Damage → Type 0
-    ViewTold newest rows d = IsViewDamage bytes size v.items d ⊎ ((d ≡ sum_damage newest) × ViewLeaves l rows)
-
-    view_told : (newest : ℕ) (rows : List Row) (d : Damage) → Back → IsNewestOf (knowns_of bytes old.inputs.items) newest → IsMergeOf bytes (columns_of l) old.inputs.items rows → ViewTold newest rows d → IsPartsDamage bytes size Now d
-    view_told newest rows d b last merge t = inl (files_damage bytes size l old.inputs.items i.items v.items rows newest d b.known last own.inputs merge t)
+    -- the counts of readers stay while the views' files are written
+    abbrev ViewCauses : {T : Type 0} → ℕ → ℕ → ℕ → (List Row → Type 0) → Result T CompactError → Type 0
+    ViewCauses before now newest Put r = HasCauses before now (faults_of faults (task_inputs Now)) (faults_of faults (task_inputs Now)) (λ d. (d ≡ sum_damage newest) × ((all : List Row) → Put all → ViewLeaves l all)) r
 
     -- the causes of the views' files, once the table's is written
-    view_causes : {T U : Type 0} (start before now newest : ℕ) (rows : List Row) (r : Result T CompactError) (q : Result U CompactError) → Back → IsNewestOf (knowns_of bytes old.inputs.items) newest → IsMergeOf bytes (columns_of l) old.inputs.items rows → before ≡ start
-        → faults_of faults (i.items ++ flat_map own_inputs old.views.items ++ flat_map spare_inputs s.items) ≡ faults_of faults (task_inputs old)
-        → HasCauses before now (faults_of faults (flat_map own_inputs old.views.items)) (faults_of faults (flat_map own_inputs v.items)) (ViewTold newest rows) r → SameEnd r q → HasCauses start now (faults_of faults (task_inputs old)) (faults_of faults (task_inputs Now)) (IsPartsDamage bytes size Now) q
-    view_causes start before now newest rows r q b last merge stay quiet h same =
-        subst (λ n. HasCauses n now (faults_of faults (task_inputs old)) (faults_of faults (task_inputs Now)) (IsPartsDamage bytes size Now) q) stay
-        (split_ended faults (ViewTold newest rows) (IsPartsDamage bytes size Now) before now old.inputs.items i.items old.views.items old.views.items v.items v.items old.spare.items old.spare.items s.items s.items r q refl refl refl refl quiet h same (λ d t. view_told newest rows d b last merge t))
+    view_causes : {T U : Type 0} (start before now newest : ℕ) (Put : List Row → Type 0) (rows : List Row) (r : Result T CompactError) (q : Result U CompactError) → Back → IsNewestOf (knowns_of bytes old.inputs.items) newest → IsMergeOf bytes (columns_of l) old.inputs.items rows → Put rows → before ≡ start
+        → faults_of faults (task_inputs Now) ≡ faults_of faults (task_inputs old) → ViewCauses before now newest Put r → SameEnd r q → HasCauses start now (faults_of faults (task_inputs old)) (faults_of faults (task_inputs Now)) (IsPartsDamage bytes size Now) q
+    view_causes start before now newest Put rows r q b last merge put stay quiet h same =
+        caused_on _ _ _ _ _ _ _ _ r q stay quiet h same (λ d t. inl (files_damage bytes size l old.inputs.items i.items rows newest d b.known last own.inputs merge t.0 (t.1 rows put)))
 
     -- one of the views' files was not written
-    pub split_unviewed : {T : Type 0} (start before now newest : ℕ) (d e : Drafts) (n : ℕ) (rows : List Row) (error : CompactError) → Back → e ≡ after_drafts n d → IsNewestOf (knowns_of bytes old.inputs.items) newest → IsMergeOf bytes (columns_of l) old.inputs.items rows → before ≡ start
-        → faults_of faults (i.items ++ flat_map own_inputs old.views.items ++ flat_map spare_inputs s.items) ≡ faults_of faults (task_inputs old)
-        → HasCauses {T = T} before now (faults_of faults (flat_map own_inputs old.views.items)) (faults_of faults (flat_map own_inputs v.items)) (ViewTold newest rows) (Err error)
-        → (AreBounded (columns_of l) (knowns_of bytes old.inputs.items) → KeepsSums (columns_of l) rows) → ((x : Damage) → error ≡ damaged_by x → KeepsSums (columns_of l) rows → AreViewsBounded bytes (columns_of l) l.views old.views.items → ⊥) → Split start now Now d e (Err error)
-    split_unviewed {T = T} start before now newest d e n rows error b drawn last merge stay quiet h keeps accepts = record {
+    pub split_unviewed : {T : Type 0} (start before now newest : ℕ) (d e : Drafts) (n : ℕ) (Put : List Row → Type 0) (rows : List Row) (error : CompactError) → Back → e ≡ after_drafts n d → IsNewestOf (knowns_of bytes old.inputs.items) newest → IsMergeOf bytes (columns_of l) old.inputs.items rows → Put rows → before ≡ start
+        → faults_of faults (task_inputs Now) ≡ faults_of faults (task_inputs old) → ViewCauses {T = T} before now newest Put (Err error)
+        → (AreBounded (columns_of l) (knowns_of bytes old.inputs.items) → KeepsSums (columns_of l) rows) → ((x : Damage) → error ≡ damaged_by x → KeepsSums (columns_of l) rows → ⊥) → Split start now Now d e (Err error)
+    split_unviewed {T = T} start before now newest d e n Put rows error b drawn last merge put stay quiet h keeps accepts = record {
       merged = tt;
       numbered = tt;
       ids = (n, drawn);
-      causes = view_causes {T = T} start before now newest rows (Err error) (Err error) b last merge stay quiet h refl;
-      accepts = λ x is k t bounds. (let all = bounded_now k t bounds in accepts x is (keeps all.table) all.views);
+      causes = view_causes {T = T} start before now newest Put rows (Err error) (Err error) b last merge put stay quiet h refl;
+      accepts = λ x is k t bounds. accepts x is (keeps (bounded_now k t bounds));
       same = same_now b;
       kept = kept_now b;
       spares = spares_now b;
     }
 
     -- all files were written
-    pub split_made : {T : Type 0} (start before now newest : ℕ) (d e : Drafts) (n : ℕ) (rows : List Row) (made : MadeFiles M) (u : T) → Back → e ≡ after_drafts n d → IsNewestOf (knowns_of bytes old.inputs.items) newest → IsMergeOf bytes (columns_of l) old.inputs.items rows → before ≡ start
-        → faults_of faults (i.items ++ flat_map own_inputs old.views.items ++ flat_map spare_inputs s.items) ≡ faults_of faults (task_inputs old)
-        → HasCauses before now (faults_of faults (flat_map own_inputs old.views.items)) (faults_of faults (flat_map own_inputs v.items)) (ViewTold newest rows) (Ok u)
-        → IsMadeFile told id_of (record { columns = columns_of l; rows = rows }) made.file → AreMergedViews told id_of bytes (columns_of l) rows l.views old.views.items made.views.items → AreNumbered id_of d made → Split start now Now d e (Ok (Some made))
-    split_made start before now newest d e n rows made u b drawn last merge stay quiet h file views numbered = record {
-      merged = merged_now rows (Some made) merge (file, views);
+    pub split_made : {T : Type 0} (start before now newest : ℕ) (d e : Drafts) (n : ℕ) (Put : List Row → Type 0) (rows : List Row) (made : MadeFiles M) (u : T) → Back → e ≡ after_drafts n d → IsNewestOf (knowns_of bytes old.inputs.items) newest → IsMergeOf bytes (columns_of l) old.inputs.items rows → Put rows → before ≡ start
+        → faults_of faults (task_inputs Now) ≡ faults_of faults (task_inputs old) → ViewCauses before now newest Put (Ok u)
+        → AreMadeFiles told id_of (columns_of l) l.views rows made → AreNumbered id_of d made → Split start now Now d e (Ok (Some made))
+    split_made start before now newest d e n Put rows made u b drawn last merge put stay quiet h files numbered = record {
+      merged = merged_now rows (Some made) merge files;
       numbered = numbered;
       ids = (n, drawn);
-      causes = view_causes start before now newest rows (Ok u) (Ok (Some made)) b last merge stay quiet h tt;
+      causes = view_causes start before now newest Put rows (Ok u) (Ok (Some made)) b last merge put stay quiet h tt;
       accepts = tt;
       same = same_now b;
       kept = kept_now b;

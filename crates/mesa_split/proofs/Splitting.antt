@@ -1,6 +1,6 @@
 -- A task that was merged in parts.
-use Rattle.std.proofs.Common.{◌≡◌, ◌⊎◌, inl, inr, ℕ, zero, suc, List, [], ◌∷◌, ◌++◌, get_or, map, refl, sym, ap, subst, ◌∙◌, arith, Global, Vec}
-use Rattle.std.specs.Prelude.{Option, None, Result, Some, slice_get, flat_map, option_map}
+use Rattle.std.proofs.Common.{◌≡◌, ◌⊎◌, inl, inr, ℕ, zero, suc, List, [], ◌∷◌, get_or, map, refl, sym, ap, subst, ◌∙◌, arith, Global, Vec}
+use Rattle.std.specs.Prelude.{Option, None, Some, slice_get}
 use Rattle.std.specs.List.{AllByRecursion}
 use Rattle.sha2.specs.Sha256.{sha256}
 use Rattle.mesa_compact.specs.mesa_columns.declared.rows.Row.{Row}
@@ -20,31 +20,24 @@ use Rattle.mesa_compact.specs.mesa_scan.Cursors.{IsInput, lift_by}
 use Rattle.mesa_merge.proofs.mesa_scan.Cutting.{cut_none}
 use Rattle.mesa_file.specs.declared.damage.Damage.{Damage}
 use Rattle.mesa_merge.specs.Damaged.{IsDamageOf}
-use Rattle.mesa_merge.specs.Faults.{faults_of}
 use Rattle.mesa_merge.specs.Inputs.{AreInputs as AreMergeable}
 use Rattle.mesa_merge.specs.Inputs.{AreTold, Known, known_of, knowns_of, lifted_parts}
 use Rattle.mesa_merge.proofs.Bounds.{full_all}
 use Rattle.mesa_merge.proofs.Combining.{aggs_count}
-use Rattle.mesa_merge.proofs.Inputs.{SameEnd}
 use Rattle.mesa_answer.specs.Answering.{KeepsSums}
 use Rattle.mesa_open_files.specs.Inputs.{AreInputsOf, IsMergeOf, lineage_of, present_parts}
 use Rattle.mesa_open_files.specs.Inputs.{AreTold as AreToldInputs}
-use Rattle.mesa_open_files.specs.Spares.{AreSpareInputs, AreSpareViews, HasSpareOwn, IsSpareInput, IsSpareOf}
+use Rattle.mesa_open_files.specs.Spares.{AreSpareInputs, IsSpareInput, IsSpareOf}
 use Rattle.mesa_open_files.specs.declared.merging.Task.{Task}
-use Rattle.mesa_open_files.specs.declared.merging.TaskView.{TaskView}
-use Rattle.mesa_open_files.specs.GivingBack.{own_inputs, spare_inputs}
 use Rattle.mesa_open_files.specs.Tasks.{HaveMerged, IsMerged}
 use Rattle.mesa_open_files.specs.declared.made.MadeFiles.{MadeFiles}
-use Rattle.mesa_open_files.specs.declared.merging.CompactError.{CompactError}
 use Rattle.mesa_open_files.specs.declared.merging.Spare.{Spare}
 use Rattle.mesa_open_files.proofs.Spares.{spares_are, spares_told}
 use Rattle.mesa_compact.specs.Bounded.{AreBounded}
 use Rattle.mesa_compact.specs.Damaged.{IsMergeDamage}
-use Rattle.mesa_compact.specs.Tasks.{KnownView, known_spares, known_view, known_views}
-use Rattle.mesa_compact.specs.Writing.{HasCauses}
-use Rattle.mesa_compact.proofs.Causing.{caused_left, caused_on, caused_right}
-use Rattle.mesa_compact.proofs.Viewing.{faults_append, mergeable, of_table}
-use Rattle.mesa_split.specs.Lending.{Tells, items_of, lists_of, views_of}
+use Rattle.mesa_compact.specs.Tasks.{known_spares}
+use Rattle.mesa_compact.proofs.Viewing.{mergeable, of_table}
+use Rattle.mesa_split.specs.Lending.{Tells, items_of, lists_of}
 use Rattle.mesa_split.specs.Parts.{IsPartOf}
 use Rattle.mesa_split.specs.Split.{IsSpareDamage}
 
@@ -149,17 +142,14 @@ module _ {R : Type 0} (bytes : R → Option (List ℕ)) where
   abbrev Known_lists : Vec (Input R) Global → List (Spare R) → List (List Known)
   Known_lists own ss = map (knowns_of bytes) (items_of (lists_of own ss))
 
-  abbrev pub Known_spares : List (Spare R) → List (List Known)
-  Known_spares ss = map (λ (s : Spare R). knowns_of bytes s.inputs.items) ss
-
-  spares_known : (ss : List (Spare R)) → map (knowns_of bytes) (items_of (map (λ (s : Spare R). s.inputs) ss)) ≡ Known_spares ss
+  spares_known : (ss : List (Spare R)) → map (knowns_of bytes) (items_of (map (λ (s : Spare R). s.inputs) ss)) ≡ known_spares bytes ss
   spares_known [] = refl
   spares_known (s ∷ ss) = ap (λ ks. knowns_of bytes s.inputs.items ∷ ks) (spares_known ss)
 
   pub own_known : (old new : Vec (Input R) Global) (os ns : List (Spare R)) → Known_lists new ns ≡ Known_lists old os → knowns_of bytes new.items ≡ knowns_of bytes old.items
   own_known old new os ns same = ap (first_of []) same
 
-  pub rest_known : (old new : Vec (Input R) Global) (os ns : List (Spare R)) → Known_lists new ns ≡ Known_lists old os → Known_spares ns ≡ Known_spares os
+  pub rest_known : (old new : Vec (Input R) Global) (os ns : List (Spare R)) → Known_lists new ns ≡ Known_lists old os → known_spares bytes ns ≡ known_spares bytes os
   rest_known old new os ns same = sym (spares_known ns) ∙ ap rest_of same ∙ spares_known os
 
   pub lists_known : (old new : Vec (Input R) Global) (os ns : List (Spare R)) → lists_of new ns ≡ lists_of old os → Known_lists new ns ≡ Known_lists old os
@@ -198,13 +188,6 @@ each_input bytes l (i ∷ is) are = (are.0.0, each_input bytes l is are.1)
 -- ---- a task and its spares afterwards
 
 module _ {R : Type 0} (bytes : R → Option (List ℕ)) where
-  pub spares_same : (os ns : List (Spare R)) → Known_spares bytes ns ≡ Known_spares bytes os → views_of ns ≡ views_of os → known_spares bytes ns ≡ known_spares bytes os
-  spares_same [] [] files views = refl
-  spares_same [] (n ∷ ns) files views = absurd cc
-  spares_same (o ∷ os) [] files views = absurd cc
-  spares_same (o ∷ os) (n ∷ ns) files views =
-      λ i. record { files = first_of [] (files i); views = known_views bytes (first_of n.views (views i)).items } ∷ spares_same os ns (ap rest_of files) (ap rest_of views) i
-
   own_again : (i j k : Input R) → IsSpareInput bytes i k → known_of bytes j ≡ known_of bytes i → IsSpareInput bytes j k
   own_again i j k s same = record {
     file = s.file;
@@ -241,73 +224,24 @@ module _ {R : Type 0} (bytes : R → Option (List ℕ)) where
   spares_again [] (j ∷ js) (k ∷ ks) h same each = absurd h
   spares_again (i ∷ is) (j ∷ js) (k ∷ ks) h same each = (spare_again i j k h.0 (ap (first_of (known_of bytes j)) same) each.0, spares_again is js ks h.1 (ap rest_of same) each.1)
 
-  own_views_again : (o n s : Option (Vec (Input R) Global)) → HasSpareOwn bytes o s → option_map (λ (v : Vec (Input R) Global). knowns_of bytes v.items) n ≡ option_map (λ (v : Vec (Input R) Global). knowns_of bytes v.items) o → HasSpareOwn bytes n s
-  own_views_again None None s h same = h
-  own_views_again None (Some n) s h same = absurd cc
-  own_views_again (Some o) None s h same = absurd cc
-  own_views_again (Some o) (Some n) None h same = absurd h
-  own_views_again (Some o) (Some n) (Some s) h same = owns_again o.items n.items s.items h cc
-
-  views_again : (ts us vs : List (TaskView R)) → AreSpareViews bytes ts vs → known_views bytes us ≡ known_views bytes ts → AreSpareViews bytes us vs
-  views_again [] [] vs h same = h
-  views_again [] (u ∷ us) vs h same = absurd cc
-  views_again (t ∷ ts) [] vs h same = absurd cc
-  views_again (t ∷ ts) (u ∷ us) [] h same = absurd h
-  views_again (t ∷ ts) (u ∷ us) (v ∷ vs) h same =
-      let one : known_view bytes u ≡ known_view bytes t = ap (first_of (known_view bytes t)) same in
-      (h.0 ∙ ap (λ (k : KnownView). k.view) (sym one), own_views_again t.inputs u.inputs v.inputs h.1 (ap (λ (k : KnownView). k.own) one), views_again ts us vs h.2 (ap rest_of same))
-
   -- the spares of a task whose readers stay the same are still its spares
-  pub spares_stay : (old new : Task R) (os ns : List (Spare R)) → AllByRecursion (IsSpareOf bytes old) os → knowns_of bytes new.inputs.items ≡ knowns_of bytes old.inputs.items → known_views bytes new.views.items ≡ known_views bytes old.views.items
-      → Known_spares bytes ns ≡ Known_spares bytes os → views_of ns ≡ views_of os → AllByRecursion (λ (s : Spare R). AllByRecursion (IsInput bytes) s.inputs.items) ns → AllByRecursion (IsSpareOf bytes new) ns
-  spares_stay old new [] [] all inputs views files seen each = tt
-  spares_stay old new [] (n ∷ ns) all inputs views files seen each = absurd cc
-  spares_stay old new (o ∷ os) [] all inputs views files seen each = absurd cc
-  spares_stay old new (o ∷ os) (n ∷ ns) all inputs views files seen each = (
-    record {
-      inputs = owns_again old.inputs.items new.inputs.items n.inputs.items (spares_again old.inputs.items o.inputs.items n.inputs.items all.0.inputs (ap (first_of []) files) each.0) inputs;
-      views = subst (λ (v : Vec (TaskView R) Global). AreSpareViews bytes new.views.items v.items) (ap (first_of n.views) (sym seen)) (views_again old.views.items new.views.items o.views.items all.0.views views);
-    },
-    spares_stay old new os ns all.1 inputs views (ap rest_of files) (ap rest_of seen) each.1,
+  pub spares_stay : (old new : Task R) (os ns : List (Spare R)) → AllByRecursion (IsSpareOf bytes old) os → knowns_of bytes new.inputs.items ≡ knowns_of bytes old.inputs.items → known_spares bytes ns ≡ known_spares bytes os
+      → AllByRecursion (λ (s : Spare R). AllByRecursion (IsInput bytes) s.inputs.items) ns → AllByRecursion (IsSpareOf bytes new) ns
+  spares_stay old new [] [] all inputs files each = tt
+  spares_stay old new [] (n ∷ ns) all inputs files each = absurd cc
+  spares_stay old new (o ∷ os) [] all inputs files each = absurd cc
+  spares_stay old new (o ∷ os) (n ∷ ns) all inputs files each = (
+    owns_again old.inputs.items new.inputs.items n.inputs.items (spares_again old.inputs.items o.inputs.items n.inputs.items all.0 (ap (first_of []) files) each.0) inputs,
+    spares_stay old new os ns all.1 inputs (ap rest_of files) each.1,
   )
-
-  pub spares_read : (t : Task R) (ss : List (Spare R)) → AllByRecursion (IsSpareOf bytes t) ss → AllByRecursion (λ (s : Spare R). AreSpareInputs bytes t.inputs.items s.inputs.items) ss
-  spares_read t [] all = tt
-  spares_read t (s ∷ ss) all = (all.0.inputs, spares_read t ss all.1)
-
--- ---- causes
-
-pub split_written : {R T U : Type 0} (faults : R → ℕ) (IsTold Told : Damage → Type 0) (a b : ℕ) (is js vs ws : List (Input R)) (os ns : List (Spare R)) (r : Result T CompactError) (q : Result U CompactError)
-    → faults_of faults (js ++ vs ++ flat_map spare_inputs ns) ≡ faults_of faults (is ++ vs ++ flat_map spare_inputs os) → HasCauses a b (faults_of faults vs) (faults_of faults ws) IsTold r → SameEnd r q → ((d : Damage) → IsTold d → Told d)
-    → HasCauses a b (faults_of faults (is ++ vs ++ flat_map spare_inputs os)) (faults_of faults (js ++ ws ++ flat_map spare_inputs ns)) Told q
-split_written {R = R} faults IsTold Told a b is js vs ws os ns r q stays h same more =
-    let ss : List (Input R) = flat_map spare_inputs ns in
-    let right = caused_right IsTold a b (faults_of faults js) (faults_of faults vs) (faults_of faults ws) r h in
-    let left = caused_left IsTold a b (faults_of faults js ++ faults_of faults vs) (faults_of faults js ++ faults_of faults ws) (faults_of faults ss) r right in
-    let flat : (xs : List (Input R)) → (faults_of faults js ++ faults_of faults xs) ++ faults_of faults ss ≡ faults_of faults (js ++ xs ++ ss) = λ xs. sym (faults_append faults (js ++ xs) ss ∙ ap (λ ns. ns ++ faults_of faults ss) (faults_append faults js xs)) in
-    let all = subst (λ xs. HasCauses a b xs (faults_of faults (js ++ ws ++ ss)) IsTold r) (flat vs) (subst (λ xs. HasCauses a b ((faults_of faults js ++ faults_of faults vs) ++ faults_of faults ss) xs IsTold r) (flat ws) left) in
-    caused_on IsTold Told a a b _ _ _ r q refl stays all same more
-
--- causes at a task whose parts were all merged: those of the writing of its files. Views and spares were lent, and came back.
-pub split_ended : {R T U : Type 0} (faults : R → ℕ) (IsTold Told : Damage → Type 0) (a b : ℕ) (is js : List (Input R)) (ts lent got us : List (TaskView R)) (ss os gots ns : List (Spare R)) (r : Result T CompactError) (q : Result U CompactError)
-    → lent ≡ ts → us ≡ got → os ≡ ss → ns ≡ gots → faults_of faults (js ++ flat_map own_inputs ts ++ flat_map spare_inputs gots) ≡ faults_of faults (is ++ flat_map own_inputs ts ++ flat_map spare_inputs os)
-    → HasCauses a b (faults_of faults (flat_map own_inputs lent)) (faults_of faults (flat_map own_inputs got)) IsTold r → SameEnd r q → ((d : Damage) → IsTold d → Told d)
-    → HasCauses a b (faults_of faults (is ++ flat_map own_inputs ts ++ flat_map spare_inputs ss)) (faults_of faults (js ++ flat_map own_inputs us ++ flat_map spare_inputs ns)) Told q
-split_ended {R = R} faults IsTold Told a b is js ts lent got us ss os gots ns r q views back spares returned stays h same more =
-    let vs : List (Input R) = flat_map own_inputs ts in
-    let here = subst (λ (xs : List (TaskView R)). HasCauses a b (faults_of faults (flat_map own_inputs xs)) (faults_of faults (flat_map own_inputs got)) IsTold r) views h in
-    let quiet = stays ∙ ap (λ (xs : List (Spare R)). faults_of faults (is ++ vs ++ flat_map spare_inputs xs)) spares in
-    let all = split_written faults IsTold Told a b is js vs (flat_map own_inputs got) ss gots r q quiet here same more in
-    subst (λ (xs : List (Spare R)). HasCauses a b (faults_of faults (is ++ vs ++ flat_map spare_inputs ss)) (faults_of faults (js ++ flat_map own_inputs us ++ flat_map spare_inputs xs)) Told q) (sym returned)
-    (subst (λ (xs : List (TaskView R)). HasCauses a b (faults_of faults (is ++ vs ++ flat_map spare_inputs ss)) (faults_of faults (js ++ flat_map own_inputs xs ++ flat_map spare_inputs gots)) Told q) (sym back) all)
 
 -- ---- what was merged
 
 -- the rows of the parts are the merge of the task, and its files have them
-pub split_merged : {M R : Type 0} (bytes : M → Option (List ℕ)) (id_of : M → ℕ) (read : R → Option (List ℕ)) (l own : Lineage) (t : Task R) (rows : List Row) (files : Option (MadeFiles M)) → own ≡ l → IsMergeOf read (columns_of own) t.inputs.items rows → HaveMerged bytes id_of read own t rows files
+pub split_merged : {M R : Type 0} (bytes : M → Option (List ℕ)) (id_of : M → ℕ) (read : R → Option (List ℕ)) (l own : Lineage) (t : Task R) (rows : List Row) (files : Option (MadeFiles M)) → own ≡ l → IsMergeOf read (columns_of own) t.inputs.items rows → HaveMerged bytes id_of own rows files
     → IsMerged bytes id_of read l t (record { files = files })
 split_merged bytes id_of read l own t rows files same merge have = record {
   rows = rows;
   merge = subst (λ (o : Lineage). IsMergeOf read (columns_of o) t.inputs.items rows) same merge;
-  files = subst (λ (o : Lineage). HaveMerged bytes id_of read o t rows files) same have;
+  files = subst (λ (o : Lineage). HaveMerged bytes id_of o rows files) same have;
 }

@@ -27,7 +27,7 @@ use Rattle.mesa_compact.specs.Bounded.{AreBounded}
 use Rattle.mesa_compact.specs.Damaged.{IsMergeDamage}
 use Rattle.mesa_compact.specs.Writing.{HasCauses, IsReadFault, damaged_by}
 use Rattle.mesa_compact.proofs.Viewing.{mergeable, of_table}
-use Rattle.mesa_split.specs.Lending.{AllTell, AreLent, AreReady, IsEndOf, Moved, Tells, items_of, knowns_in, lists_in, lists_of, own_in, returned, views_of}
+use Rattle.mesa_split.specs.Lending.{AllTell, AreLent, AreReady, IsEndOf, Moved, Tells, items_of, knowns_in, lists_in, lists_of, own_in, returned}
 use Rattle.mesa_split.specs.Parts.{IsPartOf}
 use Rattle.mesa_split.specs.Rounds.{HasRangeFile, IsFrontTotal, IsRangeFile, merge_of}
 use Rattle.mesa_split.specs.Split.{IsSpareDamage}
@@ -40,16 +40,16 @@ abbrev Answers : Type 0
 Answers = List (Result (List Row) FileError)
 
 -- the counts of all readers of a task, by why its parts ended
-caused_end : {R T : Type 0} (faults : R → ℕ) (old new : Vec (Input R) Global) (more : List (Input R)) (os ns : List (Spare R)) (rs : Answers) (r : Result T CompactError) → views_of ns ≡ views_of os → Moved (map (faults_of faults) (items_of (lists_of old os))) (map (faults_of faults) (items_of (lists_of new ns))) rs → IsEndOf rs r
-    → HaveFaultCause IsReadFault (faults_of faults (old.items ++ more ++ flat_map spare_inputs os)) (faults_of faults (new.items ++ more ++ flat_map spare_inputs ns)) r
-caused_end faults old new more os ns rs (Ok v) views moved end = let all = gained_lists faults old new more os ns rs v views moved end in record { later = all.later; failed = tt; quiet = all.quiet; other = tt }
-caused_end faults old new more os ns rs (Err e) views moved end = elim end [
+caused_end : {R T : Type 0} (faults : R → ℕ) (old new : Vec (Input R) Global) (os ns : List (Spare R)) (rs : Answers) (r : Result T CompactError) → Moved (map (faults_of faults) (items_of (lists_of old os))) (map (faults_of faults) (items_of (lists_of new ns))) rs → IsEndOf rs r
+    → HaveFaultCause IsReadFault (faults_of faults (old.items ++ flat_map spare_inputs os)) (faults_of faults (new.items ++ flat_map spare_inputs ns)) r
+caused_end faults old new os ns rs (Ok v) moved end = let all = gained_lists faults old new os ns rs v moved end in record { later = all.later; failed = tt; quiet = all.quiet; other = tt }
+caused_end faults old new os ns rs (Err e) moved end = elim end [
   | inl gained ↦ (
-      let all = gained_lists faults {T = ℕ} old new more os ns rs 0 views moved gained.0 in
+      let all = gained_lists faults {T = ℕ} old new os ns rs 0 moved gained.0 in
       record { later = all.later; failed = λ is. absurd (gained.1 is); quiet = tt; other = λ _. all.quiet }
       )
   | inr failed ↦ (
-      let all = caused_lists faults {T = List Row} old new more os ns rs failed.0 views moved failed.2 in
+      let all = caused_lists faults {T = List Row} old new os ns rs failed.0 moved failed.2 in
       record {
         later = all.later;
         failed = λ is. all.failed (let both : File failed.0 ≡ File Read = sym failed.1 ∙ is in cc);
@@ -66,7 +66,6 @@ module _ {R : Type 0} (bytes : R → Option (List ℕ)) (faults size : R → ℕ
     pub some : 0 < length ps
     pub same : length qs ≡ length ps
     pub given_back : lists_of back gs ≡ returned (lists_of now ns) (lists_in qs)
-    pub views : views_of gs ≡ views_of os
     pub inputs : AreInputsOf bytes l own.items
     pub spares : AllByRecursion (λ (x : Spare R). AreSpareInputs bytes own.items x.inputs.items) os
 
@@ -98,19 +97,19 @@ module _ {R : Type 0} (bytes : R → Option (List ℕ)) (faults size : R → ℕ
   pub spares_inputs_back : Lent → AllByRecursion (λ (q : Part R). AllByRecursion (IsInput bytes) q.inputs.items) qs → AllByRecursion (λ (x : Spare R). AllByRecursion (IsInput bytes) x.inputs.items) gs
   spares_inputs_back h each = spares_inputs bytes back gs (each_list h each)
 
-  module _ {M : Type 0} (told : M → Option (List ℕ)) (drawn : M → ℕ) (id newest : ℕ) (groups after : List (Option Groups)) (before end : ℕ) (r : Result (Option (MadeFile M)) CompactError) where
+  module _ {M : Type 0} (told : M → Option (List ℕ)) (drawn : M → ℕ) (id newest : ℕ) (groups after : List Groups) (before end : ℕ) (r : Result (Option (MadeFile M)) CompactError) where
     abbrev File_ : Type 0
     File_ = HasRangeFile told drawn bytes faults size (columns_of l) id newest (own_in ps) ps qs groups after before end r
 
     abbrev Told : Damage → Type 0
     Told d = (IsMergeDamage bytes size back.items d ⊎ IsSpareDamage bytes size gs d) ⊎ IsFrontTotal (columns_of l) (knowns_of bytes own.items) newest d
 
-    pub table_causes : Lent → File_ → (more : List (Input R)) → HasCauses before end (faults_of faults (own.items ++ more ++ flat_map spare_inputs os)) (faults_of faults (back.items ++ more ++ flat_map spare_inputs gs)) Told r
-    table_causes h f more =
+    pub table_causes : Lent → File_ → HasCauses before end (faults_of faults (own.items ++ flat_map spare_inputs os)) (faults_of faults (back.items ++ flat_map spare_inputs gs)) Told r
+    table_causes h f =
         let moved = subst (λ (ls : List (Vec (Input R) Global)). Moved (map (faults_of faults) (items_of (lists_of own os))) (map (faults_of faults) (items_of ls)) f.reads.0) (sym h.given_back) (lent_moved faults (lists_of own os) (lists_of now ns) ps qs f.reads.0 h.lent f.reads.1) in
         record {
           drafts = f.drafts;
-          reads = caused_end faults own back more os gs f.reads.0 r h.views moved f.reads.2;
+          reads = caused_end faults own back os gs f.reads.0 r moved f.reads.2;
           damaged = IfErr-weaker r _ _ (λ e damaged d is. elim (damaged d is) [
             | inl there ↦ (
                 let list = damaged_list bytes size (lists_of own os) (lists_of now ns) ps qs d h.lent h.same there in

@@ -1,5 +1,5 @@
 -- What holds of lists of inputs that were merged side by side.
-use Rattle.std.proofs.Common.{◌≡◌, inl, inr, ℕ, zero, suc, ◌+◌, ◌<◌, ◌≤◌, List, [], ◌∷◌, ◌++◌, length, length-append, get_or, take, add-one, map, refl, sym, ap, subst, ◌∙◌, arith, append_assoc, Global, Vec}
+use Rattle.std.proofs.Common.{◌≡◌, inl, inr, ℕ, zero, suc, ◌+◌, ◌<◌, ◌≤◌, List, [], ◌∷◌, ◌++◌, length, length-append, get_or, take, add-one, map, refl, sym, ap, subst, ◌∙◌, arith, Global, Vec}
 use Rattle.std.specs.Prelude.{Option, None, Some, slice_get, Result, Ok, Err, IfErr, IfOk, flat_map}
 use Rattle.std.specs.List.{AllByRecursion}
 use Rattle.mesa_file.specs.declared.damage.Damage.{Damage}
@@ -16,13 +16,12 @@ use Rattle.mesa_merge.specs.Damaged.{IsDamageOf}
 use Rattle.mesa_merge.specs.Faults.{HaveFaultCause, NoneFell, SomeRose, faults_of}
 use Rattle.mesa_merge.specs.Inputs.{AreTold, knowns_of, lifted_parts}
 use Rattle.mesa_merge.proofs.Inputs.{none_fell}
-use Rattle.mesa_open_files.specs.GivingBack.{own_inputs, spare_inputs}
+use Rattle.mesa_open_files.specs.GivingBack.{spare_inputs}
 use Rattle.mesa_open_files.specs.declared.merging.Spare.{Spare}
-use Rattle.mesa_open_files.specs.declared.merging.TaskView.{TaskView}
 use Rattle.mesa_compact.specs.Bounded.{AreBounded}
 use Rattle.mesa_compact.proofs.Viewing.{faults_append}
 use Rattle.mesa_split.proofs.Collected.{memory_caused}
-use Rattle.mesa_split.specs.Lending.{AllTell, HavePieces, IsDamageIn, Moved, Tells, answers_of, counts_in, items_of, knowns_in, lists_of, views_of}
+use Rattle.mesa_split.specs.Lending.{AllTell, HavePieces, IsDamageIn, Moved, Tells, answers_of, counts_in, items_of, knowns_in, lists_of}
 use Rattle.mesa_split.specs.Parts.{HasPiece, IsPartOf, IsPieceOf, gained, joined, low_at}
 use Rattle.mesa_split.specs.declared.parts.Part.{Part}
 use Rattle.mesa_split.specs.Split.{IsFailureOf, IsGained, IsNotBy, IsSomeBy}
@@ -49,33 +48,27 @@ rose_there [] (y ∷ ys) us vs h g = absurd h
 rose_there (x ∷ xs) [] us vs h g = absurd h
 rose_there (x ∷ xs) (y ∷ ys) us vs h g = inr (rose_there xs ys us vs h.1 g)
 
--- all counts, with further ones behind each list
-abbrev flat : List (List ℕ) → List (List ℕ) → List ℕ
-flat [] rests = []
-flat (b ∷ bs) [] = b ++ flat bs []
-flat (b ∷ bs) (t ∷ rests) = b ++ (t ++ flat bs rests)
+-- all counts
+abbrev flat : List (List ℕ) → List ℕ
+flat [] = []
+flat (b ∷ bs) = b ++ flat bs
 
-flat_fell : (bs ns rests : List (List ℕ)) (rs : Answers) → Moved bs ns rs → NoneFell (flat bs rests) (flat ns rests)
-flat_fell bs ns rests [] h = subst (λ xs. NoneFell (flat bs rests) (flat xs rests)) (sym h) (none_fell (flat bs rests))
-flat_fell [] ns rests (r ∷ rs) h = absurd h
-flat_fell (b ∷ bs) [] rests (r ∷ rs) h = absurd h
-flat_fell (b ∷ bs) (n ∷ ns) [] (r ∷ rs) h = both_fell b n (flat bs []) (flat ns []) h.0.later (flat_fell bs ns [] rs h.1)
-flat_fell (b ∷ bs) (n ∷ ns) (t ∷ ts) (r ∷ rs) h = both_fell b n (t ++ flat bs ts) (t ++ flat ns ts) h.0.later (both_fell t t (flat bs ts) (flat ns ts) (none_fell t) (flat_fell bs ns ts rs h.1))
+flat_fell : (bs ns : List (List ℕ)) (rs : Answers) → Moved bs ns rs → NoneFell (flat bs) (flat ns)
+flat_fell bs ns [] h = subst (λ xs. NoneFell (flat bs) (flat xs)) (sym h) (none_fell (flat bs))
+flat_fell [] ns (r ∷ rs) h = absurd h
+flat_fell (b ∷ bs) [] (r ∷ rs) h = absurd h
+flat_fell (b ∷ bs) (n ∷ ns) (r ∷ rs) h = both_fell b n (flat bs) (flat ns) h.0.later (flat_fell bs ns rs h.1)
 
 rose_by : (b n : List ℕ) (r : Result (List Row) FileError) → HaveFaultCause {T = List Row} {E = FileError} (λ e. e ≡ Read) b n r → r ≡ Err Read → SomeRose b n
 rose_by b n r h is = (subst (λ (x : Result (List Row) FileError). HaveFaultCause {T = List Row} {E = FileError} (λ e. e ≡ Read) b n x) is h).failed refl
 
-flat_rose : (bs ns rests : List (List ℕ)) (rs : Answers) → Moved bs ns rs → IsSomeBy Read rs → SomeRose (flat bs rests) (flat ns rests)
-flat_rose bs ns rests [] h some = absurd some
-flat_rose [] ns rests (r ∷ rs) h some = absurd h
-flat_rose (b ∷ bs) [] rests (r ∷ rs) h some = absurd h
-flat_rose (b ∷ bs) (n ∷ ns) [] (r ∷ rs) h some = elim some [
-  | inl is ↦ rose_here b n (flat bs []) (flat ns []) (rose_by b n r h.0 is)
-  | inr more ↦ rose_there b n (flat bs []) (flat ns []) h.0.later (flat_rose bs ns [] rs h.1 more)
-]
-flat_rose (b ∷ bs) (n ∷ ns) (t ∷ ts) (r ∷ rs) h some = elim some [
-  | inl is ↦ rose_here b n (t ++ flat bs ts) (t ++ flat ns ts) (rose_by b n r h.0 is)
-  | inr more ↦ rose_there b n (t ++ flat bs ts) (t ++ flat ns ts) h.0.later (rose_there t t (flat bs ts) (flat ns ts) (none_fell t) (flat_rose bs ns ts rs h.1 more))
+flat_rose : (bs ns : List (List ℕ)) (rs : Answers) → Moved bs ns rs → IsSomeBy Read rs → SomeRose (flat bs) (flat ns)
+flat_rose bs ns [] h some = absurd some
+flat_rose [] ns (r ∷ rs) h some = absurd h
+flat_rose (b ∷ bs) [] (r ∷ rs) h some = absurd h
+flat_rose (b ∷ bs) (n ∷ ns) (r ∷ rs) h some = elim some [
+  | inl is ↦ rose_here b n (flat bs) (flat ns) (rose_by b n r h.0 is)
+  | inr more ↦ rose_there b n (flat bs) (flat ns) h.0.later (flat_rose bs ns rs h.1 more)
 ]
 
 -- where no read failed, no count moved
@@ -91,78 +84,56 @@ gained_not [] all = tt
 gained_not (Ok v ∷ rs) all = ((λ (is : Ok v ≡ Err Read). cc), gained_not rs all.1)
 gained_not (Err e ∷ rs) all = absurd all.0
 
-caused_failure : {T : Type 0} (bs ns rests : List (List ℕ)) (rs : Answers) (e : FileError) → Moved bs ns rs → IsFailureOf rs (Some e) → HaveFaultCause {T = T} {E = FileError} (λ x. x ≡ Read) (flat bs rests) (flat ns rests) (Err e)
-caused_failure bs ns rests rs e h why = record {
-  later = flat_fell bs ns rests rs h;
-  failed = λ is. flat_rose bs ns rests rs h (subst (λ x. IsSomeBy x rs) is why.0);
+caused_failure : {T : Type 0} (bs ns : List (List ℕ)) (rs : Answers) (e : FileError) → Moved bs ns rs → IsFailureOf rs (Some e) → HaveFaultCause {T = T} {E = FileError} (λ x. x ≡ Read) (flat bs) (flat ns) (Err e)
+caused_failure bs ns rs e h why = record {
+  later = flat_fell bs ns rs h;
+  failed = λ is. flat_rose bs ns rs h (subst (λ x. IsSomeBy x rs) is why.0);
   quiet = tt;
   other = λ never. elim why.1 [
     | inl is ↦ absurd (never is)
-    | inr none ↦ ap (λ xs. flat xs rests) (moved_same bs ns rs h none)
+    | inr none ↦ ap flat (moved_same bs ns rs h none)
   ];
 }
 
-caused_gained : {T : Type 0} (bs ns rests : List (List ℕ)) (rs : Answers) (v : T) → Moved bs ns rs → AllByRecursion IsGained rs → HaveFaultCause {T = T} {E = FileError} (λ x. x ≡ Read) (flat bs rests) (flat ns rests) (Ok v)
-caused_gained bs ns rests rs v h all = record {
-  later = flat_fell bs ns rests rs h;
+caused_gained : {T : Type 0} (bs ns : List (List ℕ)) (rs : Answers) (v : T) → Moved bs ns rs → AllByRecursion IsGained rs → HaveFaultCause {T = T} {E = FileError} (λ x. x ≡ Read) (flat bs) (flat ns) (Ok v)
+caused_gained bs ns rs v h all = record {
+  later = flat_fell bs ns rs h;
   failed = tt;
-  quiet = ap (λ xs. flat xs rests) (moved_same bs ns rs h (gained_not rs all));
+  quiet = ap flat (moved_same bs ns rs h (gained_not rs all));
   other = tt;
 }
 
 -- ---- of inputs
 
 module _ {R : Type 0} (faults : R → ℕ) where
-  rest_of : Vec (TaskView R) Global → List ℕ
-  rest_of views = faults_of faults (flat_map own_inputs views.items)
-
   abbrev counts_of : List (List (Input R)) → List (List ℕ)
   counts_of lists = map (faults_of faults) lists
 
-  flat_spares : (ss : List (Spare R)) → faults_of faults (flat_map spare_inputs ss) ≡ flat (counts_of (items_of (map (λ (s : Spare R). s.inputs) ss))) (map rest_of (views_of ss))
-  unfolding rest_of
+  flat_spares : (ss : List (Spare R)) → faults_of faults (flat_map spare_inputs ss) ≡ flat (counts_of (items_of (map (λ (s : Spare R). s.inputs) ss)))
   flat_spares [] = refl
-  flat_spares (s ∷ ss) =
-      let own : List (Input R) = flat_map own_inputs s.views.items in
-      let more : List (Input R) = flat_map spare_inputs ss in
-      faults_append faults (s.inputs.items ++ own) more
-      ∙ ap (λ ns. ns ++ faults_of faults more) (faults_append faults s.inputs.items own)
-      ∙ append_assoc (faults_of faults s.inputs.items) (faults_of faults own) (faults_of faults more)
-      ∙ ap (λ ns. faults_of faults s.inputs.items ++ (faults_of faults own ++ ns)) (flat_spares ss)
+  flat_spares (s ∷ ss) = faults_append faults s.inputs.items (flat_map spare_inputs ss) ∙ ap (λ ns. faults_of faults s.inputs.items ++ ns) (flat_spares ss)
 
-  flat_lists : (inputs : Vec (Input R) Global) (more : List (Input R)) (ss : List (Spare R))
-      → faults_of faults ((inputs.items ++ more) ++ flat_map spare_inputs ss) ≡ flat (counts_of (items_of (lists_of inputs ss))) (faults_of faults more ∷ map rest_of (views_of ss))
-  flat_lists inputs more ss =
-      let all : List (Input R) = flat_map spare_inputs ss in
-      faults_append faults (inputs.items ++ more) all
-      ∙ ap (λ ns. ns ++ faults_of faults all) (faults_append faults inputs.items more)
-      ∙ append_assoc (faults_of faults inputs.items) (faults_of faults more) (faults_of faults all)
-      ∙ ap (λ ns. faults_of faults inputs.items ++ (faults_of faults more ++ ns)) (flat_spares ss)
+  flat_lists : (inputs : Vec (Input R) Global) (ss : List (Spare R)) → faults_of faults (inputs.items ++ flat_map spare_inputs ss) ≡ flat (counts_of (items_of (lists_of inputs ss)))
+  flat_lists inputs ss = faults_append faults inputs.items (flat_map spare_inputs ss) ∙ ap (λ ns. faults_of faults inputs.items ++ ns) (flat_spares ss)
 
-  -- the counts of a task's lists, with others in their midst, moved as the answers say
-  pub caused_lists : {T : Type 0} (old new : Vec (Input R) Global) (more : List (Input R)) (os ns : List (Spare R)) (rs : Answers) (e : FileError) → views_of ns ≡ views_of os → Moved (counts_of (items_of (lists_of old os))) (counts_of (items_of (lists_of new ns))) rs → IsFailureOf rs (Some e)
-      → HaveFaultCause {T = T} {E = FileError} (λ x. x ≡ Read) (faults_of faults (old.items ++ more ++ flat_map spare_inputs os)) (faults_of faults (new.items ++ more ++ flat_map spare_inputs ns)) (Err e)
-  caused_lists {T = T} old new more os ns rs e views h why =
-      let rests : List (List ℕ) = faults_of faults more ∷ map rest_of (views_of os) in
-      let before = flat_lists old more os in
-      let now = flat_lists new more ns ∙ ap (λ vs. flat (counts_of (items_of (lists_of new ns))) (faults_of faults more ∷ map rest_of vs)) views in
-      subst (λ xs. HaveFaultCause {T = T} {E = FileError} (λ x. x ≡ Read) xs (faults_of faults (new.items ++ more ++ flat_map spare_inputs ns)) (Err e)) (sym before)
-      (subst (λ xs. HaveFaultCause {T = T} {E = FileError} (λ x. x ≡ Read) (flat (counts_of (items_of (lists_of old os))) rests) xs (Err e)) (sym now) (caused_failure {T = T} _ _ rests rs e h why))
+  -- the counts of a task's lists moved as the answers say
+  pub caused_lists : {T : Type 0} (old new : Vec (Input R) Global) (os ns : List (Spare R)) (rs : Answers) (e : FileError) → Moved (counts_of (items_of (lists_of old os))) (counts_of (items_of (lists_of new ns))) rs → IsFailureOf rs (Some e)
+      → HaveFaultCause {T = T} {E = FileError} (λ x. x ≡ Read) (faults_of faults (old.items ++ flat_map spare_inputs os)) (faults_of faults (new.items ++ flat_map spare_inputs ns)) (Err e)
+  caused_lists {T = T} old new os ns rs e h why =
+      subst (λ xs. HaveFaultCause {T = T} {E = FileError} (λ x. x ≡ Read) xs (faults_of faults (new.items ++ flat_map spare_inputs ns)) (Err e)) (sym (flat_lists old os))
+      (subst (λ xs. HaveFaultCause {T = T} {E = FileError} (λ x. x ≡ Read) (flat (counts_of (items_of (lists_of old os)))) xs (Err e)) (sym (flat_lists new ns)) (caused_failure {T = T} _ _ rs e h why))
 
-  pub gained_lists : {T : Type 0} (old new : Vec (Input R) Global) (more : List (Input R)) (os ns : List (Spare R)) (rs : Answers) (v : T) → views_of ns ≡ views_of os → Moved (counts_of (items_of (lists_of old os))) (counts_of (items_of (lists_of new ns))) rs → AllByRecursion IsGained rs
-      → HaveFaultCause {T = T} {E = FileError} (λ x. x ≡ Read) (faults_of faults (old.items ++ more ++ flat_map spare_inputs os)) (faults_of faults (new.items ++ more ++ flat_map spare_inputs ns)) (Ok v)
-  gained_lists {T = T} old new more os ns rs v views h all =
-      let rests : List (List ℕ) = faults_of faults more ∷ map rest_of (views_of os) in
-      let before = flat_lists old more os in
-      let now = flat_lists new more ns ∙ ap (λ vs. flat (counts_of (items_of (lists_of new ns))) (faults_of faults more ∷ map rest_of vs)) views in
-      subst (λ xs. HaveFaultCause {T = T} {E = FileError} (λ x. x ≡ Read) xs (faults_of faults (new.items ++ more ++ flat_map spare_inputs ns)) (Ok v)) (sym before)
-      (subst (λ xs. HaveFaultCause {T = T} {E = FileError} (λ x. x ≡ Read) (flat (counts_of (items_of (lists_of old os))) rests) xs (Ok v)) (sym now) (caused_gained _ _ rests rs v h all))
+  pub gained_lists : {T : Type 0} (old new : Vec (Input R) Global) (os ns : List (Spare R)) (rs : Answers) (v : T) → Moved (counts_of (items_of (lists_of old os))) (counts_of (items_of (lists_of new ns))) rs → AllByRecursion IsGained rs
+      → HaveFaultCause {T = T} {E = FileError} (λ x. x ≡ Read) (faults_of faults (old.items ++ flat_map spare_inputs os)) (faults_of faults (new.items ++ flat_map spare_inputs ns)) (Ok v)
+  gained_lists {T = T} old new os ns rs v h all =
+      subst (λ xs. HaveFaultCause {T = T} {E = FileError} (λ x. x ≡ Read) xs (faults_of faults (new.items ++ flat_map spare_inputs ns)) (Ok v)) (sym (flat_lists old os))
+      (subst (λ xs. HaveFaultCause {T = T} {E = FileError} (λ x. x ≡ Read) (flat (counts_of (items_of (lists_of old os)))) xs (Ok v)) (sym (flat_lists new ns)) (caused_gained _ _ rs v h all))
 
   -- where no list was touched no count moved
-  pub unread_lists : {T : Type 0} (old new : Vec (Input R) Global) (more : List (Input R)) (os ns : List (Spare R)) → views_of ns ≡ views_of os → lists_of new ns ≡ lists_of old os
-      → HaveFaultCause {T = T} {E = FileError} (λ x. x ≡ Read) (faults_of faults (old.items ++ more ++ flat_map spare_inputs os)) (faults_of faults (new.items ++ more ++ flat_map spare_inputs ns)) (Err Memory)
-  unread_lists {T = T} old new more os ns views same =
-      memory_caused {T = T} _ _ (flat_lists new more ns ∙ (λ i. flat (counts_of (items_of (same i))) (faults_of faults more ∷ map rest_of (views i))) ∙ sym (flat_lists old more os))
+  pub unread_lists : {T : Type 0} (old new : Vec (Input R) Global) (os ns : List (Spare R)) → lists_of new ns ≡ lists_of old os
+      → HaveFaultCause {T = T} {E = FileError} (λ x. x ≡ Read) (faults_of faults (old.items ++ flat_map spare_inputs os)) (faults_of faults (new.items ++ flat_map spare_inputs ns)) (Err Memory)
+  unread_lists {T = T} old new os ns same =
+      memory_caused {T = T} _ _ (flat_lists new ns ∙ ap (λ (ls : List (Vec (Input R) Global)). flat (counts_of (items_of ls))) same ∙ sym (flat_lists old os))
 
 -- ---- pieces that were merged side by side
 

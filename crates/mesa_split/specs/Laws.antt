@@ -1,24 +1,21 @@
 -- Laws of parts, and of files of one content.
-use Rattle.std.specs.Prelude.{◌≡◌, ℕ, List, [], ◌∷◌, slice_get, IsTrue, Option, None, Some, ⊤}
+use Rattle.std.specs.Prelude.{◌≡◌, ℕ, List, [], ◌∷◌, IsTrue, Option, None, Some, ⊤}
 use Rattle.mesa_compact.specs.mesa_columns.declared.rows.Row.{Row}
-use Rattle.mesa_compact.specs.mesa_columns.declared.views.View.{View}
 use Rattle.mesa_compact.specs.mesa_columns.Columns.{Columns, aggs_of}
-use Rattle.mesa_schema.specs.Changes.{Lineage, columns_of}
+use Rattle.mesa_schema.specs.Changes.{Lineage}
 use Rattle.mesa_open_files.specs.mesa_fold.Folded.{folded, rows_of}
 use Rattle.mesa_compact.specs.mesa_columns.Rows.{AreRowsOf, keys_rise}
-use Rattle.mesa_schema.specs.Views.{view_columns, view_rows}
 use Rattle.mesa_compact.specs.mesa_scan.Cut.{CutsRise}
 use Rattle.mesa_merge.specs.Inputs.{Known, lifted_parts}
 use Rattle.mesa_merge.specs.Inputs.{AreTold as AreToldKnowns}
-use Rattle.mesa_open_files.specs.Inputs.{AreTold, present_parts}
+use Rattle.mesa_open_files.specs.Inputs.{AreTold}
 use Rattle.mesa_open_files.specs.Made.{Content, IsMadeFile}
-use Rattle.mesa_open_files.specs.Tasks.{IsMerged, MergeOnlyTo}
+use Rattle.mesa_open_files.specs.Tasks.{IsMerged}
 use Rattle.mesa_open_files.specs.declared.made.MadeFile.{MadeFile}
 use Rattle.mesa_open_files.specs.declared.made.MadeFiles.{MadeFiles}
 use Rattle.mesa_open_files.specs.declared.made.MadeView.{MadeView}
 use Rattle.mesa_open_files.specs.declared.merging.NewDelta.{NewDelta}
 use Rattle.mesa_open_files.specs.declared.merging.Task.{Task}
-use Rattle.mesa_open_files.specs.declared.merging.TaskView.{TaskView}
 use Rattle.mesa_split.specs.Parts.{ArePartsOf}
 
 -- The parts at rising cuts, one after the other, make a file's rows on every store: they have the form, and their keys rise.
@@ -52,12 +49,7 @@ AreSameDeltas bytes None (Some b) = ⊥
 AreSameDeltas bytes (Some a) None = ⊥
 AreSameDeltas bytes (Some a) (Some b) = AreSameFiles bytes a.file b.file × AreSameViews bytes a.views.items b.views.items
 
--- The own files of views, where there are any, merge to nothing but these rows, grouped.
-abbrev pub OwnAgree : {R : Type 0} → (R → Option (List ℕ)) → Columns → List Row → List View → List (TaskView R) → Type 0
-OwnAgree {R = R} read s rows views tasks = (i : ℕ) (v : View) (t : TaskView R) → slice_get views i ≡ Some v → slice_get tasks i ≡ Some t → MergeOnlyTo read (view_columns s v) (view_rows s v rows) t.inputs
-
--- A task whose files are told is merged in one way alone: whoever merges it, whole or in parts, at whichever cuts, and however often, makes the same files but for their ids. Where views have own files these have to say what the table's do.
+-- A task whose files are told is merged in one way alone: whoever merges it, whole or in parts, at whichever cuts, and however often, makes the same files but for their ids.
 abbrev pub OneDelta : {M R : Type 0} → (M → Option (List ℕ)) → (M → ℕ) → (R → Option (List ℕ)) → Type 0
 OneDelta {M = M} {R = R} bytes id_of read = (l : Lineage) (t : Task R) (a b : NewDelta M) (contents : List (List Row)) → AreTold read t.inputs.items contents
-    → OwnAgree read (columns_of l) (folded (aggs_of (columns_of l)) (present_parts t.inputs.items contents)) l.views t.views.items
     → IsMerged bytes id_of read l t a → IsMerged bytes id_of read l t b → AreSameDeltas bytes a.files b.files

@@ -17,7 +17,6 @@ use Rattle.mesa_compact.specs.mesa_columns.declared.rows.Row.{Row}
 use Rattle.mesa_delta.specs.declared.error.FileError.{FileError}
 use Rattle.mesa_delta.specs.declared.input.Input.{Input}
 use Rattle.mesa_open_files.specs.declared.merging.Spare.{Spare}
-use Rattle.mesa_open_files.specs.declared.merging.TaskView.{TaskView}
 use Rattle.mesa_split.specs.declared.parts.Part.{Part}
 
 -- all lists of inputs: the first part's, and then each spare's
@@ -26,10 +25,6 @@ lists_of {R = R} inputs spares = inputs ∷ map (λ (s : Spare R). s.inputs) spa
 
 abbrev pub items_of : {R : Type 0} → List (Vec (Input R) Global) → List (List (Input R))
 items_of {R = R} lists = map (λ (v : Vec (Input R) Global). v.items) lists
-
--- the views of spares
-abbrev pub views_of : {R : Type 0} → List (Spare R) → List (Vec (TaskView R) Global)
-views_of {R = R} spares = map (λ (s : Spare R). s.views) spares
 
 -- the lists that parts have, and what came of each
 abbrev pub lists_in : {R : Type 0} → List (Part R) → List (Vec (Input R) Global)

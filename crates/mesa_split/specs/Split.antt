@@ -47,7 +47,7 @@ pub record IsSpareDamage {R : Type 0} (bytes : R → Option (List ℕ)) (size : 
 
 -- damage that is met where a task is merged in parts: of the task's own inputs or of a spare's. A total over rows of several parts is told of the newest of the task's own inputs.
 abbrev pub IsPartsDamage : {R : Type 0} → (R → Option (List ℕ)) → (R → ℕ) → Task R → Damage → Type 0
-IsPartsDamage bytes size t d = IsFilesDamage bytes size t.inputs.items t.views.items d ⊎ IsSpareDamage bytes size t.spare.items d
+IsPartsDamage bytes size t d = IsFilesDamage bytes size t.inputs.items d ⊎ IsSpareDamage bytes size t.spare.items d
 
 -- Which damage is told where a task is merged in parts, by the task before and after: the damage that was met when its files were opened, and only where there was none, one that was met in merging them.
 abbrev pub IsSplitDamage : {R : Type 0} → (R → Option (List ℕ)) → (R → ℕ) → Task R → Task R → Damage → Type 0

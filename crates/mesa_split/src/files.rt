@@ -30,7 +30,7 @@ pub(crate) fn range_file<T: Threads + Sync, M: Made, B: Bench<M>, R: FileReader>
     schema: &Schema,
     cuts: &KeyList,
     parts: &mut [Part<R>],
-    groups: &mut Vec<Option<Groups>>,
+    groups: &mut Vec<Groups>,
     newest: FileId,
 ) -> Result<Option<MadeFile<M>>, CompactError>
     requires cuts { CutsRise None cuts.now }

@@ -1,6 +1,6 @@
 // The inputs of a task and its spares, lent to parts that merge side by side.
 ghost use Rattle.std.specs.Prelude.{◌≡◌, ◌≤◌, ◌+◌, [], length, IfOk, OnErr};
-ghost use Rattle.mesa_split.specs.Lending.{AreEmpty, AreLent, lists_in, lists_of, returned, views_of};
+ghost use Rattle.mesa_split.specs.Lending.{AreEmpty, AreLent, lists_in, lists_of, returned};
 
 use crate::parts::Part;
 use mesa_delta::{FileError, Input};
@@ -21,7 +21,6 @@ pub(crate) fn lend<R: FileReader>(
     ensures count { IfOk result (λ parts. length parts.items ≡ further + 1) }
     ensures lent { IfOk result (λ parts. AreLent (lists_of inputs.old spare.old) (lists_of inputs.new spare.new) (lists_in parts.items)) }
     ensures unread { OnErr result (lists_of inputs.new spare.new ≡ lists_of inputs.old spare.old) }
-    ensures views { views_of spare.new ≡ views_of spare.old }
 {
     let mut parts = match Vec::with_capacity(alloc, further + 1) {
         Ok(parts) => parts,
@@ -49,7 +48,6 @@ fn part_of<R: FileReader>(alloc: Global, inputs: &mut Vec<Input<R>>) -> Part<R>
 fn spare_part<R: FileReader>(alloc: Global, spare: &mut Spare<R>) -> Part<R>
     ensures lent { result.inputs ≡ spare.old.inputs }
     ensures empty { spare.new.inputs.items ≡ [] }
-    ensures views { spare.new.views ≡ spare.old.views }
 {
     part_of(alloc, &mut spare.inputs)
 }
@@ -64,8 +62,7 @@ pub(crate) fn give_back<R: FileReader>(
     requires count { length parts.items ≡ further + 1 }
     requires few { further ≤ length spare.old }
     requires empty { AreEmpty (further + 1) (lists_of inputs.old spare.old) }
-    ensures lists { lists_of inputs.new spare.new ≡ returned (lists_of inputs.old spare.old) (lists_in parts.items) }
-    ensures views { views_of spare.new ≡ views_of spare.old }
+    ensures { lists_of inputs.new spare.new ≡ returned (lists_of inputs.old spare.old) (lists_in parts.items) }
 {
     let mut left = VecDeque::from_vec(parts);
     let Some(first) = left.pop_front() else {
@@ -97,8 +94,7 @@ fn put_back<R: FileReader>(part: Part<R>, inputs: &mut Vec<Input<R>>)
 // A part's inputs go to a spare that has none.
 fn spare_put_back<R: FileReader>(part: Part<R>, spare: &mut Spare<R>)
     requires { spare.old.inputs.items ≡ [] }
-    ensures inputs { spare.new.inputs ≡ part.inputs }
-    ensures views { spare.new.views ≡ spare.old.views }
+    ensures { spare.new.inputs ≡ part.inputs }
 {
     put_back(part, &mut spare.inputs)
 }

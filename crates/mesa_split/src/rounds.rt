@@ -39,7 +39,7 @@ pub(crate) fn pour_pieces<T: Threads + Sync, M: Made, D: Draft<M>, R: FileReader
     parts: &mut [Part<R>],
     writer: &mut DeltaWriter<M, Held<M, D>>,
     draft: &mut D,
-    groups: &mut Vec<Option<Groups>>,
+    groups: &mut Vec<Groups>,
     newest: FileId,
 ) -> Result<bool, CompactError>
     requires cuts { CutsRise None cuts.now }
@@ -87,7 +87,7 @@ fn next_round<T: Threads + Sync, M: Made, D: Draft<M>, R: FileReader>(
     writer: &mut DeltaWriter<M, Held<M, D>>,
     draft: &mut D,
     held: &[Result<FlatRows, FileError>],
-    groups: &mut Vec<Option<Groups>>,
+    groups: &mut Vec<Groups>,
     newest: FileId,
 ) -> Result<Vec<Result<FlatRows, FileError>>, CompactError>
     requires ready { AreReady R.bytes schema.now parts.old }
@@ -123,7 +123,7 @@ fn last_round<M: Made, D: Draft<M>>(
     writer: &mut DeltaWriter<M, Held<M, D>>,
     draft: &mut D,
     held: &[Result<FlatRows, FileError>],
-    groups: &mut Vec<Option<Groups>>,
+    groups: &mut Vec<Groups>,
     newest: FileId,
 ) -> Result<(), CompactError>
     requires poured { (given : List AnyRow) × HasPoured (held_bytes D.bytes) writer.old groups.old.items given × IsTrue (keys_rise (given ++ joined held.now)) }
@@ -148,7 +148,7 @@ fn round<T: Threads + Sync, M: Made, D: Draft<M>, R: FileReader>(
     parts: &mut [Part<R>],
     writer: &mut DeltaWriter<M, D>,
     held: &[Result<FlatRows, FileError>],
-    groups: &mut Vec<Option<Groups>>,
+    groups: &mut Vec<Groups>,
     newest: FileId,
 ) -> Result<(), CompactError>
     requires ready { AreReady R.bytes schema.now parts.old }
@@ -195,7 +195,7 @@ fn write_pieces<M: Made, D: Draft<M>>(
     alloc: Global,
     writer: &mut DeltaWriter<M, D>,
     held: &[Result<FlatRows, FileError>],
-    groups: &mut Vec<Option<Groups>>,
+    groups: &mut Vec<Groups>,
     newest: FileId,
 ) -> Result<(), CompactError>
     requires poured { (given : List AnyRow) × HasPoured D.bytes writer.old groups.old.items given × IsTrue (keys_rise (given ++ joined held.now)) }

@@ -113,7 +113,7 @@ fn split_files<T: Threads + Sync, M: Made, B: Bench<M>, R: FileReader>(
     let Ok(seen) = regroupings(alloc, evolving) else {
         return Err(CompactError::File(FileError::Memory));
     };
-    let Ok(mut groups) = gatherers_of(alloc, evolving.present(), &task.views, &seen) else {
+    let Ok(mut groups) = gatherers_of(alloc, evolving.present(), &seen) else {
         return Err(CompactError::File(FileError::Memory));
     };
     let id = ids.draw();
@@ -135,7 +135,7 @@ fn split_files<T: Threads + Sync, M: Made, B: Bench<M>, R: FileReader>(
         Ok(None) => return Ok(None),
         Err(error) => return Err(error),
     };
-    match view_files(alloc, bench, ids, evolving, &mut task.views, groups, newest) {
+    match view_files(alloc, bench, ids, evolving, groups, newest) {
         Ok(views) => Ok(Some(MadeFiles { file, views })),
         Err(error) => Err(error),
     }

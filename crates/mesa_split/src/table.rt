@@ -5,7 +5,6 @@ ghost use Rattle.mesa_file.specs.declared.damage.Damage.{Damage as AnyDamage};
 ghost use Rattle.mesa_compact.specs.mesa_columns.declared.rows.Row.{Row as AnyRow};
 ghost use Rattle.mesa_schema.specs.Changes.{columns_of};
 ghost use Rattle.mesa_answer.specs.Answering.{KeepsSums};
-ghost use Rattle.mesa_delta.specs.declared.input.Input.{Input as AnyInput};
 ghost use Rattle.mesa_compact.specs.mesa_scan.Cursors.{IsInput};
 ghost use Rattle.mesa_compact.specs.mesa_scan.Cut.{CutsRise};
 ghost use Rattle.mesa_merge.specs.Faults.{faults_of};
@@ -16,7 +15,8 @@ ghost use Rattle.mesa_open_files.specs.Spares.{AreSpareInputs};
 ghost use Rattle.mesa_open_files.specs.declared.merging.Spare.{Spare as AnySpare};
 ghost use Rattle.mesa_compact.specs.Bounded.{AreBounded};
 ghost use Rattle.mesa_compact.specs.Damaged.{IsMergeDamage};
-ghost use Rattle.mesa_compact.specs.Grouping.{HavePut, TakesRows, wanted_in};
+ghost use Rattle.mesa_answer.specs.Gathered.{wanted_of};
+ghost use Rattle.mesa_compact.specs.Grouping.{HavePut, TakesRows};
 ghost use Rattle.mesa_compact.specs.Writing.{HasCauses, damaged_by};
 ghost use Rattle.mesa_split.specs.Rounds.{IsFrontTotal, IsRangeFile};
 ghost use Rattle.mesa_split.specs.Split.{IsSpareDamage};
@@ -44,7 +44,7 @@ pub(crate) fn table_file<T: Threads + Sync, M: Made, B: Bench<M>, R: FileReader>
     further: usize,
     inputs: &mut Vec<Input<R>>,
     spare: &mut [Spare<R>],
-    groups: &mut Vec<Option<Groups>>,
+    groups: &mut Vec<Groups>,
     newest: FileId,
 ) -> Result<Option<MadeFile<M>>, CompactError>
     requires cuts { CutsRise None cuts.now }
@@ -55,13 +55,12 @@ pub(crate) fn table_file<T: Threads + Sync, M: Made, B: Bench<M>, R: FileReader>
     requires takes { AllByRecursion (TakesRows (columns_of evolving.now)) groups.old.items }
     ensures file { IfOk result (λ made. (rows : List AnyRow) × IsMergeOf R.bytes (columns_of evolving.now) inputs.old.items rows × IsRangeFile M.bytes M.id_of (columns_of evolving.now) id rows groups.new.items made
         × (AreBounded (columns_of evolving.now) (knowns_of R.bytes inputs.old.items) → KeepsSums (columns_of evolving.now) rows)) }
-    ensures wanted { map wanted_in groups.new.items ≡ map wanted_in groups.old.items }
+    ensures wanted { map wanted_of groups.new.items ≡ map wanted_of groups.old.items }
     ensures known { knowns_of R.bytes inputs.new.items ≡ knowns_of R.bytes inputs.old.items }
     ensures kept { AllByRecursion (IsInput R.bytes) inputs.new.items }
     ensures spare_known { map (λ (s : AnySpare R). knowns_of R.bytes s.inputs.items) spare.new ≡ map (λ (s : AnySpare R). knowns_of R.bytes s.inputs.items) spare.old }
     ensures spare_kept { AllByRecursion (λ (s : AnySpare R). AllByRecursion (IsInput R.bytes) s.inputs.items) spare.new }
-    ensures views { map (λ (s : AnySpare R). s.views) spare.new ≡ map (λ (s : AnySpare R). s.views) spare.old }
-    ensures causes { (more : List (AnyInput R)) → HasCauses (B.faults bench.old) (B.faults bench.new) (faults_of R.faults (inputs.old.items ++ more ++ flat_map spare_inputs spare.old)) (faults_of R.faults (inputs.new.items ++ more ++ flat_map spare_inputs spare.new))
+    ensures causes { HasCauses (B.faults bench.old) (B.faults bench.new) (faults_of R.faults (inputs.old.items ++ flat_map spare_inputs spare.old)) (faults_of R.faults (inputs.new.items ++ flat_map spare_inputs spare.new))
         (λ d. (IsMergeDamage R.bytes R.size inputs.new.items d ⊎ IsSpareDamage R.bytes R.size spare.new d) ⊎ IsFrontTotal (columns_of evolving.now) (knowns_of R.bytes inputs.old.items) newest d) result }
     ensures accepts { IfErr result (λ e. (d : AnyDamage) → e ≡ damaged_by d → AreBounded (columns_of evolving.now) (knowns_of R.bytes inputs.old.items) → ⊥) }
 {

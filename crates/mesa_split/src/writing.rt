@@ -8,7 +8,8 @@ ghost use Rattle.mesa_delta.specs.Writing.{columns_of, draft_of, id_of};
 ghost use Rattle.mesa_answer.specs.Answering.{KeepsSums};
 ghost use Rattle.mesa_merge.specs.Sums.{sum_damage};
 ghost use Rattle.mesa_compact.specs.Damaged.{LeavesAmong, RowLeaves};
-ghost use Rattle.mesa_compact.specs.Grouping.{TakesRows, wanted_in};
+ghost use Rattle.mesa_answer.specs.Gathered.{wanted_of};
+ghost use Rattle.mesa_compact.specs.Grouping.{TakesRows};
 ghost use Rattle.mesa_compact.specs.Writing.{HasCauses, damaged_by};
 ghost use Rattle.mesa_split.specs.Parts.{gained, joined};
 ghost use Rattle.mesa_split.specs.Written.{HasPoured, HasWritten};
@@ -27,7 +28,7 @@ pub(crate) fn write_parts<M: Made, T: Draft<M>>(
     alloc: Global,
     writer: &mut DeltaWriter<M, T>,
     parts: &[Result<FlatRows, FileError>],
-    groups: &mut [Option<Groups>],
+    groups: &mut [Groups],
     newest: FileId,
 ) -> Result<(), CompactError>
     requires poured { (given : List AnyRow) × HasPoured T.bytes writer.old groups.old given × IsTrue (keys_rise (given ++ joined parts.now)) }
@@ -60,7 +61,7 @@ fn rows_of_part<'a>(part: &'a Result<FlatRows, FileError>, none: &'a FlatRows) -
 fn write_rows<M: Made, T: Draft<M>>(
     writer: &mut DeltaWriter<M, T>,
     rows: &FlatRows,
-    groups: &mut [Option<Groups>],
+    groups: &mut [Groups],
     newest: FileId,
 ) -> Result<(), CompactError>
     requires poured { (given : List AnyRow) × HasPoured T.bytes writer.old groups.old given × IsTrue (keys_rise (given ++ rows.now)) }
@@ -70,7 +71,7 @@ fn write_rows<M: Made, T: Draft<M>>(
     ensures columns { columns_of writer.new ≡ columns_of writer.old }
     ensures id { id_of writer.new ≡ id_of writer.old }
     ensures draft { T.id_of (draft_of writer.new) ≡ T.id_of (draft_of writer.old) }
-    ensures wanted { map wanted_in groups.new ≡ map wanted_in groups.old }
+    ensures wanted { map wanted_of groups.new ≡ map wanted_of groups.old }
     ensures causes { (reads : List ℕ) → HasCauses (T.faults (draft_of writer.old)) (T.faults (draft_of writer.new)) reads reads
         (λ d. (d ≡ sum_damage newest) × ((given : List AnyRow) → HasPoured T.bytes writer.old groups.old given → IsTrue (keys_rise (given ++ rows.now)) → LeavesAmong (RowLeaves (columns_of writer.old)) (given ++ rows.now))) result }
     ensures accepts { IfErr result (λ e. (d : AnyDamage) → e ≡ damaged_by d → (given : List AnyRow) → HasPoured T.bytes writer.old groups.old given → IsTrue (keys_rise (given ++ rows.now)) → KeepsSums (columns_of writer.old) (given ++ rows.now) → ⊥) }

@@ -1,10 +1,10 @@
 // Files merged into one.
-ghost use Rattle.std.specs.Prelude.{◌≡◌, [], IfOk, None};
+ghost use Rattle.std.specs.Prelude.{◌≡◌, [], None};
 ghost use Rattle.std.specs.List.{AllByRecursion};
 ghost use Rattle.mesa_file.specs.declared.file_ref.FileRef.{FileRef as AnyFile};
 ghost use Rattle.mesa_open_files.specs.Spares.{IsSpareOf};
 ghost use Rattle.mesa_open_files.specs.Tasks.{IsTask};
-ghost use Rattle.mesa_file_tests.specs.Opened.{AreOpened, HaveNoFiles, IsOpenedPart};
+ghost use Rattle.mesa_file_tests.specs.Opened.{AreOpened, IsOpenedPart};
 
 use crate::merge::files::{Form, file_of, input_of, reader_of, table};
 use mesa_compact::merge_task;
@@ -12,11 +12,11 @@ use mesa_delta::Input;
 use mesa_disk::{FileId, FileReader, FileRef, MemBench, MemMade, MemReader};
 use mesa_file::Serials;
 use mesa_key::Format;
-use mesa_open_files::{CompactError, NewDelta, Spare, Task, TaskView};
+use mesa_open_files::{CompactError, NewDelta, Spare, Task};
 use mesa_schema::Evolving;
 use mesa_span::Work;
 use mesa_value::{Agg, Amount};
-use std::alloc::{AllocError, Global};
+use std::alloc::Global;
 use std::process::Abort;
 use std::sync::Arc;
 
@@ -70,20 +70,6 @@ pub fn reader_over(
     reader_of(rt, alloc, written.file.id, bytes, fails)
 }
 
-// A table's views, none of which has files of its own.
-fn no_files<R: FileReader + Drop>(
-    alloc: Global,
-    table: &Evolving,
-) -> Result<Vec<TaskView<R>>, AllocError>
-    ensures { IfOk result (λ views. HaveNoFiles R.bytes table.now views.items) }
-{
-    let mut views = Vec::new(alloc);
-    'each: for view in 0..table.views() {
-        views.push(TaskView { view, inputs: None })?;
-    }
-    Ok(views)
-}
-
 /// Inputs over both files.
 pub fn inputs_of<R: FileReader + Drop>(
     rt: &impl Abort,
@@ -106,7 +92,7 @@ pub fn inputs_of<R: FileReader + Drop>(
     inputs
 }
 
-/// The inputs and views of one part of a merge of these files, over readers of both.
+/// The inputs of one part of a merge of these files, over readers of both.
 pub fn part_of<R: FileReader + Drop>(
     rt: &impl Abort,
     alloc: Global,
@@ -119,8 +105,7 @@ pub fn part_of<R: FileReader + Drop>(
     ensures { IsOpenedPart R.bytes files.now.older.file files.now.newer.file table.now.value result }
 {
     let inputs = inputs_of(rt, alloc, files, table, older, newer);
-    let views = no_files(alloc, table).expect(rt, "memory");
-    Spare { inputs, views }
+    Spare { inputs }
 }
 
 /// The task of a merge of two files to a base, with readers for its first part and for further ones.
@@ -135,14 +120,13 @@ pub fn task_of<R: FileReader + Drop>(
     ensures task { IsTask R.bytes table.now result }
     ensures spare { ((r : R) → R.bytes r ≡ None) → AllByRecursion (IsSpareOf R.bytes result) result.spare.items }
 {
-    let Spare { inputs, views } = first;
+    let Spare { inputs } = first;
     Task {
         table: 0,
         work: Work::Base { to: 1 },
         lease: 0,
         epoch: 0,
         inputs,
-        views,
         damage: None,
         spare,
     }

@@ -8,7 +8,8 @@ use Rattle.mesa_open_files.specs.mesa_scan.Cursors.{IsInput}
 use Rattle.mesa_merge.specs.Faults.{faults_of}
 use Rattle.mesa_merge.specs.Inputs.{knowns_of}
 use Rattle.mesa_merge.specs.Merged.{HasMerged, inputs_of}
-use Rattle.mesa_compact.specs.Grouping.{HavePut, wanted_in}
+use Rattle.mesa_answer.specs.Gathered.{wanted_of}
+use Rattle.mesa_compact.specs.Grouping.{HavePut}
 use Rattle.mesa_compact.proofs.pouring.pour.Given as goal
 
 abbrev pub invariant-rows : goal.invariant-rows
@@ -20,7 +21,7 @@ invariant-rows g l = record {
   known : knowns_of g.R.FileReader.bytes (inputs_of l.merge) ≡ knowns_of g.R.FileReader.bytes (inputs_of l.fn.merge);
   inputs : AllByRecursion (IsInput g.R.FileReader.bytes) (inputs_of l.fn.merge) → AllByRecursion (IsInput g.R.FileReader.bytes) (inputs_of l.merge);
   reads : faults_of g.R.FileReader.faults (inputs_of l.merge) ≡ faults_of g.R.FileReader.faults (inputs_of l.fn.merge);
-  wanted : map wanted_in l.groups ≡ map wanted_in l.fn.groups;
+  wanted : map wanted_of l.groups ≡ map wanted_of l.fn.groups;
   poured : (givens : List (List Row)) → HasMerged g.R.FileReader.bytes (columns_of l.fn.writer) l.fn.merge givens → HasTaken g.T.Draft.bytes l.fn.writer (folded (aggs_of (columns_of l.fn.writer)) givens)
       → HavePut l.fn.groups (folded (aggs_of (columns_of l.fn.writer)) givens)
       → (now : List (List Row)) × HasMerged g.R.FileReader.bytes (columns_of l.writer) l.merge now × HasTaken g.T.Draft.bytes l.writer (folded (aggs_of (columns_of l.writer)) now) × HavePut l.groups (folded (aggs_of (columns_of l.writer)) now);

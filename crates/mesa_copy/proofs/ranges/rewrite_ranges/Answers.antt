@@ -9,7 +9,8 @@ use Rattle.mesa_open_files.specs.declared.recasting.RecastRange.{RecastRange}
 use Rattle.mesa_compact.specs.Bounded.{AreBounded}
 use Rattle.mesa_compact.proofs.Causing.{caused_memory, caused_ok, caused_on}
 use Rattle.mesa_compact.proofs.Putting.{all_at, map_set}
-use Rattle.mesa_compact.proofs.Viewing.{caused_at, drafts_more, set_some}
+use Rattle.mesa_compact.proofs.Viewing.{drafts_more, set_some}
+use Rattle.mesa_copy.proofs.Caused.{caused_at}
 use Rattle.mesa_copy.specs.Copying.{known_range}
 use Rattle.mesa_copy.specs.Renewals.{columns_in}
 use Rattle.mesa_copy.proofs.Numbering.{ids_append, next_both, next_none}

@@ -1,6 +1,5 @@
-use Rattle.std.proofs.Common.{◌≡◌, ◌+◌, ◌∷◌, List, drop, map, take, refl, sym, ap, ◌∙◌, arith, add-one}
+use Rattle.std.proofs.Common.{◌≡◌, ◌+◌, ◌∷◌, List, drop, map, take, sym, ap, ◌∙◌, arith, add-one}
 use Rattle.mesa_open_files.specs.declared.merging.Spare.{Spare}
-use Rattle.mesa_compact.proofs.Putting.{map_set}
 use Rattle.mesa_compact.proofs.Viewing.{drop_some}
 use Rattle.mesa_split.specs.Lending.{lists_in, lists_of, returned}
 use Rattle.mesa_split.specs.declared.parts.Part.{Part}
@@ -15,7 +14,6 @@ spares-init g c =
     record {
       left = ap (drop 1) whole;
       lists = (λ k. c.put_back.ensures k ∷ sym (returned_none (map (λ (s : Spare g.row.R.Denot). s.inputs) c.args.spare.now)) k) ∙ ap (λ (ps : List (Part g.row.R.Denot)). returned spares (take 1 (lists_in ps))) whole;
-      views = refl;
     }
 
 pub spare_put_back-requires-after_bounds : goal.spare_put_back-requires-after_bounds
@@ -37,6 +35,5 @@ spares-preserved g c =
       left = sym next.1 ∙ ap (λ n. drop n parts) (sym (add-one (i + 1)));
       lists = give_step (lists_of own ss) (lists_in parts) c.put_back.new.inputs c.spares.spare i t inv.lists
           (omega (arith, c.spares-test.true, c.requires.few, lists_count own ss)) (omega (arith, c.spares-test.true, c.requires.count, parts_count parts))
-          (c.spare_put_back.ensures.inputs ∙ list_at parts (i + 1) part t.inputs next.0);
-      views = map_set (λ (s : Spare g.row.R.Denot). s.views) c.spares.spare i t d c.spare_put_back.ensures.views ∙ inv.views;
+          (c.spare_put_back.ensures ∙ list_at parts (i + 1) part t.inputs next.0);
     }

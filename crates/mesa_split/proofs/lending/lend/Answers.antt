@@ -1,8 +1,6 @@
 use Rattle.std.proofs.Common.{◌≡◌, ◌+◌, ◌++◌, [], ◌∷◌, List, length, set, refl, sym, ap, subst, ◌∙◌, arith, length-append}
-use Rattle.mesa_open_files.specs.declared.merging.Spare.{Spare}
 use Rattle.mesa_split.specs.Lending.{AreLent, lists_in, lists_of}
 use Rattle.mesa_split.specs.declared.parts.Part.{Part}
-use Rattle.mesa_compact.proofs.Putting.{map_set}
 use Rattle.mesa_split.proofs.Loans.{lend_step}
 use Rattle.mesa_split.proofs.lending.lend.Goals as goal
 
@@ -13,7 +11,6 @@ spares-init g c =
       count = ap length items;
       lent = subst (λ (ps : List (Part g.row.R.Denot)). AreLent (lists_of c.args.inputs.now c.args.spare.now) (lists_of c.part_of.new.inputs c.args.spare.now) (lists_in ps)) (sym items) (c.part_of.ensures.lent, c.part_of.ensures.empty, refl);
       room = c.push_reserved.ensures.capacity ∙ c.in-Ok.ensures.exact;
-      views = refl;
     }
 
 pub spares-preserved : goal.spares-preserved
@@ -29,5 +26,4 @@ spares-preserved g c =
       lent = subst (λ (ps : List (Part g.row.R.Denot)). AreLent (lists_of own c.args.spare.now) (lists_of now (set c.spares.spare i c.spare_part.new.spare)) (lists_in ps)) (sym items)
           (lend_step own now c.args.spare.now c.spares.spare c.spares.parts.items i c.spare_part.result c.spare_part.new.spare d inv.lent inv.count (omega (arith, c.spares-test.true, c.requires)) c.spares.auto.spare c.spare_part.ensures.lent c.spare_part.ensures.empty);
       room = c.push_reserved-in-spares.ensures.capacity ∙ inv.room;
-      views = map_set (λ (s : Spare g.row.R.Denot). s.views) c.spares.spare i c.spare_part.new.spare d c.spare_part.ensures.views ∙ inv.views;
     }

@@ -1,5 +1,4 @@
 use Rattle.std.proofs.Common.{◌≡◌, ◌<◌, List, length, refl, sym, ap, subst, ◌∙◌, arith}
-use Rattle.std.specs.Prelude.{Option}
 use Rattle.std.specs.List.{AllByRecursion}
 use Rattle.mesa_compact.specs.mesa_columns.declared.rows.Row.{Row}
 use Rattle.mesa_compact.specs.mesa_columns.Columns.{Columns}
@@ -40,8 +39,7 @@ returns-in-Err g c =
       kept = each.0;
       spare_known = rest_known bytes own now os ns known;
       spare_kept = spares_inputs bytes now ns each;
-      views = c.in-Err.ensures.views;
-      causes = λ more. caused_memory _ _ _ _ _ refl ((unread_lists g.R.FileReader.faults {T = List Row} own now more os ns c.in-Err.ensures.views same).other (λ (is : Memory ≡ Read). cc));
+      causes = caused_memory _ _ _ _ _ refl ((unread_lists g.R.FileReader.faults {T = List Row} own now os ns same).other (λ (is : Memory ≡ Read). cc));
       accepts = λ d (is : File Memory ≡ damaged_by d). cc;
     }
 
@@ -99,8 +97,8 @@ returns g c =
     let parts = c.in-Ok.parts in
     let ps : List (Part g.row.R.Denot) = parts.items in
     let qs : List (Part g.row.R.Denot) = c.range_file-file.new.parts in
-    let groups : List (Option Groups) = c.args.groups.now.items in
-    let after : List (Option Groups) = c.range_file-file.new.groups.items in
+    let groups : List Groups = c.args.groups.now.items in
+    let after : List Groups = c.range_file-file.new.groups.items in
     let before = g.B.Bench.faults c.args.bench.now in
     let end = g.B.Bench.faults c.range_file-file.new.bench in
     let r = c.range_file-file.result in
@@ -110,8 +108,7 @@ returns g c =
       lent = c.in-Ok.ensures.lent;
       some = omega (arith, c.in-Ok.ensures.count);
       same = same;
-      given_back = c.give_back.ensures.lists ∙ ap (λ (xs : List (Part g.row.R.Denot)). returned (lists_of now ns) (lists_in xs)) refilled;
-      views = c.give_back.ensures.views ∙ c.in-Ok.ensures.views;
+      given_back = c.give_back.ensures ∙ ap (λ (xs : List (Part g.row.R.Denot)). returned (lists_of now ns) (lists_in xs)) refilled;
       inputs = c.requires.inputs;
       spares = c.requires.spare;
     } in
@@ -126,7 +123,6 @@ returns g c =
       kept = own_inputs_back bytes faults size l own now back os ns gs ps qs lent file.inputs.each;
       spare_known = spares_back bytes faults size l own now back os ns gs ps qs lent file.inputs.known;
       spare_kept = spares_inputs_back bytes faults size l own now back os ns gs ps qs lent file.inputs.each;
-      views = lent.views;
-      causes = λ more. table_causes bytes faults size l own now back os ns gs ps qs told drawn c.args.id c.args.newest groups after before end r lent file more;
+      causes = table_causes bytes faults size l own now back os ns gs ps qs told drawn c.args.id c.args.newest groups after before end r lent file;
       accepts = table_accepts bytes faults size l own now back os ns gs ps qs told drawn c.args.id c.args.newest groups after before end r c.folds_totals.ensures line lent file;
     }

@@ -3,7 +3,7 @@ use Rattle.std.specs.Prelude.{IsTrue}
 use Rattle.mesa_compact.specs.mesa_columns.declared.rows.Row.{Row}
 use Rattle.mesa_compact.specs.mesa_columns.Rows.{keys_rise}
 use Rattle.mesa_delta.specs.Writing.{columns_of, draft_of, id_of}
-use Rattle.mesa_compact.specs.Grouping.{wanted_in}
+use Rattle.mesa_answer.specs.Gathered.{wanted_of}
 use Rattle.mesa_split.specs.Written.{HasPoured}
 use Rattle.mesa_split.proofs.writing.write_rows.Given as goal
 
@@ -14,5 +14,5 @@ invariant-rows g l = record {
   id : id_of l.writer ≡ id_of l.fn.writer;
   draft : g.T.Draft.id_of (draft_of l.writer) ≡ g.T.Draft.id_of (draft_of l.fn.writer);
   faults : g.T.Draft.faults (draft_of l.writer) ≡ g.T.Draft.faults (draft_of l.fn.writer);
-  wanted : map wanted_in l.groups ≡ map wanted_in l.fn.groups;
+  wanted : map wanted_of l.groups ≡ map wanted_of l.fn.groups;
 }
