@@ -2,23 +2,24 @@
 use Rattle.std.proofs.Common.{◌≡◌, ℕ, ◌^◌, ◌-◌, ◌<◌, List, [], length, inl, inr, sym, ◌∙◌, ap, subst, arith}
 use Rattle.std.specs.Prelude.{◌⊎◌, Option}
 use Rattle.std.specs.List.{AllByRecursion}
-use Rattle.mesa_open_files.specs.mesa_columns.declared.rows.Row.{Row}
-use Rattle.mesa_open_files.specs.mesa_columns.Columns.{Columns}
-use Rattle.mesa_open_files.specs.mesa_fold.Folded.{grouped, rows_of}
-use Rattle.mesa_open_files.specs.mesa_columns.Rows.{AreRowsOf}
-use Rattle.mesa_merge.proofs.mesa_fold.GroupKeys.{groups_form}
+use Rattle.mesa_group_blocks.specs.mesa_columns.declared.rows.Row.{Row}
+use Rattle.mesa_group_blocks.specs.mesa_columns.Columns.{Columns}
+use Rattle.mesa_group_blocks.specs.mesa_fold.Folded.{grouped, rows_of}
+use Rattle.mesa_group_blocks.specs.mesa_columns.Rows.{AreRowsOf}
+use Rattle.mesa_group_blocks.proofs.mesa_fold.GroupKeys.{groups_form}
 use Rattle.mesa_filter.specs.declared.terms.Term.{Term}
 use Rattle.mesa_filter.specs.Filter.{filtered}
 use Rattle.mesa_filter.specs.Query.{BuiltQuery, IsQueryOf}
 use Rattle.mesa_model.specs.Query.{answer_rows}
-use Rattle.mesa_answer.specs.Answering.{AnswersParts, grouped_columns}
-use Rattle.mesa_answer.specs.Gathering.{Wanted, first_groups}
-use Rattle.mesa_answer.proofs.Steps.{all_groups}
-use Rattle.mesa_open_files.specs.Pins.{IsPinnedInput}
-use Rattle.mesa_open_files.specs.declared.querying.PinnedInput.{PinnedInput}
+use Rattle.mesa_group_blocks.specs.mesa_answer.Answering.{AnswersParts, grouped_columns}
+use Rattle.mesa_group_blocks.specs.mesa_answer.Gathering.{Wanted, first_groups}
+use Rattle.mesa_group_blocks.proofs.mesa_answer.Steps.{all_groups}
+use Rattle.mesa_group_blocks.specs.mesa_open_files.Pins.{IsPinnedInput}
+use Rattle.mesa_group_blocks.specs.mesa_open_files.declared.querying.PinnedInput.{PinnedInput}
 use Rattle.mesa_file.specs.declared.damage.Damage.{Damage}
 use Rattle.mesa_query.specs.Files.{IsDamageIn}
-use Rattle.mesa_query.specs.Relation.{parts_pinned, parts_ungrouped}
+use Rattle.mesa_group_blocks.specs.Ungrouped.{parts_ungrouped}
+use Rattle.mesa_query.specs.Relation.{parts_pinned}
 use Rattle.mesa_query.specs.Sums.{IsSumIn}
 use Rattle.mesa_query.specs.Whole.{all_wanted, whole_over}
 use Rattle.mesa_query.proofs.Answered.{answered}

@@ -6,27 +6,28 @@ use Rattle.std.proofs.Math.Seq.{take-nil}
 use Rattle.std.proofs.lemmas.Bool.{le-ltb}
 use Rattle.std.proofs.lemmas.List.Elements.{filter-append}
 use Rattle.std.proofs.lemmas.List.Filters.{sum_by-filter_both}
-use Rattle.mesa_open_files.specs.mesa_value.Agg.{sum_bound}
-use Rattle.mesa_view.specs.mesa_key.Spelling.{key_of}
-use Rattle.mesa_open_files.specs.mesa_columns.declared.rows.Row.{Row}
-use Rattle.mesa_open_files.specs.mesa_columns.Columns.{Columns, aggs_of, kinds_of}
-use Rattle.mesa_open_files.specs.mesa_fold.Folded.{folded, grouped, rows_of}
-use Rattle.mesa_open_files.specs.mesa_columns.Rows.{AreRowsOf}
-use Rattle.mesa_merge.proofs.mesa_fold.FilteredFolds.{filtered_folds}
+use Rattle.mesa_model.specs.mesa_value.Agg.{sum_bound}
+use Rattle.mesa_group_blocks.specs.mesa_key.Spelling.{key_of}
+use Rattle.mesa_group_blocks.specs.mesa_columns.declared.rows.Row.{Row}
+use Rattle.mesa_group_blocks.specs.mesa_columns.Columns.{Columns, aggs_of, kinds_of}
+use Rattle.mesa_group_blocks.specs.mesa_fold.Folded.{folded, grouped, rows_of}
+use Rattle.mesa_group_blocks.specs.mesa_columns.Rows.{AreRowsOf}
+use Rattle.mesa_group_blocks.proofs.mesa_fold.FilteredFolds.{filtered_folds}
 use Rattle.mesa_filter.specs.declared.terms.Term.{Term}
 use Rattle.mesa_filter.specs.Filter.{filtered, meets}
 use Rattle.mesa_filter.specs.Query.{BuiltQuery, IsQueryOf}
 use Rattle.mesa_model.specs.declared.replies.Page.{Page}
 use Rattle.mesa_model.specs.Page.{last_key, page_from, page_of, rows_after}
 use Rattle.mesa_model.specs.Query.{answer_rows}
-use Rattle.mesa_answer.specs.Answering.{AnswersParts, KeepsSums}
-use Rattle.mesa_answer.specs.Gathering.{Wanted, wanted_by}
-use Rattle.mesa_open_files.specs.Inputs.{lineage_of}
-use Rattle.mesa_open_files.specs.Pins.{IsOfRelation, IsPinnedInput}
-use Rattle.mesa_open_files.specs.declared.querying.PinnedInput.{PinnedInput}
+use Rattle.mesa_group_blocks.specs.mesa_answer.Answering.{AnswersParts, KeepsSums}
+use Rattle.mesa_group_blocks.specs.mesa_answer.Gathering.{Wanted, wanted_by}
+use Rattle.mesa_group_blocks.specs.mesa_open_files.Inputs.{lineage_of}
+use Rattle.mesa_group_blocks.specs.mesa_open_files.Pins.{IsOfRelation, IsPinnedInput}
+use Rattle.mesa_group_blocks.specs.mesa_open_files.declared.querying.PinnedInput.{PinnedInput}
 use Rattle.mesa_file.specs.declared.damage.Damage.{Damage}
 use Rattle.mesa_query.specs.Files.{IsDamageIn}
-use Rattle.mesa_query.specs.Relation.{page_over, parts_pinned, parts_ungrouped}
+use Rattle.mesa_group_blocks.specs.Ungrouped.{parts_ungrouped}
+use Rattle.mesa_query.specs.Relation.{page_over, parts_pinned}
 use Rattle.mesa_query.specs.Sums.{IsSumIn}
 use Rattle.mesa_query.proofs.Ungrouped.{pinned_ungrouped}
 

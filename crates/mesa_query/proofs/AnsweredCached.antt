@@ -4,23 +4,25 @@ use Rattle.std.specs.Prelude.{◌⊎◌, IfErr, IfOk, Option, Result}
 use Rattle.std.proofs.Math.Logic.{⊎_map}
 use Rattle.std.proofs.lemmas.Result.{IfErr-weaker, IfOk-weaker}
 use Rattle.mesa_cache.specs.Reading.{Reading}
-use Rattle.mesa_delta.specs.declared.error.FileError.{FileError}
-use Rattle.mesa_delta.specs.declared.error.FileError.TheVariants as file_error
+use Rattle.mesa_group_blocks.specs.mesa_delta.declared.error.FileError.{FileError}
+use Rattle.mesa_group_blocks.specs.mesa_delta.declared.error.FileError.TheVariants as file_error
 use Rattle.mesa_model.specs.declared.replies.Page.{Page}
 use Rattle.mesa_file.specs.declared.damage.Damage.{Damage}
-use Rattle.mesa_open_files.specs.mesa_columns.declared.rows.Row.{Row}
-use Rattle.mesa_open_files.specs.mesa_columns.Columns.{Columns}
-use Rattle.mesa_open_files.specs.mesa_fold.Folded.{rows_of}
-use Rattle.mesa_open_files.specs.mesa_columns.Rows.{AreRowsOf}
-use Rattle.mesa_query.specs.Files.{IsDamageIn, inputs_in}
-use Rattle.mesa_query.specs.Relation.{page_over, parts_pinned, parts_ungrouped}
+use Rattle.mesa_group_blocks.specs.mesa_columns.declared.rows.Row.{Row}
+use Rattle.mesa_group_blocks.specs.mesa_columns.Columns.{Columns}
+use Rattle.mesa_group_blocks.specs.mesa_fold.Folded.{rows_of}
+use Rattle.mesa_group_blocks.specs.mesa_columns.Rows.{AreRowsOf}
+use Rattle.mesa_group_blocks.specs.Moved.{inputs_in}
+use Rattle.mesa_query.specs.Files.{IsDamageIn}
+use Rattle.mesa_group_blocks.specs.Ungrouped.{parts_ungrouped}
+use Rattle.mesa_query.specs.Relation.{page_over, parts_pinned}
 use Rattle.mesa_query.specs.Sums.{IsSumIn}
-use Rattle.mesa_answer.specs.Answering.{KeepsSums, grouped_columns}
-use Rattle.mesa_answer.specs.Gathering.{wanted_by}
-use Rattle.mesa_merge.specs.Faults.{HaveFaultCause, faults_of}
-use Rattle.mesa_merge.specs.Inputs.{Known, AreTold, knowns_of}
-use Rattle.mesa_open_files.specs.Pins.{IsPinned}
-use Rattle.mesa_open_files.specs.declared.querying.Pinned.{Pinned}
+use Rattle.mesa_group_blocks.specs.mesa_answer.Answering.{KeepsSums, grouped_columns}
+use Rattle.mesa_group_blocks.specs.mesa_answer.Gathering.{wanted_by}
+use Rattle.mesa_group_blocks.specs.mesa_merge.Faults.{HaveFaultCause, faults_of}
+use Rattle.mesa_group_blocks.specs.mesa_merge.Inputs.{Known, AreTold, knowns_of}
+use Rattle.mesa_group_blocks.specs.mesa_open_files.Pins.{IsPinned}
+use Rattle.mesa_group_blocks.specs.mesa_open_files.declared.querying.Pinned.{Pinned}
 use Rattle.mesa_query.specs.Cooled.{cooled}
 use Rattle.mesa_query.proofs.Cooling.{damage_cooled, faults_cooled, known_cooled, parts_cooled, pinned_warm, sum_cooled, through, ungrouped_cooled}
 

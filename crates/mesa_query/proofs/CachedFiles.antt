@@ -2,15 +2,16 @@
 use Rattle.std.proofs.Common.{◌≡◌, ℕ, List, [], ◌∷◌, ◌++◌, refl, sym, ap, subst, ◌∙◌}
 use Rattle.std.specs.Prelude.{Option}
 use Rattle.std.specs.List.{AllByRecursion}
-use Rattle.mesa_open_files.specs.mesa_delta_format.Indexed.{Indexed}
-use Rattle.mesa_delta.specs.Reading.{HasRead, IsOver, index_of, reader_of}
-use Rattle.mesa_delta.specs.declared.reader.DeltaReader.{DeltaReader}
-use Rattle.mesa_open_files.specs.mesa_columns.Columns.{Columns}
-use Rattle.mesa_query.specs.Files.{inputs_in, owns_in}
-use Rattle.mesa_merge.specs.Inputs.{Known, known_of, knowns_of}
-use Rattle.mesa_scan.specs.Cursors.{IsInput, reader_in}
-use Rattle.mesa_open_files.specs.Pins.{IsOfRelation, IsPinnedInput}
-use Rattle.mesa_open_files.specs.declared.querying.PinnedInput.{PinnedInput}
+use Rattle.mesa_group_blocks.specs.mesa_delta_format.Indexed.{Indexed}
+use Rattle.mesa_group_blocks.specs.mesa_delta.Reading.{HasRead, IsOver, index_of, reader_of}
+use Rattle.mesa_group_blocks.specs.mesa_delta.declared.reader.DeltaReader.{DeltaReader}
+use Rattle.mesa_group_blocks.specs.mesa_columns.Columns.{Columns}
+use Rattle.mesa_group_blocks.specs.Moved.{inputs_in}
+use Rattle.mesa_query.specs.Files.{owns_in}
+use Rattle.mesa_group_blocks.specs.mesa_merge.Inputs.{Known, known_of, knowns_of}
+use Rattle.mesa_group_blocks.specs.mesa_scan.Cursors.{IsInput, reader_in}
+use Rattle.mesa_group_blocks.specs.mesa_open_files.Pins.{IsOfRelation, IsPinnedInput}
+use Rattle.mesa_group_blocks.specs.mesa_open_files.declared.querying.PinnedInput.{PinnedInput}
 use Rattle.mesa_query.specs.Same.{AreReadable, AreSameFiles, readers_in}
 
 module _ {R : Type 0} (bytes : R → Option (List ℕ)) where

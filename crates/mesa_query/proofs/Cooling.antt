@@ -4,26 +4,28 @@ use Rattle.std.specs.Prelude.{Option, Some, slice_get}
 use Rattle.std.specs.List.{AllByRecursion}
 use Rattle.std.proofs.Math.Logic.{⊎_map}
 use Rattle.mesa_cache.specs.Reading.{Reading}
-use Rattle.mesa_delta.specs.Reading.{HasRead}
-use Rattle.mesa_delta.specs.declared.reader.DeltaReader.{DeltaReader}
-use Rattle.mesa_delta.specs.declared.input.Input.{Input}
+use Rattle.mesa_group_blocks.specs.mesa_delta.Reading.{HasRead}
+use Rattle.mesa_group_blocks.specs.mesa_delta.declared.reader.DeltaReader.{DeltaReader}
+use Rattle.mesa_group_blocks.specs.mesa_delta.declared.input.Input.{Input}
 use Rattle.mesa_filter.specs.Filter.{filtered}
 use Rattle.mesa_filter.specs.declared.terms.Term.{Term}
 use Rattle.mesa_file.specs.declared.damage.Damage.{Damage}
-use Rattle.mesa_open_files.specs.mesa_columns.declared.rows.Row.{Row}
-use Rattle.mesa_open_files.specs.mesa_columns.Columns.{Columns}
-use Rattle.mesa_open_files.specs.mesa_fold.Folded.{rows_of}
-use Rattle.mesa_query.specs.Files.{AreMoved, IsDamageIn, inputs_in, owns_in}
-use Rattle.mesa_query.specs.Relation.{parts_pinned, parts_ungrouped, rows_ungrouped}
-use Rattle.mesa_merge.specs.Faults.{faults_of}
+use Rattle.mesa_group_blocks.specs.mesa_columns.declared.rows.Row.{Row}
+use Rattle.mesa_group_blocks.specs.mesa_columns.Columns.{Columns}
+use Rattle.mesa_group_blocks.specs.mesa_fold.Folded.{rows_of}
+use Rattle.mesa_group_blocks.specs.Moved.{AreMoved, inputs_in}
+use Rattle.mesa_query.specs.Files.{IsDamageIn, owns_in}
+use Rattle.mesa_group_blocks.specs.Ungrouped.{parts_ungrouped, rows_ungrouped}
+use Rattle.mesa_query.specs.Relation.{parts_pinned}
+use Rattle.mesa_group_blocks.specs.mesa_merge.Faults.{faults_of}
 use Rattle.mesa_query.specs.Sums.{IsSumIn, LacksGroup}
-use Rattle.mesa_answer.specs.Gathering.{Wanted}
-use Rattle.mesa_merge.specs.Inputs.{AreTold, Known, known_of, knowns_of}
-use Rattle.mesa_scan.specs.Damaged.{IsDamaged}
-use Rattle.mesa_scan.specs.Cursors.{IsInput, reader_in}
-use Rattle.mesa_open_files.specs.Pins.{IsPinned, IsPinnedInput, rows_pinned}
-use Rattle.mesa_open_files.specs.declared.querying.Pinned.{Pinned}
-use Rattle.mesa_open_files.specs.declared.querying.PinnedInput.{PinnedInput}
+use Rattle.mesa_group_blocks.specs.mesa_answer.Gathering.{Wanted}
+use Rattle.mesa_group_blocks.specs.mesa_merge.Inputs.{AreTold, Known, known_of, knowns_of}
+use Rattle.mesa_group_blocks.specs.mesa_scan.Damaged.{IsDamaged}
+use Rattle.mesa_group_blocks.specs.mesa_scan.Cursors.{IsInput, reader_in}
+use Rattle.mesa_group_blocks.specs.mesa_open_files.Pins.{IsPinned, IsPinnedInput, rows_pinned}
+use Rattle.mesa_group_blocks.specs.mesa_open_files.declared.querying.Pinned.{Pinned}
+use Rattle.mesa_group_blocks.specs.mesa_open_files.declared.querying.PinnedInput.{PinnedInput}
 use Rattle.mesa_query.specs.Cooled.{cooled, cooled_file, cooled_input, cooled_reader}
 
 -- what is told of an inner reader is told of it with a cache

@@ -1,24 +1,24 @@
 -- Damage that is told of a query's files: what is found differs from what was wanted.
 use Rattle.std.proofs.Common.{◌≡◌, inl, inr, ⊎_elim, ℕ, ◌<◌, List, [], ◌∷◌, sym, ap, subst, arith}
 use Rattle.std.specs.Prelude.{◌⊎◌, Option}
-use Rattle.mesa_open_files.specs.mesa_io.Causes.{Rose}
+use Rattle.mesa_group_blocks.specs.mesa_io.Causes.{Rose}
 use Rattle.mesa_file.specs.declared.damage.Damage.{Damage}
 use Rattle.mesa_file.specs.declared.damage.Seen.{Seen}
 use Rattle.mesa_file.specs.declared.damage.Seen.TheVariants as seen
-use Rattle.mesa_open_files.specs.mesa_columns.declared.rows.Row.{Row}
+use Rattle.mesa_group_blocks.specs.mesa_columns.declared.rows.Row.{Row}
 use Rattle.mesa_filter.specs.declared.terms.Term.{Term}
-use Rattle.mesa_answer.specs.Gathering.{Wanted}
-use Rattle.mesa_delta.specs.Damages.{IsWrongLength, IsPieceDamage}
-use Rattle.mesa_open_files.specs.mesa_delta_format.Indexed.{Indexed}
-use Rattle.mesa_delta.specs.Reading.{IsBlockDamage}
-use Rattle.mesa_delta.specs.declared.input.Input.{Input}
-use Rattle.mesa_scan.specs.Cursors.{reader_in}
-use Rattle.mesa_scan.specs.Damaged.{IsDamaged}
-use Rattle.mesa_merge.specs.Faults.{SomeRose, faults_of}
-use Rattle.mesa_view.specs.SumDamage.{IsSumDamage}
-use Rattle.mesa_open_files.specs.declared.querying.PinnedInput.{PinnedInput}
-use Rattle.mesa_open_files.specs.Errors.{Differs}
-use Rattle.mesa_open_files.specs.GivingBack.{SomeFailed}
+use Rattle.mesa_group_blocks.specs.mesa_answer.Gathering.{Wanted}
+use Rattle.mesa_group_blocks.specs.mesa_delta.Damages.{IsWrongLength, IsPieceDamage}
+use Rattle.mesa_group_blocks.specs.mesa_delta_format.Indexed.{Indexed}
+use Rattle.mesa_group_blocks.specs.mesa_delta.Reading.{IsBlockDamage}
+use Rattle.mesa_group_blocks.specs.mesa_delta.declared.input.Input.{Input}
+use Rattle.mesa_group_blocks.specs.mesa_scan.Cursors.{reader_in}
+use Rattle.mesa_group_blocks.specs.mesa_scan.Damaged.{IsDamaged}
+use Rattle.mesa_group_blocks.specs.mesa_merge.Faults.{SomeRose, faults_of}
+use Rattle.mesa_group_blocks.specs.mesa_view.SumDamage.{IsSumDamage}
+use Rattle.mesa_group_blocks.specs.mesa_open_files.declared.querying.PinnedInput.{PinnedInput}
+use Rattle.mesa_group_blocks.specs.mesa_open_files.Errors.{Differs}
+use Rattle.mesa_group_blocks.specs.mesa_open_files.GivingBack.{SomeFailed}
 use Rattle.mesa_query.specs.Files.{IsDamageIn}
 use Rattle.mesa_query.specs.Sums.{IsSumIn}
 

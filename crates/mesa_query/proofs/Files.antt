@@ -1,85 +1,41 @@
 -- Pinned files, one of which is read.
 use Rattle.std.proofs.Common.{◌≡◌, ℕ, zero, suc, ◌+◌, ◌<◌, List, [], ◌∷◌, length, drop, get_or, set, refl, sym, ◌∙◌, ap, subst, arith, add-one, inl, inr}
-use Rattle.std.specs.Prelude.{Err, IfSome, Option, Result, Some, slice_get}
+use Rattle.std.specs.Prelude.{Err, IfSome, Option, Some, slice_get}
 use Rattle.std.specs.List.{AllByRecursion}
-use Rattle.std.proofs.Math.ListN.{get_or-map}
 use Rattle.std.proofs.Math.Seq.{map-set_same}
-use Rattle.std.proofs.lemmas.List.{length-map, length-set, map-set}
-use Rattle.mesa_open_files.specs.mesa_io.Causes.{HasFaultCause}
+use Rattle.std.proofs.lemmas.List.{length-set, map-set}
+use Rattle.mesa_group_blocks.specs.mesa_io.Causes.{HasFaultCause}
 use Rattle.mesa_file.specs.declared.damage.Damage.{Damage}
-use Rattle.mesa_open_files.specs.mesa_columns.declared.rows.Row.{Row}
-use Rattle.mesa_open_files.specs.mesa_columns.Columns.{Columns}
-use Rattle.mesa_delta.specs.Ahead.{AreAhead, AreOfFile, IsOfFile, Told, Untested}
-use Rattle.mesa_open_files.specs.mesa_delta_format.Indexed.{Indexed}
-use Rattle.mesa_delta.specs.Reading.{IsIndexed, index_of}
-use Rattle.mesa_delta.specs.declared.error.FileError.{FileError}
-use Rattle.mesa_delta.specs.declared.error.FileError.TheVariants.{Read}
-use Rattle.mesa_delta.specs.declared.input.Input.{Input}
-use Rattle.mesa_scan.specs.Cursors.{IsSameInput, reader_in}
-use Rattle.mesa_scan.specs.Damaged.{IsDamaged}
-use Rattle.mesa_scan.specs.Moving.{moved_to, told_in}
-use Rattle.mesa_scan.proofs.Moving.{stays_input}
-use Rattle.mesa_scan.proofs.Onwards.{damaged_before}
-use Rattle.mesa_merge.specs.Faults.{HaveFaultCause, faults_of}
-use Rattle.mesa_merge.specs.Inputs.{IsTold, Known, known_of, knowns_of, tolds_of}
-use Rattle.mesa_merge.proofs.Causing.{cause_kept}
-use Rattle.mesa_merge.proofs.Inputs.{SameEnd, cause_at, faults_same, known_set}
-use Rattle.mesa_open_files.specs.declared.querying.PinnedInput.{PinnedInput}
-use Rattle.mesa_open_files.specs.Pins.{IsPinnedInput}
-use Rattle.mesa_view.specs.declared.error.GatherError.{GatherError}
-use Rattle.mesa_view.specs.declared.error.GatherError.TheVariants as gather
-use Rattle.mesa_query.specs.Files.{AreMoved, IsDamageIn, IsMoved, inputs_in, owns_in}
-use Rattle.mesa_query.specs.Relation.{rows_ungrouped}
-use Rattle.mesa_query.proofs.Owned.{pinned_after}
-
--- ---- the file at a place
-
-pub input_here : {R : Type 0} (files : List (PinnedInput R)) (n : ℕ) (d : PinnedInput R) → d ≡ get_or files n d → get_or (inputs_in files) n d.input ≡ d.input
-input_here {R = R} files n d is = get_or-map (λ (file : PinnedInput R). file.input) files n d ∙ ap (λ (file : PinnedInput R). file.input) (sym is)
-
-pub input_within : {R : Type 0} (files : List (PinnedInput R)) (n : ℕ) → n < length files → n < length (inputs_in files)
-input_within {R = R} files n lt = omega (arith, lt, length-map files (λ (file : PinnedInput R). file.input))
-
-pub all_at : {X : Type 0} (P : X → Type 0) (xs : List X) (n : ℕ) (x : X) → AllByRecursion P xs → n < length xs → x ≡ get_or xs n x → P x
-all_at P [] n x h lt is = absurd (omega (arith, lt))
-all_at {X = X} P (y ∷ xs) zero x h lt is = subst P (sym is) h.0
-all_at P (y ∷ xs) (suc n) x h lt is = all_at P xs n x h.1 (omega (arith, lt)) is
+use Rattle.mesa_group_blocks.specs.mesa_columns.declared.rows.Row.{Row}
+use Rattle.mesa_group_blocks.specs.mesa_columns.Columns.{Columns}
+use Rattle.mesa_group_blocks.specs.mesa_delta.Ahead.{AreAhead, AreOfFile, IsOfFile, Told, Untested}
+use Rattle.mesa_group_blocks.specs.mesa_delta_format.Indexed.{Indexed}
+use Rattle.mesa_group_blocks.specs.mesa_delta.Reading.{IsIndexed, index_of}
+use Rattle.mesa_group_blocks.specs.mesa_delta.declared.error.FileError.{FileError}
+use Rattle.mesa_group_blocks.specs.mesa_delta.declared.error.FileError.TheVariants.{Read}
+use Rattle.mesa_group_blocks.specs.mesa_delta.declared.input.Input.{Input}
+use Rattle.mesa_group_blocks.specs.mesa_scan.Cursors.{IsSameInput, reader_in}
+use Rattle.mesa_group_blocks.specs.mesa_scan.Damaged.{IsDamaged}
+use Rattle.mesa_group_blocks.specs.mesa_scan.Moving.{told_in}
+use Rattle.mesa_group_blocks.proofs.mesa_scan.Moving.{stays_input}
+use Rattle.mesa_group_blocks.proofs.mesa_scan.Onwards.{damaged_before}
+use Rattle.mesa_group_blocks.specs.mesa_merge.Faults.{faults_of}
+use Rattle.mesa_group_blocks.specs.mesa_merge.Inputs.{IsTold, Known, known_of, knowns_of, tolds_of}
+use Rattle.mesa_group_blocks.proofs.mesa_merge.Inputs.{known_set}
+use Rattle.mesa_group_blocks.specs.mesa_open_files.declared.querying.PinnedInput.{PinnedInput}
+use Rattle.mesa_group_blocks.specs.mesa_open_files.Pins.{IsPinnedInput}
+use Rattle.mesa_group_blocks.specs.mesa_view.declared.error.GatherError.{GatherError}
+use Rattle.mesa_group_blocks.specs.mesa_view.declared.error.GatherError.TheVariants as gather
+use Rattle.mesa_group_blocks.specs.Moved.{AreMoved, IsMoved, inputs_in}
+use Rattle.mesa_query.specs.Files.{IsDamageIn, owns_in}
+use Rattle.mesa_group_blocks.specs.Ungrouped.{rows_ungrouped}
+use Rattle.mesa_group_blocks.proofs.Owned.{pinned_after}
+use Rattle.mesa_group_blocks.proofs.Moved.{input_here, input_within, moved_same, moved_further, moved_known, all_set, file_faults, there_of_file, length_knowns}
 
 -- ---- files of which blocks were read ahead
 
-pub moved_same : {R : Type 0} (bytes : R → Option (List ℕ)) (size : R → ℕ) (old new : PinnedInput R) → IsMoved bytes size old new → IsSameInput bytes old.input new.input
-moved_same {R = R} bytes size old new m = record {
-  index = ap (λ (file : PinnedInput R). index_of file.input.reader) m.file;
-  evolving = ap (λ (file : PinnedInput R). file.input.evolving) m.file;
-  epoch = ap (λ (file : PinnedInput R). file.input.epoch) m.file;
-  told = m.told;
-}
-
 moved_own : {R : Type 0} (bytes : R → Option (List ℕ)) (size : R → ℕ) (old new : PinnedInput R) → IsMoved bytes size old new → new.own ≡ old.own
 moved_own {R = R} bytes size old new m = ap (λ (file : PinnedInput R). file.own) m.file
-
-moved_twice : {R : Type 0} (bytes : R → Option (List ℕ)) (size : R → ℕ) (a b c : PinnedInput R) → IsMoved bytes size a b → IsMoved bytes size b c → IsMoved bytes size a c
-moved_twice {R = R} bytes size a b c p q = record {
-  file = q.file ∙ ap (λ (file : PinnedInput R). record file { input = moved_to (reader_in c.input) file.input }) p.file;
-  told = q.told ∙ p.told;
-  size = q.size ∙ p.size;
-}
-
-pub moved_none : {R : Type 0} (bytes : R → Option (List ℕ)) (size : R → ℕ) (files : List (PinnedInput R)) → AreMoved bytes size files files
-moved_none bytes size [] = tt
-moved_none bytes size (file ∷ files) = (record { file = refl; told = refl; size = refl }, moved_none bytes size files)
-
-pub moved_further : {R : Type 0} (bytes : R → Option (List ℕ)) (size : R → ℕ) (first between last : List (PinnedInput R)) → AreMoved bytes size first between → AreMoved bytes size between last → AreMoved bytes size first last
-moved_further bytes size [] [] last p q = q
-moved_further bytes size [] (b ∷ between) last p q = absurd p
-moved_further bytes size (a ∷ first) [] last p q = absurd p
-moved_further bytes size (a ∷ first) (b ∷ between) [] p q = absurd q
-moved_further bytes size (a ∷ first) (b ∷ between) (c ∷ last) p q = (moved_twice bytes size a b c p.0 q.0, moved_further bytes size first between last p.1 q.1)
-
-pub moved_set : {R : Type 0} (bytes : R → Option (List ℕ)) (size : R → ℕ) (files : List (PinnedInput R)) (n : ℕ) (x d : PinnedInput R) → n < length files → d ≡ get_or files n d → IsMoved bytes size d x → AreMoved bytes size files (set files n x)
-moved_set bytes size [] n x d lt is m = absurd (omega (arith, lt))
-moved_set {R = R} bytes size (file ∷ files) zero x d lt is m = (subst (λ (f : PinnedInput R). IsMoved bytes size f x) is m, moved_none bytes size files)
-moved_set bytes size (file ∷ files) (suc n) x d lt is m = (record { file = refl; told = refl; size = refl }, moved_set bytes size files n x d (omega (arith, lt)) is m)
 
 pub moved_drop : {R : Type 0} (bytes : R → Option (List ℕ)) (size : R → ℕ) (n : ℕ) (old new : List (PinnedInput R)) → AreMoved bytes size old new → AreMoved bytes size (drop n old) (drop n new)
 moved_drop bytes size zero old new m = m
@@ -93,15 +49,6 @@ moved_count bytes size [] [] m = refl
 moved_count bytes size [] (y ∷ new) m = absurd m
 moved_count bytes size (file ∷ old) [] m = absurd m
 moved_count bytes size (file ∷ old) (y ∷ new) m = ap suc (moved_count bytes size old new m.1)
-
-pub moved_known : {R : Type 0} (bytes : R → Option (List ℕ)) (size : R → ℕ) (old new : List (PinnedInput R)) → AreMoved bytes size old new → knowns_of bytes (inputs_in new) ≡ knowns_of bytes (inputs_in old)
-moved_known bytes size [] [] m = refl
-moved_known bytes size [] (y ∷ new) m = absurd m
-moved_known bytes size (file ∷ old) [] m = absurd m
-moved_known bytes size (file ∷ old) (y ∷ new) m =
-    let same = moved_same bytes size file y m.0 in
-    let rest = moved_known bytes size old new m.1 in
-    λ k. record { file = same.index k; table = (same.evolving k).value; epoch = same.epoch k; told = same.told k } ∷ rest k
 
 pub moved_owns : {R : Type 0} (bytes : R → Option (List ℕ)) (size : R → ℕ) (old new : List (PinnedInput R)) → AreMoved bytes size old new → owns_in new ≡ owns_in old
 moved_owns bytes size [] [] m = refl
@@ -148,11 +95,6 @@ moved_told bytes size old new rows m told =
 
 -- ---- a file that was read
 
-pub all_set : {X : Type 0} (P : X → Type 0) (xs : List X) (n : ℕ) (x : X) → AllByRecursion P xs → P x → AllByRecursion P (set xs n x)
-all_set P [] n x h one = tt
-all_set P (y ∷ xs) zero x h one = (one, h.1)
-all_set P (y ∷ xs) (suc n) x h one = (h.0, all_set P xs n x h.1 one)
-
 pub own_set : {R : Type 0} (files : List (PinnedInput R)) (n : ℕ) (x d : PinnedInput R) → d ≡ get_or files n d → x.own ≡ d.own → owns_in (set files n x) ≡ owns_in files
 own_set {R = R} files n x d is same = map-set_same (λ (file : PinnedInput R). file.own) files n x d (same ∙ ap (λ (file : PinnedInput R). file.own) is)
 
@@ -161,23 +103,6 @@ pub file_known : {R : Type 0} (bytes : R → Option (List ℕ)) (files : List (P
 file_known {R = R} bytes files n x d lt is same =
     ap (knowns_of bytes) (map-set (λ (file : PinnedInput R). file.input) files n x)
     ∙ known_set bytes (inputs_in files) n x.input d.input (input_within files n lt) (subst (λ (i : Input R). IsSameInput bytes i x.input) (sym (input_here files n d is)) same)
-
-pub file_faults : {R : Type 0} (faults : R → ℕ) (files : List (PinnedInput R)) (n : ℕ) (x d : PinnedInput R) → n < length files → d ≡ get_or files n d → faults (reader_in x.input) ≡ faults (reader_in d.input)
-    → faults_of faults (inputs_in (set files n x)) ≡ faults_of faults (inputs_in files)
-file_faults {R = R} faults files n x d lt is same =
-    ap (faults_of faults) (map-set (λ (file : PinnedInput R). file.input) files n x)
-    ∙ faults_same faults (inputs_in files) n x.input d.input (input_within files n lt) (same ∙ ap (λ (i : Input R). faults (reader_in i)) (sym (input_here files n d is)))
-
--- the cause at one file is the cause at all
-pub file_cause : {R T U : Type 0} (faults : R → ℕ) (start files : List (PinnedInput R)) (n : ℕ) (x d : PinnedInput R) (r : Result T FileError) (q : Result U FileError) → n < length files → d ≡ get_or files n d
-    → faults_of faults (inputs_in files) ≡ faults_of faults (inputs_in start) → HasFaultCause (λ e. e ≡ Read) (faults (reader_in d.input)) (faults (reader_in x.input)) r → SameEnd r q
-    → HaveFaultCause (λ e. e ≡ Read) (faults_of faults (inputs_in start)) (faults_of faults (inputs_in (set files n x))) q
-file_cause {R = R} faults start files n x d r q lt is stay cause same =
-    let here : HasFaultCause (λ e. e ≡ Read) (faults (reader_in (get_or (inputs_in files) n d.input))) (faults (reader_in x.input)) r =
-    subst (λ (i : Input R). HasFaultCause (λ e. e ≡ Read) (faults (reader_in i)) (faults (reader_in x.input)) r) (sym (input_here files n d is)) cause in
-    cause_kept q (faults_of faults (inputs_in files)) (faults_of faults (inputs_in start)) (faults_of faults (set (inputs_in files) n x.input)) (faults_of faults (inputs_in (set files n x))) stay
-    (ap (faults_of faults) (sym (map-set (λ (file : PinnedInput R). file.input) files n x)))
-    (cause_at faults (inputs_in files) n x.input d.input r q (input_within files n lt) here same)
 
 pub damage_before : {R : Type 0} (bytes : R → Option (List ℕ)) (size : R → ℕ) (d : Damage) (old new : PinnedInput R) → IsMoved bytes size old new → IsDamaged bytes size new.input d → IsDamaged bytes size old.input d
 damage_before bytes size d old new m damaged = damaged_before bytes size old.input new.input d (moved_same bytes size old new m) m.size damaged
@@ -191,11 +116,6 @@ file_damage {R = R} bytes size d (file ∷ start) (y ∷ files) zero x i lt long
 file_damage bytes size d (file ∷ start) (y ∷ files) (suc n) x i lt long is left h = inr (file_damage bytes size d start files n x i (omega (arith, lt)) (omega (arith, long)) is left h)
 
 -- ---- what waits of them
-
-told_there : {R : Type 0} (bytes : R → Option (List ℕ)) (files : List (PinnedInput R)) (n : ℕ) (d : PinnedInput R) → n < length files → d ≡ get_or files n d → slice_get (tolds_of (knowns_of bytes (inputs_in files))) n ≡ Some (told_in bytes d.input)
-told_there bytes [] n d lt is = absurd (omega (arith, lt))
-told_there {R = R} bytes (file ∷ files) zero d lt is = ap (λ (one : PinnedInput R). Some (told_in bytes one.input)) (sym is)
-told_there bytes (file ∷ files) (suc n) d lt is = told_there bytes files n d (omega (arith, lt)) is
 
 of_file : (files : List Told) (place : ℕ) (f : Told) (ahead : List Untested) → slice_get files place ≡ Some f → AreAhead files ahead → AreOfFile f.content f.index place ahead
 of_file files place f [] at h = tt
@@ -224,11 +144,6 @@ looked_on bytes size faults s view start now next n ahead after h moved stay wai
   ahead = subst (λ (ks : List Known). AreAhead (tolds_of ks) after) h.known (waits (subst (λ (ks : List Known). AreAhead (tolds_of ks) ahead) (sym h.known) h.ahead));
 }
 
--- what waits of the file at a place
-pub there_of_file : {R : Type 0} (bytes : R → Option (List ℕ)) (start now : List (PinnedInput R)) (n : ℕ) (d : PinnedInput R) → knowns_of bytes (inputs_in now) ≡ knowns_of bytes (inputs_in start) → n < length now → d ≡ get_or now n d
-    → slice_get (tolds_of (knowns_of bytes (inputs_in start))) n ≡ Some (told_in bytes d.input)
-there_of_file bytes start now n d known lt is = ap (λ (ks : List Known). slice_get (tolds_of ks) n) (sym known) ∙ told_there bytes now n d lt is
-
 pub own_ahead : {R : Type 0} (bytes : R → Option (List ℕ)) (start now : List (PinnedInput R)) (n : ℕ) (d : PinnedInput R) (ahead : List Untested) → knowns_of bytes (inputs_in now) ≡ knowns_of bytes (inputs_in start) → n < length now → d ≡ get_or now n d
     → AreAhead (tolds_of (knowns_of bytes (inputs_in start))) ahead → AreOfFile (bytes (reader_in d.input)) (index_of d.input.reader) n ahead
 own_ahead bytes start now n d ahead known lt is h = of_file (tolds_of (knowns_of bytes (inputs_in start))) n (told_in bytes d.input) ahead (there_of_file bytes start now n d known lt is) h
@@ -247,10 +162,6 @@ file_fault e f before now is h = record {
 -- a sum is no fault
 pub sum_quiet : {U : Type 0} (e : GatherError) (before now : ℕ) → e ≡ gather.Sum → HasFaultCause {T = U} (λ x. x ≡ gather.File Read) before now (Err e) → now ≡ before
 sum_quiet e before now is h = h.other (λ read. cc)
-
-pub length_knowns : {R : Type 0} (bytes : R → Option (List ℕ)) (files : List (PinnedInput R)) → length (knowns_of bytes (inputs_in files)) ≡ length files
-length_knowns bytes [] = refl
-length_knowns bytes (file ∷ files) = ap suc (length_knowns bytes files)
 
 -- files of which as much is known are as many
 pub length_known : {R : Type 0} (bytes : R → Option (List ℕ)) (xs ys : List (PinnedInput R)) → knowns_of bytes (inputs_in xs) ≡ knowns_of bytes (inputs_in ys) → length xs ≡ length ys

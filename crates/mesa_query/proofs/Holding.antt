@@ -4,24 +4,26 @@ use Rattle.std.specs.Prelude.{Option, Some, slice_get}
 use Rattle.std.proofs.Math.Nat.{eq-or-lt_of_le}
 use Rattle.std.proofs.lemmas.Option.{get_or_from_slice_get, slice_get-get_or, slice_get_within}
 use Rattle.mesa_file.specs.declared.damage.Damage.{Damage}
-use Rattle.mesa_open_files.specs.mesa_columns.declared.rows.Row.{Row}
-use Rattle.mesa_open_files.specs.mesa_fold.Folded.{rows_of}
+use Rattle.mesa_group_blocks.specs.mesa_columns.declared.rows.Row.{Row}
+use Rattle.mesa_group_blocks.specs.mesa_fold.Folded.{rows_of}
 use Rattle.mesa_filter.specs.declared.terms.Term.{Term}
 use Rattle.mesa_filter.specs.Filter.{filtered}
-use Rattle.mesa_open_files.specs.mesa_delta_format.Indexed.{Indexed}
-use Rattle.mesa_delta.specs.Reading.{index_of}
-use Rattle.mesa_scan.specs.Damaged.{IsDamaged}
-use Rattle.mesa_merge.specs.Inputs.{AreTold, IsTold, Known, known_of, knowns_of}
-use Rattle.mesa_answer.specs.Gathering.{Wanted}
-use Rattle.mesa_answer.specs.Sums.{HasGroup, SumLeavesAmong}
-use Rattle.mesa_answer.proofs.Leaving.{group_before, leaves_behind, leaves_group}
-use Rattle.mesa_view.specs.SumDamage.{IsSumDamage}
-use Rattle.mesa_open_files.specs.declared.querying.PinnedInput.{PinnedInput}
-use Rattle.mesa_query.specs.Files.{AreMoved, IsDamageIn, IsMoved, inputs_in}
+use Rattle.mesa_group_blocks.specs.mesa_delta_format.Indexed.{Indexed}
+use Rattle.mesa_group_blocks.specs.mesa_delta.Reading.{index_of}
+use Rattle.mesa_group_blocks.specs.mesa_scan.Damaged.{IsDamaged}
+use Rattle.mesa_group_blocks.specs.mesa_merge.Inputs.{AreTold, IsTold, Known, known_of, knowns_of}
+use Rattle.mesa_group_blocks.specs.mesa_answer.Gathering.{Wanted}
+use Rattle.mesa_group_blocks.specs.mesa_answer.Sums.{HasGroup, SumLeavesAmong}
+use Rattle.mesa_group_blocks.proofs.mesa_answer.Leaving.{group_before, leaves_behind, leaves_group}
+use Rattle.mesa_group_blocks.specs.mesa_view.SumDamage.{IsSumDamage}
+use Rattle.mesa_group_blocks.specs.mesa_open_files.declared.querying.PinnedInput.{PinnedInput}
+use Rattle.mesa_group_blocks.specs.Moved.{AreMoved, IsMoved, inputs_in}
+use Rattle.mesa_query.specs.Files.{IsDamageIn}
 use Rattle.mesa_query.specs.Sums.{HoldsGroup, IsNewestFrom, IsSumIn, LacksGroup, rows_matching}
-use Rattle.mesa_query.specs.Relation.{parts_ungrouped}
-use Rattle.mesa_query.proofs.Files.{damage_before, file_damage, moved_count, moved_further, moved_known, moved_rows, moved_same, moved_told}
-use Rattle.mesa_query.proofs.Contents.{given_front, matching_first, told_count, told_here}
+use Rattle.mesa_group_blocks.specs.Ungrouped.{parts_ungrouped}
+use Rattle.mesa_group_blocks.proofs.Moved.{moved_further, moved_known, moved_same}
+use Rattle.mesa_query.proofs.Files.{damage_before, file_damage, moved_count, moved_rows, moved_told}
+use Rattle.mesa_group_blocks.proofs.Contents.{given_front, matching_first, told_count, told_here}
 
 -- ---- damage of one of the files
 

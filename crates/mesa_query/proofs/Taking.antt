@@ -3,8 +3,8 @@ use Rattle.std.proofs.Common.{◌≡◌, ℕ, List, [], ◌∷◌, ◌++◌, map
 use Rattle.std.specs.Prelude.{Option, reverse}
 use Rattle.std.proofs.lemmas.List.{map-append, reverse-append, reverse-reverse}
 use Rattle.mesa_cache.specs.Reading.{Reading}
-use Rattle.mesa_scan.specs.Cursors.{IsInput}
-use Rattle.mesa_open_files.specs.declared.querying.PinnedInput.{PinnedInput}
+use Rattle.mesa_group_blocks.specs.mesa_scan.Cursors.{IsInput}
+use Rattle.mesa_group_blocks.specs.mesa_open_files.declared.querying.PinnedInput.{PinnedInput}
 use Rattle.mesa_query.specs.Cooled.{cooled_file}
 use Rattle.mesa_query.specs.Same.{AreReadable, AreSameFiles}
 use Rattle.mesa_query.proofs.CachedFiles.{AreStill, readable_here, same_again, still_along, still_at}

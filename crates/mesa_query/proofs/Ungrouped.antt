@@ -1,21 +1,22 @@
 -- Rows of a table fold under a view's keys as their groups do.
 use Rattle.std.proofs.Common.{◌≡◌, ℕ, List, [], ◌∷◌, ◌++◌, Bool, true, false, refl, sym, ◌∙◌, ap, subst, append_assoc, Option, Some, None}
-use Rattle.mesa_open_files.specs.mesa_value.declared.Agg.{Agg}
-use Rattle.mesa_open_files.specs.mesa_columns.declared.columns.ValueColumn.{ValueColumn}
-use Rattle.mesa_open_files.specs.mesa_columns.declared.rows.Row.{Row}
-use Rattle.mesa_open_files.specs.mesa_columns.declared.views.View.{View}
-use Rattle.mesa_schema.specs.Changes.{Lineage, columns_of}
-use Rattle.mesa_open_files.specs.mesa_columns.Columns.{Columns, aggs_of, chosen}
-use Rattle.mesa_open_files.specs.mesa_fold.Folded.{folded}
-use Rattle.mesa_schema.specs.Views.{view_columns, view_rows, view_value_places}
-use Rattle.mesa_merge.proofs.mesa_fold.Refolds.{refolded}
-use Rattle.mesa_answer.proofs.Picked.{chosen-map}
+use Rattle.mesa_model.specs.mesa_value.declared.Agg.{Agg}
+use Rattle.mesa_group_blocks.specs.mesa_columns.declared.columns.ValueColumn.{ValueColumn}
+use Rattle.mesa_group_blocks.specs.mesa_columns.declared.rows.Row.{Row}
+use Rattle.mesa_group_blocks.specs.mesa_columns.declared.views.View.{View}
+use Rattle.mesa_group_blocks.specs.mesa_schema.Changes.{Lineage, columns_of}
+use Rattle.mesa_group_blocks.specs.mesa_columns.Columns.{Columns, aggs_of, chosen}
+use Rattle.mesa_group_blocks.specs.mesa_fold.Folded.{folded}
+use Rattle.mesa_group_blocks.specs.mesa_schema.Views.{view_columns, view_rows, view_value_places}
+use Rattle.mesa_group_blocks.proofs.mesa_fold.Refolds.{refolded}
+use Rattle.mesa_group_blocks.proofs.mesa_answer.Picked.{chosen-map}
 use Rattle.std.specs.List.{AllByRecursion}
-use Rattle.mesa_open_files.specs.Inputs.{lifted_in, lineage_of}
-use Rattle.mesa_open_files.specs.Pins.{HasViewOf, IsOfRelation, IsPinnedInput, derived, relation_rows, view_at}
-use Rattle.mesa_open_files.specs.declared.querying.PinnedInput.{PinnedInput}
+use Rattle.mesa_group_blocks.specs.mesa_open_files.Inputs.{lifted_in, lineage_of}
+use Rattle.mesa_group_blocks.specs.mesa_open_files.Pins.{HasViewOf, IsOfRelation, IsPinnedInput, derived, relation_rows, view_at}
+use Rattle.mesa_group_blocks.specs.mesa_open_files.declared.querying.PinnedInput.{PinnedInput}
 use Rattle.mesa_query.specs.Laws.{FoldsUngrouped}
-use Rattle.mesa_query.specs.Relation.{parts_pinned, parts_ungrouped, rows_ungrouped, rows_under, under_some, under_view}
+use Rattle.mesa_group_blocks.specs.Ungrouped.{parts_ungrouped, rows_ungrouped, rows_under, under_some, under_view}
+use Rattle.mesa_query.specs.Relation.{parts_pinned}
 
 -- THE LAW OF DERIVED VIEWS.
 pub ungrouped : FoldsUngrouped

@@ -1,10 +1,10 @@
 -- A pinned query whose files are read through caches, as it is without them.
 use Rattle.std.specs.Vec.Covariant.{in_vec}
 use Rattle.mesa_cache.specs.Reading.{Reading}
-use Rattle.mesa_delta.specs.declared.input.Input.{Input}
-use Rattle.mesa_delta.specs.declared.reader.DeltaReader.{DeltaReader}
-use Rattle.mesa_open_files.specs.declared.querying.Pinned.{Pinned}
-use Rattle.mesa_open_files.specs.declared.querying.PinnedInput.{PinnedInput}
+use Rattle.mesa_group_blocks.specs.mesa_delta.declared.input.Input.{Input}
+use Rattle.mesa_group_blocks.specs.mesa_delta.declared.reader.DeltaReader.{DeltaReader}
+use Rattle.mesa_group_blocks.specs.mesa_open_files.declared.querying.Pinned.{Pinned}
+use Rattle.mesa_group_blocks.specs.mesa_open_files.declared.querying.PinnedInput.{PinnedInput}
 
 -- a file's reader, which reads by the cache's inner reader
 abbrev pub cooled_reader : {R : Type 0} → DeltaReader (Reading R) → DeltaReader R

@@ -1,32 +1,14 @@
 -- The files of a pinned query, and what damage is told of them.
-use Rattle.std.specs.Prelude.{◌≡◌, ◌⊎◌, ℕ, List, [], ◌∷◌, map, Bool, Option, ⊤}
+use Rattle.std.specs.Prelude.{◌⊎◌, ℕ, List, [], ◌∷◌, map, Bool, Option}
 use Rattle.mesa_file.specs.declared.damage.Damage.{Damage}
-use Rattle.mesa_delta.specs.declared.input.Input.{Input}
-use Rattle.mesa_scan.specs.Cursors.{reader_in}
-use Rattle.mesa_scan.specs.Damaged.{IsDamaged}
-use Rattle.mesa_scan.specs.Moving.{moved_to}
-use Rattle.mesa_open_files.specs.declared.querying.PinnedInput.{PinnedInput}
+use Rattle.mesa_group_blocks.specs.mesa_scan.Damaged.{IsDamaged}
+use Rattle.mesa_group_blocks.specs.mesa_open_files.declared.querying.PinnedInput.{PinnedInput}
+use Rattle.mesa_group_blocks.specs.Moved.{AreMoved}
+pub use Rattle.mesa_group_blocks.specs.Moved.{inputs_in}
 
--- the inputs that read them
-abbrev pub inputs_in : {R : Type 0} → List (PinnedInput R) → List (Input R)
-inputs_in files = map (λ file. file.input) files
-
--- which of them are the relation's own
+-- which of a query's files are the relation's own
 abbrev pub owns_in : {R : Type 0} → List (PinnedInput R) → List Bool
 owns_in files = map (λ file. file.own) files
-
--- A file is as it was but for what it reads from: blocks of it may have been read ahead, and none of them was taken.
-pub record IsMoved {R : Type 0} (bytes : R → Option (List ℕ)) (size_of : R → ℕ) (old new : PinnedInput R) : Type 0 where
-  pub file : new ≡ record old { input = moved_to (reader_in new.input) old.input }
-  pub told : bytes (reader_in new.input) ≡ bytes (reader_in old.input)
-  pub size : size_of (reader_in new.input) ≡ size_of (reader_in old.input)
-
--- each file is
-abbrev pub AreMoved : {R : Type 0} → (R → Option (List ℕ)) → (R → ℕ) → List (PinnedInput R) → List (PinnedInput R) → Type 0
-AreMoved bytes size [] [] = ⊤
-AreMoved bytes size [] (now ∷ new) = ⊥
-AreMoved bytes size (file ∷ old) [] = ⊥
-AreMoved bytes size (file ∷ old) (now ∷ new) = IsMoved bytes size file now × AreMoved bytes size old new
 
 -- Damage of one of the files, which isn't the recorded one, and at which reading ended: of those behind it no block was taken, though some may have been read ahead.
 abbrev pub IsDamageIn : {R : Type 0} → (R → Option (List ℕ)) → (R → ℕ) → Damage → List (PinnedInput R) → List (PinnedInput R) → Type 0

@@ -1,11 +1,11 @@
 -- Laws of queries over views.
 use Rattle.std.specs.Prelude.{◌≡◌, List, ◌∷◌, ◌++◌}
-use Rattle.mesa_open_files.specs.mesa_columns.declared.rows.Row.{Row}
-use Rattle.mesa_open_files.specs.mesa_columns.declared.views.View.{View}
-use Rattle.mesa_open_files.specs.mesa_columns.Columns.{Columns, aggs_of}
-use Rattle.mesa_open_files.specs.mesa_fold.Folded.{folded}
-use Rattle.mesa_schema.specs.Views.{view_columns, view_rows}
-use Rattle.mesa_query.specs.Relation.{under_view}
+use Rattle.mesa_group_blocks.specs.mesa_columns.declared.rows.Row.{Row}
+use Rattle.mesa_group_blocks.specs.mesa_columns.declared.views.View.{View}
+use Rattle.mesa_group_blocks.specs.mesa_columns.Columns.{Columns, aggs_of}
+use Rattle.mesa_group_blocks.specs.mesa_fold.Folded.{folded}
+use Rattle.mesa_group_blocks.specs.mesa_schema.Views.{view_columns, view_rows}
+use Rattle.mesa_group_blocks.specs.Ungrouped.{under_view}
 
 -- A view's rows that are derived from a part of its table need not be grouped first: wherever the part stands among others, they fold to the same as the part's rows under the view's keys.
 abbrev pub FoldsUngrouped : Type 0

@@ -1,18 +1,15 @@
 -- The rows of files as rows of the queried relation.
-use Rattle.std.specs.Prelude.{ℕ, List, [], ◌∷◌, map, Bool, true, false, Option, None, Some}
-use Rattle.mesa_open_files.specs.mesa_columns.declared.rows.Row.{Row}
-use Rattle.mesa_open_files.specs.mesa_columns.declared.views.View.{View}
-use Rattle.mesa_open_files.specs.mesa_columns.Columns.{Columns, aggs_of}
-use Rattle.mesa_schema.specs.Changes.{Lineage, columns_of}
-use Rattle.mesa_open_files.specs.mesa_fold.Folded.{folded, regrouped}
-use Rattle.mesa_schema.specs.Views.{view_key_places, view_value_places}
+use Rattle.std.specs.Prelude.{ℕ, List, [], ◌∷◌, Option}
+use Rattle.mesa_group_blocks.specs.mesa_columns.declared.rows.Row.{Row}
+use Rattle.mesa_group_blocks.specs.mesa_columns.Columns.{Columns, aggs_of}
+use Rattle.mesa_group_blocks.specs.mesa_fold.Folded.{folded}
 use Rattle.mesa_filter.specs.Query.{BuiltQuery}
 use Rattle.mesa_model.specs.declared.replies.Page.{Page}
 use Rattle.mesa_model.specs.Page.{page_of}
 use Rattle.mesa_model.specs.Query.{answer_rows}
-use Rattle.mesa_open_files.specs.Inputs.{lifted_in, lineage_of}
-use Rattle.mesa_open_files.specs.Pins.{rows_pinned, view_at}
-use Rattle.mesa_open_files.specs.declared.querying.PinnedInput.{PinnedInput}
+use Rattle.mesa_group_blocks.specs.mesa_open_files.Pins.{rows_pinned}
+use Rattle.mesa_group_blocks.specs.mesa_open_files.declared.querying.PinnedInput.{PinnedInput}
+pub use Rattle.mesa_group_blocks.specs.Ungrouped.{parts_ungrouped, rows_under, rows_ungrouped, under_some, under_view}
 
 -- The relation's rows in each pinned file, by the rows of the files: its own, or its table's grouped by the view.
 abbrev pub parts_pinned : {R : Type 0} → Option ℕ → List (PinnedInput R) → List (List Row) → List (List Row)
@@ -23,26 +20,3 @@ parts_pinned view (file ∷ files) (rows ∷ contents) = rows_pinned view file r
 -- The page of a query over parts of its relation that were loaded one after the other: of the answer over their fold.
 abbrev pub page_over : Columns → BuiltQuery → List (List Row) → Page
 page_over s q parts = page_of q.version q.limit q.resume (answer_rows s q.asked (folded (aggs_of s) parts))
-
--- rows of a table under a view's keys, with the view's values, each by itself
-abbrev pub under_view : Columns → View → List Row → List Row
-under_view table v rows = map (regrouped table (view_key_places table v) (view_value_places table v)) rows
-
-abbrev pub under_some : Columns → List Row → Option View → List Row
-under_some table rows None = []
-under_some table rows (Some v) = under_view table v rows
-
--- a file's present rows under the relation's keys: the relation's own as they are, or those of its table, each by itself
-abbrev pub rows_under : Option ℕ → Lineage → List Row → Bool → List Row
-rows_under view l rows true = rows
-rows_under view l rows false = under_some (columns_of l) rows (view_at l view)
-
--- What the rows of a pinned file are in the relation before any of them are grouped,
-abbrev pub rows_ungrouped : {R : Type 0} → Option ℕ → PinnedInput R → List Row → List Row
-rows_ungrouped view file rows = rows_under view (lineage_of file.input) (lifted_in file.input rows) file.own
-
--- and those of each file.
-abbrev pub parts_ungrouped : {R : Type 0} → Option ℕ → List (PinnedInput R) → List (List Row) → List (List Row)
-parts_ungrouped view [] contents = []
-parts_ungrouped view (file ∷ files) [] = []
-parts_ungrouped view (file ∷ files) (rows ∷ contents) = rows_ungrouped view file rows ∷ parts_ungrouped view files contents

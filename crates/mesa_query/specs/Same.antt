@@ -1,13 +1,14 @@
 -- A pinned query that is the same, however much of its files was read.
 use Rattle.std.specs.Prelude.{◌≡◌, ℕ, List, map, Option}
 use Rattle.std.specs.List.{AllByRecursion}
-use Rattle.mesa_open_files.specs.mesa_columns.Columns.{Columns}
-use Rattle.mesa_query.specs.Files.{inputs_in, owns_in}
-use Rattle.mesa_merge.specs.Inputs.{knowns_of}
-use Rattle.mesa_scan.specs.Cursors.{IsInput, reader_in}
-use Rattle.mesa_open_files.specs.Pins.{IsPinned}
-use Rattle.mesa_open_files.specs.declared.querying.Pinned.{Pinned}
-use Rattle.mesa_open_files.specs.declared.querying.PinnedInput.{PinnedInput}
+use Rattle.mesa_group_blocks.specs.mesa_columns.Columns.{Columns}
+use Rattle.mesa_group_blocks.specs.Moved.{inputs_in}
+use Rattle.mesa_query.specs.Files.{owns_in}
+use Rattle.mesa_group_blocks.specs.mesa_merge.Inputs.{knowns_of}
+use Rattle.mesa_group_blocks.specs.mesa_scan.Cursors.{IsInput, reader_in}
+use Rattle.mesa_group_blocks.specs.mesa_open_files.Pins.{IsPinned}
+use Rattle.mesa_group_blocks.specs.mesa_open_files.declared.querying.Pinned.{Pinned}
+use Rattle.mesa_group_blocks.specs.mesa_open_files.declared.querying.PinnedInput.{PinnedInput}
 
 -- the readers of a query's files
 abbrev pub readers_in : {R : Type 0} → List (PinnedInput R) → List R

@@ -1,19 +1,19 @@
 -- A group's sum that leaves its type, and the newest file that holds the group.
 use Rattle.std.specs.Prelude.{◌≡◌, ℕ, ◌<◌, ◌≤◌, List, [], ◌++◌, slice_get, Option, Some}
 use Rattle.mesa_file.specs.declared.damage.Damage.{Damage}
-use Rattle.mesa_open_files.specs.mesa_columns.declared.rows.Row.{Row}
-use Rattle.mesa_open_files.specs.mesa_columns.Columns.{Columns}
-use Rattle.mesa_open_files.specs.mesa_fold.Folded.{rows_of}
+use Rattle.mesa_group_blocks.specs.mesa_columns.declared.rows.Row.{Row}
+use Rattle.mesa_group_blocks.specs.mesa_columns.Columns.{Columns}
+use Rattle.mesa_group_blocks.specs.mesa_fold.Folded.{rows_of}
 use Rattle.mesa_filter.specs.declared.terms.Term.{Term}
 use Rattle.mesa_filter.specs.Filter.{filtered}
-use Rattle.mesa_delta.specs.Reading.{index_of}
-use Rattle.mesa_merge.specs.Inputs.{AreTold, IsTold, known_of, knowns_of}
-use Rattle.mesa_answer.specs.Gathering.{Wanted}
-use Rattle.mesa_answer.specs.Sums.{HasGroup, SumLeavesAmong}
-use Rattle.mesa_view.specs.SumDamage.{IsSumDamage}
-use Rattle.mesa_open_files.specs.declared.querying.PinnedInput.{PinnedInput}
-use Rattle.mesa_query.specs.Files.{inputs_in}
-use Rattle.mesa_query.specs.Relation.{parts_ungrouped, rows_ungrouped}
+use Rattle.mesa_group_blocks.specs.mesa_delta.Reading.{index_of}
+use Rattle.mesa_group_blocks.specs.mesa_merge.Inputs.{AreTold, IsTold, known_of, knowns_of}
+use Rattle.mesa_group_blocks.specs.mesa_answer.Gathering.{Wanted}
+use Rattle.mesa_group_blocks.specs.mesa_answer.Sums.{HasGroup, SumLeavesAmong}
+use Rattle.mesa_group_blocks.specs.mesa_view.SumDamage.{IsSumDamage}
+use Rattle.mesa_group_blocks.specs.mesa_open_files.declared.querying.PinnedInput.{PinnedInput}
+use Rattle.mesa_group_blocks.specs.Moved.{inputs_in}
+use Rattle.mesa_group_blocks.specs.Ungrouped.{parts_ungrouped, rows_ungrouped}
 
 -- a file's matching rows under the relation's keys, by its rows
 abbrev pub rows_matching : {R : Type 0} → Columns → List Term → Option ℕ → PinnedInput R → List Row → List Row

@@ -1,11 +1,11 @@
 -- The whole answer to a query.
 use Rattle.std.specs.Prelude.{◌-◌, ◌^◌, List, false, None}
-use Rattle.mesa_open_files.specs.mesa_columns.declared.rows.Row.{Row}
-use Rattle.mesa_open_files.specs.mesa_columns.Columns.{Columns, aggs_of}
-use Rattle.mesa_open_files.specs.mesa_fold.Folded.{folded}
+use Rattle.mesa_group_blocks.specs.mesa_columns.declared.rows.Row.{Row}
+use Rattle.mesa_group_blocks.specs.mesa_columns.Columns.{Columns, aggs_of}
+use Rattle.mesa_group_blocks.specs.mesa_fold.Folded.{folded}
 use Rattle.mesa_filter.specs.Query.{BuiltQuery}
 use Rattle.mesa_model.specs.Query.{answer_rows}
-use Rattle.mesa_answer.specs.Gathering.{Wanted}
+use Rattle.mesa_group_blocks.specs.mesa_answer.Gathering.{Wanted}
 
 -- The rows of a query over parts of its relation that were loaded one after the other: of the answer over their fold, without a page's cut.
 abbrev pub whole_over : Columns → BuiltQuery → List (List Row) → List Row

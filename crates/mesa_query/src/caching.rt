@@ -1,13 +1,12 @@
 // Caches put before the readers of a query's files, and taken away again.
 ghost use Rattle.std.specs.Prelude.{◌≡◌, ◌≤◌, ◌+◌, ◌++◌, [], ◌∷◌, map, reverse, vec_len, vec_capacity, IfOk, IfErr};
-ghost use Rattle.mesa_scan.specs.Cursors.{IsInput};
+ghost use Rattle.mesa_group_blocks.specs.mesa_scan.Cursors.{IsInput};
 ghost use Rattle.mesa_query.specs.Cooled.{cooled_file};
 ghost use Rattle.mesa_query.specs.Same.{AreReadable, AreSameFiles};
 
 use mesa_cache::Cached;
-use mesa_delta::{DeltaReader, Input};
 use mesa_disk::FileReader;
-use mesa_open_files::PinnedInput;
+use mesa_group_blocks::{DeltaReader, Input, PinnedInput};
 use std::alloc::{AllocError, Global};
 
 // A query's files.

@@ -1,41 +1,39 @@
 // Pinned files put into the groups of a query.
 ghost use Rattle.std.specs.Prelude.{◌≡◌, ◌⊎◌, ◌+◌, ◌++◌, ◌<◌, [], ℕ, List, drop, length, slice_get, Err, OnOk, IfErr, IsTrue, Some};
 ghost use Rattle.std.specs.List.{AllByRecursion};
-ghost use Rattle.mesa_open_files.specs.mesa_io.Causes.{HasFaultCause};
+ghost use Rattle.mesa_group_blocks.specs.mesa_io.Causes.{HasFaultCause};
 ghost use Rattle.mesa_file.specs.declared.damage.Damage.{Damage as AnyDamage};
-ghost use Rattle.mesa_open_files.specs.mesa_columns.declared.rows.Row.{Row as AnyRow};
-ghost use Rattle.mesa_open_files.specs.mesa_columns.Columns.{kinds_of};
-ghost use Rattle.mesa_open_files.specs.mesa_fold.Folded.{rows_of};
+ghost use Rattle.mesa_group_blocks.specs.mesa_columns.declared.rows.Row.{Row as AnyRow};
+ghost use Rattle.mesa_group_blocks.specs.mesa_columns.Columns.{kinds_of};
+ghost use Rattle.mesa_group_blocks.specs.mesa_fold.Folded.{rows_of};
 ghost use Rattle.mesa_filter.specs.Filter.{filtered};
 ghost use Rattle.mesa_filter.specs.Query.{are_places};
-ghost use Rattle.mesa_delta.specs.Ahead.{AreAhead, AreOfFile, Told as AnyTold};
-ghost use Rattle.mesa_delta.specs.Reading.{index_of};
-ghost use Rattle.mesa_delta.specs.declared.error.FileError.TheVariants as file_error;
-ghost use Rattle.mesa_scan.specs.Cursors.{IsSameInput, reader_in};
-ghost use Rattle.mesa_scan.specs.Damaged.{IsDamaged};
-ghost use Rattle.mesa_scan.specs.Moving.{told_in};
-ghost use Rattle.mesa_merge.specs.Faults.{HaveFaultCause, faults_of};
-ghost use Rattle.mesa_merge.specs.Inputs.{AreTold, IsTold, known_of, knowns_of, tolds_of};
-ghost use Rattle.mesa_answer.specs.Answering.{KeepsSums};
-ghost use Rattle.mesa_answer.specs.Gathered.{HasPut, key_at_hand, wanted_of};
-ghost use Rattle.mesa_answer.specs.Sums.{SumLeavesAmong};
-ghost use Rattle.mesa_open_files.specs.Pins.{IsPinnedInput};
-ghost use Rattle.mesa_query.specs.Files.{AreMoved, IsDamageIn, IsMoved, inputs_in, owns_in};
-ghost use Rattle.mesa_query.specs.Relation.{parts_ungrouped, rows_ungrouped};
+ghost use Rattle.mesa_group_blocks.specs.mesa_delta.Ahead.{AreAhead, AreOfFile, Told as AnyTold};
+ghost use Rattle.mesa_group_blocks.specs.mesa_delta.Reading.{index_of};
+ghost use Rattle.mesa_group_blocks.specs.mesa_delta.declared.error.FileError.TheVariants as file_error;
+ghost use Rattle.mesa_group_blocks.specs.mesa_scan.Cursors.{IsSameInput, reader_in};
+ghost use Rattle.mesa_group_blocks.specs.mesa_scan.Damaged.{IsDamaged};
+ghost use Rattle.mesa_group_blocks.specs.mesa_scan.Moving.{told_in};
+ghost use Rattle.mesa_group_blocks.specs.mesa_merge.Faults.{HaveFaultCause, faults_of};
+ghost use Rattle.mesa_group_blocks.specs.mesa_merge.Inputs.{AreTold, IsTold, known_of, knowns_of, tolds_of};
+ghost use Rattle.mesa_group_blocks.specs.mesa_answer.Answering.{KeepsSums};
+ghost use Rattle.mesa_group_blocks.specs.mesa_answer.Gathered.{HasPut, key_at_hand, wanted_of};
+ghost use Rattle.mesa_group_blocks.specs.mesa_answer.Sums.{SumLeavesAmong};
+ghost use Rattle.mesa_group_blocks.specs.mesa_open_files.Pins.{IsPinnedInput};
+ghost use Rattle.mesa_group_blocks.specs.Moved.{AreMoved, IsMoved, inputs_in};
+ghost use Rattle.mesa_query.specs.Files.{IsDamageIn, owns_in};
+ghost use Rattle.mesa_group_blocks.specs.Ungrouped.{parts_ungrouped, rows_ungrouped};
 ghost use Rattle.mesa_query.specs.Sums.{IsNewestFrom, IsSumIn, rows_matching};
-ghost use Rattle.mesa_view.specs.SumDamage.{IsSumDamage};
-ghost use Rattle.mesa_view.specs.declared.error.GatherError.TheVariants as gather;
+ghost use Rattle.mesa_group_blocks.specs.mesa_view.SumDamage.{IsSumDamage};
+ghost use Rattle.mesa_group_blocks.specs.mesa_view.declared.error.GatherError.TheVariants as gather;
 
-use crate::beside::gathered_beside;
 use crate::newest::newest_from;
-use crate::regrouped::gather_regrouped;
-use mesa_answer::Groups;
-use mesa_delta::{Ahead, FileError};
 use mesa_disk::FileReader;
 use mesa_filter::Filter;
-use mesa_open_files::PinnedInput;
-use mesa_scan::read_ahead;
-use mesa_view::{GatherError, gather, sum_damage};
+use mesa_group_blocks::{
+    Ahead, FileError, GatherError, Groups, PinnedInput, gather, gather_regrouped, gathered_beside,
+    read_ahead, sum_damage,
+};
 use std::alloc::Global;
 use std::thread::Threads;
 

@@ -4,16 +4,10 @@
 #![tactic(auto)]
 
 mod answering;
-mod beside;
 mod caching;
-mod decoding;
 mod gathering;
-mod jobs;
 mod laws;
 mod newest;
-mod pieces;
-mod reading;
-mod regrouped;
 mod relation;
 mod unpaged;
 mod warm;

@@ -1,33 +1,31 @@
 // The newest file that holds a group whose sum leaves its type.
 ghost use Rattle.std.specs.Prelude.{◌≡◌, ◌+◌, ◌<◌, ◌↔◌, List, drop, length, slice_get, IfOk, IfErr, IsTrue, Some};
 ghost use Rattle.std.specs.List.{AllByRecursion};
-ghost use Rattle.mesa_open_files.specs.mesa_io.Causes.{HasFaultCause};
+ghost use Rattle.mesa_group_blocks.specs.mesa_io.Causes.{HasFaultCause};
 ghost use Rattle.mesa_file.specs.declared.damage.Damage.{Damage as AnyDamage};
-ghost use Rattle.mesa_open_files.specs.mesa_columns.declared.rows.Row.{Row as AnyRow};
-ghost use Rattle.mesa_open_files.specs.mesa_columns.Columns.{kinds_of};
+ghost use Rattle.mesa_group_blocks.specs.mesa_columns.declared.rows.Row.{Row as AnyRow};
+ghost use Rattle.mesa_group_blocks.specs.mesa_columns.Columns.{kinds_of};
 ghost use Rattle.mesa_filter.specs.Query.{are_places};
-ghost use Rattle.mesa_delta.specs.Ahead.{AreAhead, AreOfFile, Told as AnyTold};
-ghost use Rattle.mesa_delta.specs.Reading.{index_of};
-ghost use Rattle.mesa_delta.specs.declared.error.FileError.TheVariants as file_error;
-ghost use Rattle.mesa_scan.specs.Cursors.{IsSameInput, reader_in};
-ghost use Rattle.mesa_scan.specs.Damaged.{IsDamaged};
-ghost use Rattle.mesa_scan.specs.Moving.{told_in};
-ghost use Rattle.mesa_merge.specs.Faults.{HaveFaultCause, faults_of};
-ghost use Rattle.mesa_merge.specs.Inputs.{IsTold, known_of, knowns_of, tolds_of};
-ghost use Rattle.mesa_answer.specs.Gathered.{key_at_hand, wanted_of};
-ghost use Rattle.mesa_answer.specs.Sums.{HasGroup};
-ghost use Rattle.mesa_open_files.specs.Pins.{IsPinnedInput};
-ghost use Rattle.mesa_query.specs.Files.{IsDamageIn, inputs_in, owns_in};
+ghost use Rattle.mesa_group_blocks.specs.mesa_delta.Ahead.{AreAhead, AreOfFile, Told as AnyTold};
+ghost use Rattle.mesa_group_blocks.specs.mesa_delta.Reading.{index_of};
+ghost use Rattle.mesa_group_blocks.specs.mesa_delta.declared.error.FileError.TheVariants as file_error;
+ghost use Rattle.mesa_group_blocks.specs.mesa_scan.Cursors.{IsSameInput, reader_in};
+ghost use Rattle.mesa_group_blocks.specs.mesa_scan.Damaged.{IsDamaged};
+ghost use Rattle.mesa_group_blocks.specs.mesa_scan.Moving.{told_in};
+ghost use Rattle.mesa_group_blocks.specs.mesa_merge.Faults.{HaveFaultCause, faults_of};
+ghost use Rattle.mesa_group_blocks.specs.mesa_merge.Inputs.{IsTold, known_of, knowns_of, tolds_of};
+ghost use Rattle.mesa_group_blocks.specs.mesa_answer.Gathered.{key_at_hand, wanted_of};
+ghost use Rattle.mesa_group_blocks.specs.mesa_answer.Sums.{HasGroup};
+ghost use Rattle.mesa_group_blocks.specs.mesa_open_files.Pins.{IsPinnedInput};
+ghost use Rattle.mesa_group_blocks.specs.Moved.{inputs_in};
+ghost use Rattle.mesa_query.specs.Files.{IsDamageIn, owns_in};
 ghost use Rattle.mesa_query.specs.Sums.{IsNewestFrom, rows_matching};
 
 use crate::gathering::gather_one;
-use mesa_answer::Groups;
-use mesa_delta::{Ahead, FileError};
 use mesa_disk::FileReader;
 use mesa_file::FileId;
 use mesa_filter::Filter;
-use mesa_open_files::PinnedInput;
-use mesa_view::GatherError;
+use mesa_group_blocks::{Ahead, FileError, GatherError, Groups, PinnedInput};
 use std::alloc::Global;
 
 // The newest file that holds the group at hand: this one, which holds it, or one behind it. So those behind it are read to their ends.

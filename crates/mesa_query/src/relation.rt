@@ -1,14 +1,13 @@
 // The columns of the queried relation.
 ghost use Rattle.std.specs.Prelude.{◌≡◌, ℕ, IfOk, Option, List};
-ghost use Rattle.mesa_schema.specs.Changes.{columns_of};
-ghost use Rattle.mesa_open_files.specs.mesa_columns.Columns.{Columns};
-ghost use Rattle.mesa_open_files.specs.Inputs.{lineage_of};
-ghost use Rattle.mesa_open_files.specs.Pins.{IsOfRelation};
+ghost use Rattle.mesa_group_blocks.specs.mesa_schema.Changes.{columns_of};
+ghost use Rattle.mesa_group_blocks.specs.mesa_columns.Columns.{Columns};
+ghost use Rattle.mesa_group_blocks.specs.mesa_open_files.Inputs.{lineage_of};
+ghost use Rattle.mesa_group_blocks.specs.mesa_open_files.Pins.{IsOfRelation};
 
 use mesa_disk::FileReader;
+use mesa_group_blocks::{PinnedInput, Schema};
 use mesa_list::TryCopy;
-use mesa_open_files::PinnedInput;
-use mesa_schema::Schema;
 use std::alloc::AllocError;
 
 // The columns of the relation of this file: its own, or those of its table's view of this number.

@@ -2,30 +2,29 @@
 ghost use Rattle.std.specs.Prelude.{◌≡◌, ◌⊎◌, List, IfOk, IfErr};
 ghost use Rattle.std.specs.List.{AllByRecursion};
 ghost use Rattle.mesa_file.specs.declared.damage.Damage.{Damage as AnyDamage};
-ghost use Rattle.mesa_open_files.specs.mesa_columns.declared.rows.Row.{Row as AnyRow};
-ghost use Rattle.mesa_open_files.specs.mesa_columns.Columns.{Columns};
-ghost use Rattle.mesa_open_files.specs.mesa_fold.Folded.{rows_of};
-ghost use Rattle.mesa_open_files.specs.mesa_columns.Rows.{AreRowsOf};
+ghost use Rattle.mesa_group_blocks.specs.mesa_columns.declared.rows.Row.{Row as AnyRow};
+ghost use Rattle.mesa_group_blocks.specs.mesa_columns.Columns.{Columns};
+ghost use Rattle.mesa_group_blocks.specs.mesa_fold.Folded.{rows_of};
+ghost use Rattle.mesa_group_blocks.specs.mesa_columns.Rows.{AreRowsOf};
 ghost use Rattle.mesa_filter.specs.Query.{IsQueryOf};
-ghost use Rattle.mesa_delta.specs.declared.error.FileError.TheVariants as file_error;
-ghost use Rattle.mesa_merge.specs.Faults.{HaveFaultCause, faults_of};
-ghost use Rattle.mesa_merge.specs.Inputs.{AreTold, knowns_of};
-ghost use Rattle.mesa_answer.specs.Answering.{KeepsSums, grouped_columns};
-ghost use Rattle.mesa_open_files.specs.Pins.{IsPinned, IsPinnedInput};
-ghost use Rattle.mesa_query.specs.Files.{IsDamageIn, inputs_in, owns_in};
-ghost use Rattle.mesa_query.specs.Relation.{parts_pinned, parts_ungrouped};
+ghost use Rattle.mesa_group_blocks.specs.mesa_delta.declared.error.FileError.TheVariants as file_error;
+ghost use Rattle.mesa_group_blocks.specs.mesa_merge.Faults.{HaveFaultCause, faults_of};
+ghost use Rattle.mesa_group_blocks.specs.mesa_merge.Inputs.{AreTold, knowns_of};
+ghost use Rattle.mesa_group_blocks.specs.mesa_answer.Answering.{KeepsSums, grouped_columns};
+ghost use Rattle.mesa_group_blocks.specs.mesa_open_files.Pins.{IsPinned, IsPinnedInput};
+ghost use Rattle.mesa_group_blocks.specs.Moved.{inputs_in};
+ghost use Rattle.mesa_query.specs.Files.{IsDamageIn, owns_in};
+ghost use Rattle.mesa_group_blocks.specs.Ungrouped.{parts_ungrouped};
+ghost use Rattle.mesa_query.specs.Relation.{parts_pinned};
 ghost use Rattle.mesa_query.specs.Sums.{IsSumIn};
 ghost use Rattle.mesa_query.specs.Whole.{all_wanted, whole_over};
 
 use crate::gathering::gather_all;
 use crate::relation::relation_columns;
-use mesa_answer::{Groups, answer_over_parts};
-use mesa_delta::FileError;
 use mesa_disk::FileReader;
 use mesa_filter::Query;
+use mesa_group_blocks::{FileError, Groups, Pinned, PinnedInput, RowList, answer_over_parts};
 use mesa_list::Items;
-use mesa_open_files::{Pinned, PinnedInput};
-use mesa_schema::RowList;
 use std::alloc::Global;
 
 /// All rows of the answer to a pinned query, without a page's cut, from its files in the order of their versions.

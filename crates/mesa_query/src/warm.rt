@@ -1,28 +1,29 @@
 // A pinned query whose files are read through caches.
 ghost use Rattle.std.specs.Prelude.{◌≡◌, ◌≤◌, ◌⊎◌, List, IfOk, IfErr};
-ghost use Rattle.mesa_delta.specs.declared.error.FileError.TheVariants as file_error;
+ghost use Rattle.mesa_group_blocks.specs.mesa_delta.declared.error.FileError.TheVariants as file_error;
 ghost use Rattle.mesa_file.specs.declared.damage.Damage.{Damage as AnyDamage};
-ghost use Rattle.mesa_open_files.specs.mesa_columns.declared.rows.Row.{Row as AnyRow};
-ghost use Rattle.mesa_open_files.specs.mesa_columns.Columns.{Columns};
-ghost use Rattle.mesa_open_files.specs.mesa_fold.Folded.{rows_of};
-ghost use Rattle.mesa_open_files.specs.mesa_columns.Rows.{AreRowsOf};
-ghost use Rattle.mesa_answer.specs.Answering.{KeepsSums, grouped_columns};
-ghost use Rattle.mesa_answer.specs.Gathering.{wanted_by};
-ghost use Rattle.mesa_merge.specs.Faults.{HaveFaultCause, faults_of};
-ghost use Rattle.mesa_merge.specs.Inputs.{AreTold, knowns_of};
-ghost use Rattle.mesa_query.specs.Files.{IsDamageIn, inputs_in, owns_in};
-ghost use Rattle.mesa_query.specs.Relation.{page_over, parts_pinned, parts_ungrouped};
+ghost use Rattle.mesa_group_blocks.specs.mesa_columns.declared.rows.Row.{Row as AnyRow};
+ghost use Rattle.mesa_group_blocks.specs.mesa_columns.Columns.{Columns};
+ghost use Rattle.mesa_group_blocks.specs.mesa_fold.Folded.{rows_of};
+ghost use Rattle.mesa_group_blocks.specs.mesa_columns.Rows.{AreRowsOf};
+ghost use Rattle.mesa_group_blocks.specs.mesa_answer.Answering.{KeepsSums, grouped_columns};
+ghost use Rattle.mesa_group_blocks.specs.mesa_answer.Gathering.{wanted_by};
+ghost use Rattle.mesa_group_blocks.specs.mesa_merge.Faults.{HaveFaultCause, faults_of};
+ghost use Rattle.mesa_group_blocks.specs.mesa_merge.Inputs.{AreTold, knowns_of};
+ghost use Rattle.mesa_group_blocks.specs.Moved.{inputs_in};
+ghost use Rattle.mesa_query.specs.Files.{IsDamageIn, owns_in};
+ghost use Rattle.mesa_group_blocks.specs.Ungrouped.{parts_ungrouped};
+ghost use Rattle.mesa_query.specs.Relation.{page_over, parts_pinned};
 ghost use Rattle.mesa_query.specs.Sums.{IsSumIn};
-ghost use Rattle.mesa_open_files.specs.Pins.{IsPinned};
+ghost use Rattle.mesa_group_blocks.specs.mesa_open_files.Pins.{IsPinned};
 ghost use Rattle.mesa_query.specs.Same.{IsSamePin};
 
 use crate::answer;
 use crate::caching::{cool_all, warm_all};
 use mesa_cache::Cached;
-use mesa_delta::FileError;
 use mesa_disk::FileReader;
+use mesa_group_blocks::{FileError, Pinned, PinnedInput};
 use mesa_model::Page;
-use mesa_open_files::{Pinned, PinnedInput};
 use std::alloc::{AllocError, Global};
 use std::marker::Model;
 use std::thread::Threads;
@@ -37,7 +38,7 @@ pub struct Warm<R: FileReader> {
 }
 
 impl<R: FileReader> Model for Warm<R> {
-    ghost use Rattle.mesa_open_files.specs.declared.querying.Pinned.{Pinned as AnyPinned};
+    ghost use Rattle.mesa_group_blocks.specs.mesa_open_files.declared.querying.Pinned.{Pinned as AnyPinned};
     ghost use Rattle.mesa_query.specs.Cooled.{cooled};
     ghost use Rattle.mesa_query.specs.Kept.{IsKept};
 

@@ -21,7 +21,7 @@ use Rattle.mesa_store_spec.specs.Catalog.{Catalog}
 use Rattle.mesa_pick_files.specs.mesa_merge.Faults.{SomeRose, faults_of}
 use Rattle.mesa_pick_files.specs.mesa_merge.Inputs.{AreTold, knowns_of}
 use Rattle.mesa_pick_files.specs.Told.{TellContent}
-use Rattle.mesa_query.specs.Files.{inputs_in}
+use Rattle.mesa_query.specs.mesa_group_blocks.Moved.{inputs_in}
 use Rattle.mesa_query.specs.Relation.{parts_pinned}
 use Rattle.mesa_query.specs.Whole.{whole_over}
 use Rattle.mesa_open_files.specs.GivingBack.{GivesBack, SomeFailed}

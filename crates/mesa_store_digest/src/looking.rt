@@ -6,7 +6,7 @@ ghost use Rattle.mesa_open_files.specs.mesa_file.declared.damage.Damage.{Damage 
 ghost use Rattle.mesa_store_spec.specs.Catalog.{meta_at};
 ghost use Rattle.mesa_pick_files.specs.mesa_merge.Faults.{HaveFaultCause, faults_of};
 ghost use Rattle.mesa_pick_files.specs.Told.{TellContent};
-ghost use Rattle.mesa_query.specs.Files.{inputs_in};
+ghost use Rattle.mesa_query.specs.mesa_group_blocks.Moved.{inputs_in};
 ghost use Rattle.mesa_recover.specs.Opened.{IsOpened};
 ghost use Rattle.mesa_validate.specs.Found.{columns_at};
 ghost use Rattle.mesa_pick_files.specs.mesa_columns.declared.rows.Row.{Row as AnyRow};

@@ -1,18 +1,18 @@
 use Rattle.std.proofs.Common.{◌∙◌, ap, subst, sym, refl}
 use Rattle.std.proofs.lemmas.Result.{err_from_is_err_and}
-use Rattle.mesa_delta.specs.declared.error.FileError.TheVariants as file_error
-use Rattle.mesa_open_files.specs.mesa_columns.Columns.{Columns, kinds_of}
-use Rattle.mesa_open_files.specs.mesa_fold.Folded.{rows_of}
-use Rattle.mesa_open_files.specs.mesa_columns.Rows.{AreRowsOf}
+use Rattle.mesa_group_blocks.specs.mesa_delta.declared.error.FileError.TheVariants as file_error
+use Rattle.mesa_group_blocks.specs.mesa_columns.Columns.{Columns, kinds_of}
+use Rattle.mesa_group_blocks.specs.mesa_fold.Folded.{rows_of}
+use Rattle.mesa_group_blocks.specs.mesa_columns.Rows.{AreRowsOf}
 use Rattle.mesa_filter.specs.Query.{IsQueryOf}
-use Rattle.mesa_merge.proofs.Causing.{cause_other, cause_quiet}
-use Rattle.mesa_answer.specs.Answering.{grouped_columns}
-use Rattle.mesa_answer.specs.Gathered.{wanted_of}
-use Rattle.mesa_answer.specs.Gathering.{Wanted, wanted_by}
-use Rattle.mesa_open_files.specs.Pins.{IsPinnedInput}
+use Rattle.mesa_group_blocks.proofs.mesa_merge.Causing.{cause_other, cause_quiet}
+use Rattle.mesa_group_blocks.specs.mesa_answer.Answering.{grouped_columns}
+use Rattle.mesa_group_blocks.specs.mesa_answer.Gathered.{wanted_of}
+use Rattle.mesa_group_blocks.specs.mesa_answer.Gathering.{Wanted, wanted_by}
+use Rattle.mesa_group_blocks.specs.mesa_open_files.Pins.{IsPinnedInput}
 use Rattle.std.specs.List.{AllByRecursion}
 use Rattle.std.specs.Prelude.{None}
-use Rattle.mesa_query.specs.Relation.{parts_ungrouped}
+use Rattle.mesa_group_blocks.specs.Ungrouped.{parts_ungrouped}
 use Rattle.mesa_query.proofs.Answered.{first_relation, none_first, page_empty, page_made, sum_wanted, sums_matching, wanted_columns}
 use Rattle.mesa_query.proofs.answering.answer_from.Goals as goal
 

@@ -3,26 +3,28 @@ use Rattle.std.proofs.lemmas.List.{get_or-set_same, get_or_default, length-set}
 use Rattle.std.proofs.lemmas.Result.{err_from_is_err_and}
 use Rattle.std.specs.Prelude.{Err, IsTrue}
 use Rattle.std.specs.List.{AllByRecursion}
-use Rattle.mesa_open_files.specs.mesa_columns.declared.rows.Row.{Row}
-use Rattle.mesa_open_files.specs.mesa_columns.Columns.{kinds_of}
+use Rattle.mesa_group_blocks.specs.mesa_columns.declared.rows.Row.{Row}
+use Rattle.mesa_group_blocks.specs.mesa_columns.Columns.{kinds_of}
 use Rattle.mesa_filter.specs.Filter.{filtered}
 use Rattle.mesa_filter.specs.Query.{are_places}
-use Rattle.mesa_delta.specs.Ahead.{AreAhead}
-use Rattle.mesa_open_files.specs.mesa_delta_format.Indexed.{Indexed}
-use Rattle.mesa_merge.specs.Faults.{faults_of}
-use Rattle.mesa_merge.specs.Inputs.{IsTold, Known, known_of, knowns_of, tolds_of}
-use Rattle.mesa_merge.proofs.Causing.{cause_on, cause_quiet}
-use Rattle.mesa_answer.specs.Answering.{KeepsSums}
-use Rattle.mesa_answer.specs.Gathered.{key_at_hand, wanted_of}
-use Rattle.mesa_answer.specs.Gathering.{Wanted}
-use Rattle.mesa_answer.specs.Sums.{SumLeavesAmong}
-use Rattle.mesa_view.specs.declared.error.GatherError.TheVariants as gather
-use Rattle.mesa_open_files.specs.Pins.{IsPinnedInput}
-use Rattle.mesa_query.specs.Files.{IsDamageIn, inputs_in}
-use Rattle.mesa_query.specs.Relation.{rows_ungrouped}
+use Rattle.mesa_group_blocks.specs.mesa_delta.Ahead.{AreAhead}
+use Rattle.mesa_group_blocks.specs.mesa_delta_format.Indexed.{Indexed}
+use Rattle.mesa_group_blocks.specs.mesa_merge.Faults.{faults_of}
+use Rattle.mesa_group_blocks.specs.mesa_merge.Inputs.{IsTold, Known, known_of, knowns_of, tolds_of}
+use Rattle.mesa_group_blocks.proofs.mesa_merge.Causing.{cause_on, cause_quiet}
+use Rattle.mesa_group_blocks.specs.mesa_answer.Answering.{KeepsSums}
+use Rattle.mesa_group_blocks.specs.mesa_answer.Gathered.{key_at_hand, wanted_of}
+use Rattle.mesa_group_blocks.specs.mesa_answer.Gathering.{Wanted}
+use Rattle.mesa_group_blocks.specs.mesa_answer.Sums.{SumLeavesAmong}
+use Rattle.mesa_group_blocks.specs.mesa_view.declared.error.GatherError.TheVariants as gather
+use Rattle.mesa_group_blocks.specs.mesa_open_files.Pins.{IsPinnedInput}
+use Rattle.mesa_group_blocks.specs.Moved.{inputs_in}
+use Rattle.mesa_query.specs.Files.{IsDamageIn}
+use Rattle.mesa_group_blocks.specs.Ungrouped.{rows_ungrouped}
 use Rattle.mesa_query.specs.Sums.{IsNewestFrom, rows_matching}
-use Rattle.mesa_query.proofs.Contents.{all_matching, given_bounded, given_more, none_matching, told_count, told_here}
-use Rattle.mesa_query.proofs.Files.{all_at, all_set, file_cause, file_damage, file_fault, file_faults, file_known, left_more, length_known, looked_more, looked_on, moved_here, moved_known, moved_none, moved_owns, moved_pinned, moved_rows, moved_same, moved_told, own_ahead, own_set, sum_quiet, there_of_file}
+use Rattle.mesa_group_blocks.proofs.Contents.{all_matching, given_bounded, given_more, none_matching, told_count, told_here}
+use Rattle.mesa_group_blocks.proofs.Moved.{all_at, all_set, file_cause, file_faults, moved_known, moved_none, moved_same, there_of_file}
+use Rattle.mesa_query.proofs.Files.{file_damage, file_fault, file_known, left_more, length_known, looked_more, looked_on, moved_here, moved_owns, moved_pinned, moved_rows, moved_told, own_ahead, own_set, sum_quiet}
 use Rattle.mesa_query.proofs.Holding.{damage_behind, damage_moved, damage_unsound, sum_in}
 use Rattle.mesa_query.proofs.gathering.gather_all.Goals as goal
 

@@ -1,9 +1,9 @@
 use Rattle.std.proofs.Common.{◌≡◌, List}
-use Rattle.mesa_open_files.specs.mesa_columns.declared.rows.Row.{Row}
-use Rattle.mesa_merge.specs.Inputs.{AreTold, knowns_of}
-use Rattle.mesa_answer.specs.Gathered.{HasPut, wanted_of}
-use Rattle.mesa_query.specs.Files.{inputs_in}
-use Rattle.mesa_query.proofs.Contents.{matching_first}
+use Rattle.mesa_group_blocks.specs.mesa_columns.declared.rows.Row.{Row}
+use Rattle.mesa_group_blocks.specs.mesa_merge.Inputs.{AreTold, knowns_of}
+use Rattle.mesa_group_blocks.specs.mesa_answer.Gathered.{HasPut, wanted_of}
+use Rattle.mesa_group_blocks.specs.Moved.{inputs_in}
+use Rattle.mesa_group_blocks.proofs.Contents.{matching_first}
 use Rattle.mesa_query.proofs.Files.{Looked}
 use Rattle.mesa_query.proofs.gathering.gather_all.Given as goal
 

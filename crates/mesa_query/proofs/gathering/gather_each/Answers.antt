@@ -1,20 +1,21 @@
 use Rattle.std.proofs.Common.{◌≡◌, ◌∙◌, List, ap, inl, inr, subst, sym}
 use Rattle.std.proofs.lemmas.Result.{err_from_is_err_and, on_ok_weaker}
-use Rattle.mesa_open_files.specs.mesa_columns.declared.rows.Row.{Row}
-use Rattle.mesa_open_files.specs.mesa_fold.Folded.{rows_of}
+use Rattle.mesa_group_blocks.specs.mesa_columns.declared.rows.Row.{Row}
+use Rattle.mesa_group_blocks.specs.mesa_fold.Folded.{rows_of}
 use Rattle.mesa_filter.specs.Filter.{filtered}
-use Rattle.mesa_delta.specs.declared.error.FileError.TheVariants as file_error
-use Rattle.mesa_merge.specs.Faults.{HaveFaultCause, faults_of}
-use Rattle.mesa_merge.specs.Inputs.{AreTold, Known, knowns_of}
-use Rattle.mesa_merge.proofs.Causing.{cause_quiet}
-use Rattle.mesa_answer.specs.Answering.{KeepsSums}
-use Rattle.mesa_answer.specs.Gathered.{HasPut, wanted_of}
-use Rattle.mesa_answer.specs.declared.groups.Groups.{Groups}
-use Rattle.mesa_answer.proofs.Results.{if_err}
-use Rattle.mesa_query.specs.Files.{inputs_in}
-use Rattle.mesa_query.specs.Relation.{parts_ungrouped}
-use Rattle.mesa_query.proofs.Blocks.{some_here}
-use Rattle.mesa_query.proofs.Files.{moved_known, moved_owns, moved_pinned}
+use Rattle.mesa_group_blocks.specs.mesa_delta.declared.error.FileError.TheVariants as file_error
+use Rattle.mesa_group_blocks.specs.mesa_merge.Faults.{HaveFaultCause, faults_of}
+use Rattle.mesa_group_blocks.specs.mesa_merge.Inputs.{AreTold, Known, knowns_of}
+use Rattle.mesa_group_blocks.proofs.mesa_merge.Causing.{cause_quiet}
+use Rattle.mesa_group_blocks.specs.mesa_answer.Answering.{KeepsSums}
+use Rattle.mesa_group_blocks.specs.mesa_answer.Gathered.{HasPut, wanted_of}
+use Rattle.mesa_group_blocks.specs.mesa_answer.declared.groups.Groups.{Groups}
+use Rattle.mesa_group_blocks.proofs.mesa_answer.Results.{if_err}
+use Rattle.mesa_group_blocks.specs.Moved.{inputs_in}
+use Rattle.mesa_group_blocks.specs.Ungrouped.{parts_ungrouped}
+use Rattle.mesa_group_blocks.proofs.Blocks.{some_here}
+use Rattle.mesa_group_blocks.proofs.Moved.{moved_known}
+use Rattle.mesa_query.proofs.Files.{moved_owns, moved_pinned}
 use Rattle.mesa_query.proofs.Holding.{damage_moved, parts_moved, sum_before}
 use Rattle.mesa_query.proofs.gathering.gather_each.Goals as goal
 

@@ -1,13 +1,13 @@
 use Rattle.std.proofs.Common.{◌∙◌, ◌++◌, List, ap, subst, sym, refl}
-use Rattle.mesa_open_files.specs.mesa_columns.declared.rows.Row.{Row}
-use Rattle.mesa_open_files.specs.mesa_columns.Columns.{kinds_of}
+use Rattle.mesa_group_blocks.specs.mesa_columns.declared.rows.Row.{Row}
+use Rattle.mesa_group_blocks.specs.mesa_columns.Columns.{kinds_of}
 use Rattle.mesa_filter.specs.Filter.{filtered}
-use Rattle.mesa_answer.specs.Answering.{KeepsSums}
-use Rattle.mesa_answer.specs.Gathered.{wanted_of}
-use Rattle.mesa_answer.proofs.Results.{if_err, on_ok}
-use Rattle.mesa_open_files.specs.Inputs.{lifted_in, lineage_of}
-use Rattle.mesa_open_files.specs.Pins.{view_at}
-use Rattle.mesa_query.proofs.Owned.{no_view, own_columns, own_keeps, own_rows, pinned_after, table_rows, table_view}
+use Rattle.mesa_group_blocks.specs.mesa_answer.Answering.{KeepsSums}
+use Rattle.mesa_group_blocks.specs.mesa_answer.Gathered.{wanted_of}
+use Rattle.mesa_group_blocks.proofs.mesa_answer.Results.{if_err, on_ok}
+use Rattle.mesa_group_blocks.specs.mesa_open_files.Inputs.{lifted_in, lineage_of}
+use Rattle.mesa_group_blocks.specs.mesa_open_files.Pins.{view_at}
+use Rattle.mesa_group_blocks.proofs.Owned.{no_view, own_columns, own_keeps, own_rows, pinned_after, table_rows, table_view}
 use Rattle.mesa_query.proofs.gathering.gather_one.Goals as goal
 
 pub gather-requires-clause-columns : goal.gather-requires-clause-columns

@@ -1,6 +1,6 @@
 use Rattle.std.proofs.Common.{refl}
-use Rattle.mesa_merge.proofs.Causing.{cause_quiet}
-use Rattle.mesa_query.proofs.Files.{moved_none}
+use Rattle.mesa_group_blocks.proofs.mesa_merge.Causing.{cause_quiet}
+use Rattle.mesa_group_blocks.proofs.Moved.{moved_none}
 use Rattle.mesa_query.proofs.gathering.look_ahead.Goals as goal
 
 pub returns-then-not-is_empty-clause-moved : goal.returns-then-not-is_empty-clause-moved

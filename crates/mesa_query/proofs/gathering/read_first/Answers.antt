@@ -2,10 +2,11 @@ use Rattle.std.proofs.Common.{◌≡◌, ◌∙◌, ◌<◌, length, get_or, set
 use Rattle.std.proofs.lemmas.List.{get_or_default}
 use Rattle.std.proofs.lemmas.Result.{err_from_is_err_and}
 use Rattle.std.specs.Prelude.{Err}
-use Rattle.mesa_merge.specs.Inputs.{knowns_of, tolds_of}
-use Rattle.mesa_merge.proofs.Causing.{cause_quiet}
-use Rattle.mesa_query.specs.Files.{inputs_in}
-use Rattle.mesa_query.proofs.Files.{file_cause, file_faults, moved_count, moved_further, moved_known, moved_none, moved_set, there_of_file}
+use Rattle.mesa_group_blocks.specs.mesa_merge.Inputs.{knowns_of, tolds_of}
+use Rattle.mesa_group_blocks.proofs.mesa_merge.Causing.{cause_quiet}
+use Rattle.mesa_group_blocks.specs.Moved.{inputs_in}
+use Rattle.mesa_group_blocks.proofs.Moved.{file_cause, file_faults, moved_further, moved_known, moved_none, moved_set, there_of_file}
+use Rattle.mesa_query.proofs.Files.{moved_count}
 use Rattle.mesa_query.proofs.gathering.read_first.Goals as goal
 
 pub next_files-init : goal.next_files-init

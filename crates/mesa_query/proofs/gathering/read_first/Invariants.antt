@@ -1,8 +1,8 @@
 use Rattle.std.proofs.Common.{◌≡◌}
-use Rattle.mesa_delta.specs.Ahead.{AreAhead}
-use Rattle.mesa_merge.specs.Faults.{faults_of}
-use Rattle.mesa_merge.specs.Inputs.{knowns_of, tolds_of}
-use Rattle.mesa_query.specs.Files.{AreMoved, inputs_in}
+use Rattle.mesa_group_blocks.specs.mesa_delta.Ahead.{AreAhead}
+use Rattle.mesa_group_blocks.specs.mesa_merge.Faults.{faults_of}
+use Rattle.mesa_group_blocks.specs.mesa_merge.Inputs.{knowns_of, tolds_of}
+use Rattle.mesa_group_blocks.specs.Moved.{AreMoved, inputs_in}
 use Rattle.mesa_query.proofs.gathering.read_first.Given as goal
 
 -- what waits is of the files, of which no block was taken

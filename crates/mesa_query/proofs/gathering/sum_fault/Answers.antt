@@ -1,5 +1,5 @@
 use Rattle.std.proofs.Common.{◌≡◌, inr, subst}
-use Rattle.mesa_view.specs.SumDamage.{IsSumDamage}
+use Rattle.mesa_group_blocks.specs.mesa_view.SumDamage.{IsSumDamage}
 use Rattle.mesa_query.proofs.gathering.sum_fault.Goals as goal
 
 pub returns-in-Ok-clause-damaged : goal.returns-in-Ok-clause-damaged

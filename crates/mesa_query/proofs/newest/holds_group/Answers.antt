@@ -1,12 +1,12 @@
 use Rattle.std.proofs.Common.{◌≡◌, ◌∙◌, [], List, ap, subst, sym}
 use Rattle.std.specs.Prelude.{◌↔◌, IsTrue}
-use Rattle.mesa_open_files.specs.mesa_columns.declared.rows.Row.{Row}
-use Rattle.mesa_open_files.specs.mesa_columns.Columns.{kinds_of}
-use Rattle.mesa_answer.specs.Gathered.{key_at_hand, wanted_of}
-use Rattle.mesa_answer.specs.Gathering.{Wanted, group_from}
-use Rattle.mesa_answer.specs.Sums.{HasGroup}
-use Rattle.mesa_answer.proofs.Leaving.{none_leaves}
-use Rattle.mesa_open_files.specs.Pins.{IsPinnedInput}
+use Rattle.mesa_group_blocks.specs.mesa_columns.declared.rows.Row.{Row}
+use Rattle.mesa_group_blocks.specs.mesa_columns.Columns.{kinds_of}
+use Rattle.mesa_group_blocks.specs.mesa_answer.Gathered.{key_at_hand, wanted_of}
+use Rattle.mesa_group_blocks.specs.mesa_answer.Gathering.{Wanted, group_from}
+use Rattle.mesa_group_blocks.specs.mesa_answer.Sums.{HasGroup}
+use Rattle.mesa_group_blocks.proofs.mesa_answer.Leaving.{none_leaves}
+use Rattle.mesa_group_blocks.specs.mesa_open_files.Pins.{IsPinnedInput}
 use Rattle.mesa_query.specs.Sums.{rows_matching}
 use Rattle.mesa_query.proofs.Files.{file_fault}
 use Rattle.mesa_query.proofs.newest.holds_group.Goals as goal

@@ -3,13 +3,14 @@ use Rattle.std.proofs.lemmas.List.{get_or_default}
 use Rattle.std.proofs.lemmas.Result.{err_from_is_err_and}
 use Rattle.std.specs.Prelude.{Err}
 use Rattle.mesa_file.specs.declared.file_id.FileId.{FileId}
-use Rattle.mesa_open_files.specs.mesa_delta_format.Indexed.{Indexed}
-use Rattle.mesa_delta.specs.Reading.{index_of}
-use Rattle.mesa_answer.specs.Gathered.{key_at_hand, wanted_of}
-use Rattle.mesa_merge.proofs.Causing.{cause_quiet}
-use Rattle.mesa_open_files.specs.Pins.{IsPinnedInput}
-use Rattle.mesa_open_files.specs.declared.querying.PinnedInput.{PinnedInput}
-use Rattle.mesa_query.proofs.Files.{all_set, file_cause, file_known, looked_more, moved_drop, moved_here, moved_none, own_ahead, own_set}
+use Rattle.mesa_group_blocks.specs.mesa_delta_format.Indexed.{Indexed}
+use Rattle.mesa_group_blocks.specs.mesa_delta.Reading.{index_of}
+use Rattle.mesa_group_blocks.specs.mesa_answer.Gathered.{key_at_hand, wanted_of}
+use Rattle.mesa_group_blocks.proofs.mesa_merge.Causing.{cause_quiet}
+use Rattle.mesa_group_blocks.specs.mesa_open_files.Pins.{IsPinnedInput}
+use Rattle.mesa_group_blocks.specs.mesa_open_files.declared.querying.PinnedInput.{PinnedInput}
+use Rattle.mesa_group_blocks.proofs.Moved.{all_set, file_cause, moved_none}
+use Rattle.mesa_query.proofs.Files.{file_known, looked_more, moved_drop, moved_here, own_ahead, own_set}
 use Rattle.mesa_query.proofs.Holding.{IsNewestTo, damage_dropped, file_moved, holds_moved, lacks_moved, newest_all, newest_before, newest_first, newest_here}
 use Rattle.mesa_query.proofs.newest.newest_from.Goals as goal
 use Rattle.mesa_query.proofs.newest.newest_from.Goals.{then-branch, else-branch}

@@ -1,4 +1,4 @@
-use Rattle.mesa_answer.specs.Gathered.{key_at_hand, wanted_of}
+use Rattle.mesa_group_blocks.specs.mesa_answer.Gathered.{key_at_hand, wanted_of}
 use Rattle.mesa_query.proofs.Files.{Looked}
 use Rattle.mesa_query.proofs.Holding.{IsNewestTo}
 use Rattle.mesa_query.proofs.newest.newest_from.Given as goal

@@ -1,16 +1,17 @@
 use Rattle.std.proofs.Common.{List, subst, sym, arith}
 use Rattle.std.proofs.lemmas.List.{with_items_is}
 use Rattle.std.specs.List.{AllByRecursion}
-use Rattle.mesa_open_files.specs.mesa_fold.Folded.{rows_of}
-use Rattle.mesa_merge.specs.Inputs.{AreTold, knowns_of}
+use Rattle.mesa_group_blocks.specs.mesa_fold.Folded.{rows_of}
+use Rattle.mesa_group_blocks.specs.mesa_merge.Inputs.{AreTold, knowns_of}
 use Rattle.std.specs.Prelude.{◌⊎◌}
-use Rattle.mesa_answer.specs.Answering.{KeepsSums}
+use Rattle.mesa_group_blocks.specs.mesa_answer.Answering.{KeepsSums}
 use Rattle.mesa_query.specs.Whole.{all_wanted}
-use Rattle.mesa_answer.proofs.Results.{if_err}
-use Rattle.mesa_open_files.specs.Pins.{IsPinnedInput}
-use Rattle.mesa_open_files.specs.declared.querying.PinnedInput.{PinnedInput}
-use Rattle.mesa_query.specs.Files.{IsDamageIn, inputs_in}
-use Rattle.mesa_query.specs.Relation.{parts_ungrouped}
+use Rattle.mesa_group_blocks.proofs.mesa_answer.Results.{if_err}
+use Rattle.mesa_group_blocks.specs.mesa_open_files.Pins.{IsPinnedInput}
+use Rattle.mesa_group_blocks.specs.mesa_open_files.declared.querying.PinnedInput.{PinnedInput}
+use Rattle.mesa_group_blocks.specs.Moved.{inputs_in}
+use Rattle.mesa_query.specs.Files.{IsDamageIn}
+use Rattle.mesa_group_blocks.specs.Ungrouped.{parts_ungrouped}
 use Rattle.mesa_query.specs.Sums.{IsSumIn}
 use Rattle.mesa_query.proofs.unpaged.whole.Goals as goal
 

@@ -1,16 +1,16 @@
 use Rattle.std.proofs.Common.{◌≡◌, ◌∙◌, ◌-◌, ◌^◌, ap, subst, sym, refl, false}
 use Rattle.std.proofs.lemmas.Result.{err_from_is_err_and}
-use Rattle.mesa_delta.specs.declared.error.FileError.TheVariants as file_error
-use Rattle.mesa_open_files.specs.mesa_columns.Columns.{Columns, kinds_of}
-use Rattle.mesa_open_files.specs.mesa_fold.Folded.{rows_of}
+use Rattle.mesa_group_blocks.specs.mesa_delta.declared.error.FileError.TheVariants as file_error
+use Rattle.mesa_group_blocks.specs.mesa_columns.Columns.{Columns, kinds_of}
+use Rattle.mesa_group_blocks.specs.mesa_fold.Folded.{rows_of}
 use Rattle.mesa_filter.specs.Query.{are_places}
-use Rattle.mesa_merge.proofs.Causing.{cause_other, cause_quiet}
-use Rattle.mesa_answer.specs.Gathered.{wanted_of}
-use Rattle.mesa_answer.specs.Gathering.{Wanted}
-use Rattle.mesa_open_files.specs.Pins.{IsPinnedInput}
+use Rattle.mesa_group_blocks.proofs.mesa_merge.Causing.{cause_other, cause_quiet}
+use Rattle.mesa_group_blocks.specs.mesa_answer.Gathered.{wanted_of}
+use Rattle.mesa_group_blocks.specs.mesa_answer.Gathering.{Wanted}
+use Rattle.mesa_group_blocks.specs.mesa_open_files.Pins.{IsPinnedInput}
 use Rattle.std.specs.List.{AllByRecursion}
 use Rattle.std.specs.Prelude.{None}
-use Rattle.mesa_query.specs.Relation.{parts_ungrouped}
+use Rattle.mesa_group_blocks.specs.Ungrouped.{parts_ungrouped}
 use Rattle.mesa_query.specs.Whole.{all_wanted}
 use Rattle.mesa_query.proofs.Answered.{first_relation, none_first, sums_matching}
 use Rattle.mesa_query.proofs.AllGroups.{sum_all_wanted, whole_empty, whole_form, whole_made}

@@ -1,6 +1,6 @@
 use Rattle.std.proofs.Common.{◌≡◌, ap, arith, length, subst, sym, ◌∙◌}
 use Rattle.std.proofs.lemmas.List.{length-map}
-use Rattle.mesa_open_files.specs.declared.querying.PinnedInput.{PinnedInput}
+use Rattle.mesa_group_blocks.specs.mesa_open_files.declared.querying.PinnedInput.{PinnedInput}
 use Rattle.mesa_query.specs.Cooled.{cooled}
 use Rattle.mesa_query.proofs.AnsweredCached.{HasCause, HasForm, IsDamaged, IsNever, IsPageOf, cause_cooled, damaged_cooled, form_cooled, never_cooled, page_cooled}
 use Rattle.mesa_query.proofs.Cooling.{known_cooled, own_cooled, pinned_cool, pinned_warm}

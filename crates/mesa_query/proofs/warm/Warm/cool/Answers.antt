@@ -1,6 +1,6 @@
 use Rattle.std.proofs.Common.{List, arith, map, subst, sym}
-use Rattle.mesa_open_files.specs.declared.querying.Pinned.{Pinned}
-use Rattle.mesa_open_files.specs.declared.querying.PinnedInput.{PinnedInput}
+use Rattle.mesa_group_blocks.specs.mesa_open_files.declared.querying.Pinned.{Pinned}
+use Rattle.mesa_group_blocks.specs.mesa_open_files.declared.querying.PinnedInput.{PinnedInput}
 use Rattle.mesa_query.specs.Cooled.{cooled, cooled_file}
 use Rattle.mesa_query.specs.Same.{AreReadable, AreSameFiles, IsSamePin}
 use Rattle.mesa_query.proofs.CachedFiles.{readable_of}

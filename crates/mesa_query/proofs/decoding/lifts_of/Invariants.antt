@@ -1,8 +1,0 @@
-use Rattle.std.proofs.Common.{take}
-use Rattle.mesa_merge.specs.Inputs.{knowns_of}
-use Rattle.mesa_query.specs.Files.{inputs_in}
-use Rattle.mesa_query.specs.Pieces.{AreLiftsOf}
-use Rattle.mesa_query.proofs.decoding.lifts_of.Given as goal
-
-abbrev pub invariant-each_file : goal.invariant-each_file
-invariant-each_file g l = AreLiftsOf (take l.i (knowns_of g.R.FileReader.bytes (inputs_in l.files))) l.lifts.items

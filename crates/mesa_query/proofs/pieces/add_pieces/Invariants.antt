@@ -1,8 +1,0 @@
-use Rattle.std.proofs.Common.{◌≡◌, ◌++◌, List}
-use Rattle.mesa_query.specs.declared.pieces.Piece.{Piece}
-use Rattle.mesa_query.proofs.PieceRows.{AreFirst}
-use Rattle.mesa_query.proofs.pieces.add_pieces.Given as goal
-
--- those of the blocks so far are added
-abbrev pub invariant-each_block : goal.invariant-each_block
-invariant-each_block g l = (more : List Piece) × (l.pieces.items ≡ l.fn.pieces.items ++ more) × AreFirst g.R.FileReader.bytes l.input l.filter l.place l.block more
