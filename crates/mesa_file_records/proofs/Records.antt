@@ -4,7 +4,7 @@ use Rattle.std.specs.Prelude.{Bool, true, ◌&&◌, nat_le, nat_lt}
 use Rattle.std.proofs.lemmas.Bool.Decides.{nat_tests}
 use Rattle.std.specs.List.{AllByRecursion}
 use Rattle.mesa_columns.specs.declared.rows.Row.{Row}
-use Rattle.mesa_pick_files.specs.mesa_schema.Changes.{Lineage, columns_of, epoch_of}
+use Rattle.mesa_pick_files.specs.mesa_schema.Changes.{Lineage, epoch_of}
 use Rattle.mesa_disk.specs.Files.{HasDistinctIds, files_of}
 use Rattle.mesa_engine.specs.mesa_commit.Turn.{made_ids, told_files}
 use Rattle.mesa_engine.specs.mesa_commit.Filed.{AreGiven}
@@ -31,7 +31,7 @@ use Rattle.mesa_file_records.proofs.Ids.{new_ids, rows_stand, rows_stay, under_d
 use Rattle.mesa_file_records.proofs.Lists.{AreAt, from_first}
 use Rattle.mesa_file_records.proofs.Told.{files_tell}
 use Rattle.mesa_file_records.specs.declared.swapping.Swapped.{Swapped}
-use Rattle.mesa_file_records.specs.Finished.{GroupOnly, HasRange, IsFinished, sources_in}
+use Rattle.mesa_file_records.specs.Finished.{HasRange, IsFinished, sources_in}
 use Rattle.mesa_file_records.specs.Swapped.{IsSwapped, files_under_if_any, swap_of, table_in}
 use Rattle.mesa_file_records.proofs.Growing.{epoch_was, views_was}
 use Rattle.mesa_file_records.proofs.Merging.{files_few, merged_fit, merged_grouped, merged_ids, merged_keeps, merged_rows, merged_tell, merged_told, rows_made}
@@ -59,14 +59,14 @@ module _ {M R : Type 0} (bytes : M → Option (List ℕ)) (id_of : M → ℕ) (r
 
   -- the rows of the files, in the order of their ids
   abbrev more : List (List Row)
-  more = rows_made bytes id_of read was t its d.files is.merged.files
+  more = rows_made was its d.files
 
   shape : IsShaped c.floor c.next (table_in l t)
   shape = meta_found (IsShaped c.floor c.next) c.tables t.table there shaped.tables
 
   pub few_files : length (files_if_any d.files) ≤ most_files
   few_files =
-      let few = files_few bytes id_of read was t its d.files is.merged.files in
+      let few = files_few bytes id_of was its d.files is.merged.files in
       let views = views_was was now is.grown in
       omega (arith, few, views, shape.lineage.few_views)
 
@@ -91,10 +91,10 @@ module _ {M R : Type 0} (bytes : M → Option (List ℕ)) (id_of : M → ℕ) (r
             (at_most t.epoch (epoch_of now) (let same = is.task.epoch in let le = epoch_was was now is.grown in omega (arith, same, le)))
 
         right : files_fit_if_any now t.epoch files ≡ true
-        right = merged_fit bytes id_of read (later (λ id. [])) was now is.grown its t is.task.epoch is.task.views (from_first was.views) (next_id l) d.files is.merged.files (at (λ id. []))
+        right = merged_fit bytes id_of (later (λ id. [])) was now is.grown its t.epoch is.task.epoch (from_first was.views) (next_id l) d.files is.merged.files (at (λ id. []))
 
         new : brings_new_files c (swap_of t files) ≡ true
-        new = ap (are_new_ids c.run (named c)) (merged_ids bytes id_of read (later (λ id. [])) was now is.grown its t is.task.epoch is.task.views (from_first was.views) (next_id l) d.files)
+        new = ap (are_new_ids c.run (named c)) (merged_ids bytes id_of (later (λ id. [])) was now is.grown its t.epoch is.task.epoch (from_first was.views) (next_id l) d.files)
             ∙ new_ids c.run l.adopted (named c) (files_if_any d.files) given (let n = few_files in omega (arith, n, room))
 
     -- the rows of the range, where the task has it
@@ -105,25 +105,23 @@ module _ {M R : Type 0} (bytes : M → Option (List ℕ)) (id_of : M → ℕ) (r
     is_swapped = record {
       refs = files;
       entry = entry;
-      rules = ap keeps_rules entry ∙ merged_keeps bytes id_of read (later (λ id. [])) was now is.grown its t is.task.epoch is.task.views (from_first was.views) (next_id l) shape.lineage d.files is.merged.files (at (λ id. []));
+      rules = ap keeps_rules entry ∙ merged_keeps bytes id_of (later (λ id. [])) was now is.grown its t.epoch is.task.epoch (from_first was.views) (next_id l) shape.lineage d.files is.merged.files (at (λ id. []));
       fitting = ap (fits c) entry ∙ fits_record;
       more = more;
-      told = λ rows. subst (λ (r : Record). AreTold (later rows) c r) (sym entry) (merged_told bytes id_of read (later rows) was now is.grown its t is.task.epoch is.task.views (from_first was.views) (next_id l) d.files is.merged.files (at rows));
+      told = λ rows. subst (λ (r : Record). AreTold (later rows) c r) (sym entry) (merged_told bytes id_of (later rows) was now is.grown its t.epoch is.task.epoch (from_first was.views) (next_id l) d.files is.merged.files (at rows));
       merged = λ rows written has. record {
         epochs = has.epochs;
         rows_are =
-            merged_rows bytes id_of read (later rows) was now is.grown its t is.task.epoch is.task.views (from_first was.views) (next_id l) d.files is.merged.files (at rows)
+            merged_rows bytes id_of (later rows) was now is.grown its t.epoch is.task.epoch (from_first was.views) (next_id l) d.files is.merged.files (at rows)
             ∙ its_are written has ∙ range_at written has;
       };
-      grouped = λ rows written has.
-          merged_grouped bytes id_of read (later rows) was now is.grown its t is.task.epoch is.task.views (from_first was.views) (next_id l) d.files is.merged.files (at rows)
-          (subst (λ (r : List Row). GroupOnly read (columns_of was) r was.views t.views.items) (sym (its_are written has)) has.views);
+      grouped = λ rows written has. merged_grouped bytes id_of (later rows) was now is.grown its t.epoch is.task.epoch (from_first was.views) (next_id l) d.files is.merged.files (at rows);
       agree = λ rows id lt. rows_stay rows (next_id l) more id lt;
       files = λ rows all.
-          made ∙ merged_tell bytes id_of read (later rows) was now is.grown its t is.task.epoch is.task.views (from_first was.views) (next_id l) d.files is.merged.files (at rows) (files_tell bytes s.made.items (next_id l) (files_if_any d.files) made all)
+          made ∙ merged_tell bytes id_of (later rows) was now is.grown its t.epoch is.task.epoch (from_first was.views) (next_id l) d.files is.merged.files (at rows) (files_tell bytes s.made.items (next_id l) (files_if_any d.files) made all)
           ∙ ap (λ (r : Record). told_files (wants (later rows) (brought c r))) (sym entry);
       ids = ap made_ids made ∙ under_ids bytes (next_id l) (files_if_any d.files)
-          ∙ sym (merged_ids bytes id_of read (later (λ id. [])) was now is.grown its t is.task.epoch is.task.views (from_first was.views) (next_id l) d.files) ∙ ap (brought_ids c) (sym entry);
+          ∙ sym (merged_ids bytes id_of (later (λ id. [])) was now is.grown its t.epoch is.task.epoch (from_first was.views) (next_id l) d.files) ∙ ap (brought_ids c) (sym entry);
       distinct = subst HasDistinctIds (sym made) (under_distinct bytes (next_id l) (files_if_any d.files));
       adopts = record {
         given = subst (AreGiven (next_id l) (first_id c.run + s.adopted)) (sym made) (under_given bytes (next_id l) (next_id l) (first_id c.run + s.adopted) (files_if_any d.files) (omega arith) (omega (arith, adopted)));

@@ -44,7 +44,7 @@ use Rattle.mesa_pick_files.proofs.Folds.{table_parts}
 use Rattle.mesa_pick_files.proofs.Sums.{abs_append, planned_sums}
 use Rattle.mesa_pick_files.proofs.Among.{all_planned}
 use Rattle.mesa_pick_files.specs.Files.{Seen, Want, files_seen, own_in, own_lineage, seen_by, table_wanted, view_file, view_wanted, want_in, want_of}
-use Rattle.mesa_query.specs.Relation.{rows_under, under_some, under_view}
+use Rattle.mesa_query.specs.mesa_group_blocks.Ungrouped.{rows_under, under_some, under_view}
 use Rattle.mesa_record.specs.declared.record.Files.{Files}
 use Rattle.mesa_record.specs.declared.record.ViewRef.{ViewRef}
 use Rattle.mesa_open_files.specs.Opening.{HaveOpened}

@@ -1,5 +1,5 @@
 -- What is opened makes a task.
-use Rattle.std.proofs.Common.{◌≡◌, ℕ, ◌+◌, List, [], ◌∷◌, ◌++◌, length, map, refl, sym, ap, ◌∙◌, subst, cond, Option, Some, None, inl, inr}
+use Rattle.std.proofs.Common.{◌≡◌, ℕ, ◌+◌, List, [], ◌∷◌, ◌++◌, map, refl, sym, ap, ◌∙◌, subst, cond, Option, Some, None, inl, inr}
 use Rattle.std.specs.Prelude.{◌≢◌, flat_map, is_some, IfSome}
 use Rattle.sha2.specs.Sha256.{sha256}
 use Rattle.mesa_file.specs.declared.file_ref.FileRef.{FileRef}
@@ -9,18 +9,15 @@ use Rattle.std.specs.List.{AllByRecursion}
 use Rattle.mesa_file.specs.declared.damage.Damage.{Damage}
 use Rattle.mesa_validate.specs.mesa_columns.Columns.{Columns}
 use Rattle.mesa_schema.specs.Changes.{Lineage}
-use Rattle.mesa_validate.specs.mesa_columns.declared.views.View.{View}
 use Rattle.mesa_disk.specs.Image.{Image}
 use Rattle.mesa_delta.specs.declared.input.Input.{Input}
 use Rattle.mesa_record.specs.declared.record.Files.{Files}
 use Rattle.mesa_validate.specs.mesa_store_spec.Catalog.{Delta}
 use Rattle.mesa_open_files.specs.Inputs.{AreInputsOf}
 use Rattle.mesa_open_files.specs.Opening.{HaveOpened, IsDamageOf, wanted_columns}
-use Rattle.mesa_open_files.specs.Tasks.{AreTaskViews}
 use Rattle.mesa_open_files.specs.declared.opening.Wanted.{Wanted}
 use Rattle.mesa_pick_files.specs.Files.{Want, files_wanted, table_wanted, want_of}
 use Rattle.mesa_pick_files.specs.Lent.{with_rows}
-use Rattle.mesa_pick_files.specs.Gathered.{unread_views}
 
 -- ---- the files that are wanted
 
@@ -62,15 +59,6 @@ pub table_inputs : {R : Type 0} (bytes : R → Option (List ℕ)) (faults : R �
     → map want_of ws ≡ flat_map (table_wanted l) ds → HaveOpened bytes faults told ws is d → AreInputsOf bytes l is
 table_inputs bytes faults told l ds ws is d same have =
     opened_inputs bytes faults told l ws is d (unmapped l ws (subst (AllByRecursion (IsOfTable l)) (sym same) (all_of_table l ds))) have
-
--- ---- views without files of their own
-
-views_from : {R : Type 0} (bytes : R → Option (List ℕ)) (s : Columns) (from : ℕ) (vs : List View) → AreTaskViews bytes s from vs (unread_views {R = R} from (length vs))
-views_from bytes s from [] = tt
-views_from bytes s from (v ∷ vs) = (refl, tt, views_from bytes s (from + 1) vs)
-
-pub task_views : {R : Type 0} (bytes : R → Option (List ℕ)) (s : Columns) (count : ℕ) (vs : List View) → count ≡ length vs → AreTaskViews bytes s 0 vs (unread_views {R = R} 0 count)
-task_views {R = R} bytes s count vs is = subst (λ n. AreTaskViews bytes s 0 vs (unread_views {R = R} 0 n)) (sym is) (views_from bytes s 0 vs)
 
 -- ---- damage
 

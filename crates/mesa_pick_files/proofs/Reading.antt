@@ -13,7 +13,8 @@ use Rattle.mesa_record.specs.declared.record.ViewRef.{ViewRef}
 use Rattle.mesa_pick_files.specs.Read.{own_file, relation_read, view_read}
 use Rattle.mesa_pick_files.specs.Files.{Seen, Want, files_seen, files_wanted, own_in, own_lineage, seen_by, table_wanted, view_file, view_wanted, want_in, want_of}
 use Rattle.mesa_pick_files.specs.Lent.{with_rows}
-use Rattle.mesa_query.specs.Files.{inputs_in, owns_in}
+use Rattle.mesa_query.specs.mesa_group_blocks.Moved.{inputs_in}
+use Rattle.mesa_query.specs.Files.{owns_in}
 use Rattle.mesa_open_files.specs.Opening.{HaveOpened}
 use Rattle.mesa_open_files.specs.Pins.{HasViewOf, IsOfRelation, IsPinnedInput, view_at}
 use Rattle.mesa_open_files.specs.declared.opening.Wanted.{Wanted}

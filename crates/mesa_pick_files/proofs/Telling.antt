@@ -39,8 +39,10 @@ use Rattle.mesa_pick_files.proofs.Given.{AreGiven, IsGiven, IsSeen, all_given, a
 use Rattle.mesa_pick_files.proofs.Reading.{IsThere, all_of, all_pinned, columns_read, view_seen}
 use Rattle.mesa_pick_files.proofs.Among.{all_planned}
 use Rattle.mesa_pick_files.specs.Files.{Seen}
-use Rattle.mesa_query.specs.Files.{inputs_in, owns_in}
-use Rattle.mesa_query.specs.Relation.{page_over, parts_pinned, parts_ungrouped, rows_ungrouped}
+use Rattle.mesa_query.specs.mesa_group_blocks.Moved.{inputs_in}
+use Rattle.mesa_query.specs.Files.{owns_in}
+use Rattle.mesa_query.specs.mesa_group_blocks.Ungrouped.{parts_ungrouped, rows_ungrouped}
+use Rattle.mesa_query.specs.Relation.{page_over, parts_pinned}
 use Rattle.mesa_validate.specs.declared.found.Found.{Found}
 use Rattle.mesa_open_files.specs.Pins.{HasViewOf, IsOfRelation, IsPinned, IsPinnedInput, rows_pinned, view_at}
 use Rattle.mesa_open_files.specs.declared.querying.Pinned.{Pinned}

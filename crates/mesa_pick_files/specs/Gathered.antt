@@ -1,13 +1,11 @@
 -- The files of a work's range, once they are opened.
-use Rattle.std.specs.Prelude.{◌≡◌, ℕ, List, map, flat_map, Bool, true, false, Option, None, Result, Ok, Err}
-use Rattle.std.specs.List.{range_with_len}
+use Rattle.std.specs.Prelude.{◌≡◌, ℕ, List, map, flat_map, Bool, true, false, Option, Result, Ok, Err}
 use Rattle.mesa_disk.specs.Image.{Image}
 use Rattle.mesa_span.specs.declared.works.Work.{Work}
 use Rattle.mesa_validate.specs.mesa_store_spec.Catalog.{TableMeta}
 use Rattle.mesa_validate.specs.mesa_store_spec.Moves.{is_base, last_of}
 use Rattle.mesa_open_files.specs.Opening.{HaveOpened}
 use Rattle.mesa_open_files.specs.declared.merging.Task.{Task}
-use Rattle.mesa_open_files.specs.declared.merging.TaskView.{TaskView}
 use Rattle.mesa_open_files.specs.declared.opening.Unopened.{Unopened}
 use Rattle.mesa_open_files.specs.declared.opening.Unopened.TheVariants as un
 use Rattle.mesa_open_files.specs.declared.opening.Wanted.{Wanted}
@@ -21,17 +19,9 @@ is_fault_among (Ok t) = false
 is_fault_among (Err un.Fault) = true
 is_fault_among (Err un.Memory) = false
 
--- a view with no files of its own
-abbrev pub unread_view : {R : Type 0} → ℕ → TaskView R
-unread_view number = record { view = number; inputs = None }
-
--- so many, from a number on
-abbrev pub unread_views : {R : Type 0} → ℕ → ℕ → List (TaskView R)
-unread_views from count = map unread_view (range_with_len from count)
-
 -- the task of a work on the table of a number, once it is granted with this lease
 abbrev pub task_with : {R : Type 0} → ℕ → Work → ℕ → Gathered R → Task R
-task_with number work lease g = record { table = number; work = work; lease = lease; epoch = g.epoch; inputs = g.inputs; views = g.views; damage = g.damage; spare = g.spare }
+task_with number work lease g = record { table = number; work = work; lease = lease; epoch = g.epoch; inputs = g.inputs; damage = g.damage; spare = g.spare }
 
 -- A task has the table's files of the deltas that its work folds, in version order: all of them were opened, or those before the first that isn't the recorded one.
 pub record IsGathered {R : Type 0} (bytes : R → Option (List ℕ)) (faults : R → ℕ) (told : Option Image) (t : TableMeta) (work : Work) (task : Task R) : Type 0 where

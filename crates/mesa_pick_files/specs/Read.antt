@@ -6,7 +6,8 @@ use Rattle.mesa_validate.specs.mesa_columns.declared.views.View.{View}
 use Rattle.mesa_validate.specs.mesa_store_spec.Catalog.{Delta, TableMeta}
 use Rattle.mesa_validate.specs.mesa_store_spec.Planned.{planned}
 use Rattle.mesa_pick_files.specs.Files.{Seen, Want, own_in, own_lineage, table_wanted, view_wanted, want_in, want_of}
-use Rattle.mesa_query.specs.Files.{inputs_in, owns_in}
+use Rattle.mesa_query.specs.mesa_group_blocks.Moved.{inputs_in}
+use Rattle.mesa_query.specs.Files.{owns_in}
 use Rattle.mesa_validate.specs.declared.found.Found.{Found}
 use Rattle.mesa_open_files.specs.Opening.{HaveOpened, IsUnsound}
 use Rattle.mesa_open_files.specs.declared.opening.Wanted.{Wanted}

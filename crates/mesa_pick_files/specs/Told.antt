@@ -8,8 +8,10 @@ use Rattle.mesa_query.specs.mesa_answer.Answering.{KeepsSums}
 use Rattle.mesa_validate.specs.mesa_filter.Query.{BuiltQuery, group_kinds}
 use Rattle.mesa_query.specs.mesa_merge.Inputs.{AreTold, Known, knowns_of, lifted_in}
 use Rattle.mesa_validate.specs.mesa_model.Query.{Answer}
-use Rattle.mesa_query.specs.Files.{inputs_in, owns_in}
-use Rattle.mesa_query.specs.Relation.{page_over, parts_pinned, parts_ungrouped, rows_under}
+use Rattle.mesa_query.specs.mesa_group_blocks.Moved.{inputs_in}
+use Rattle.mesa_query.specs.Files.{owns_in}
+use Rattle.mesa_query.specs.mesa_group_blocks.Ungrouped.{parts_ungrouped, rows_under}
+use Rattle.mesa_query.specs.Relation.{page_over, parts_pinned}
 use Rattle.mesa_open_files.specs.Pins.{IsOfRelation, relation_rows}
 use Rattle.mesa_open_files.specs.declared.querying.Pinned.{Pinned}
 

@@ -1,5 +1,5 @@
 // Opening the files of a range.
-ghost use Rattle.std.specs.Prelude.{◌≡◌, ◌≢◌, ◌-◌, ◌<◌, ◌≤◌, ◌^◌, ℕ, IfOk, IfSome, length};
+ghost use Rattle.std.specs.Prelude.{◌≡◌, ◌≢◌, ◌-◌, ◌<◌, ◌≤◌, ◌^◌, ℕ, IfOk, IfSome};
 ghost use Rattle.std.specs.List.{AllByRecursion};
 ghost use Rattle.mesa_schema.specs.Changes.{epoch_of};
 ghost use Rattle.mesa_disk.specs.Story.{Unmoved};
@@ -11,7 +11,7 @@ ghost use Rattle.mesa_catalog_table.specs.Meaning.{IsTable, meta_of};
 ghost use Rattle.mesa_open_files.specs.Opening.{Counted};
 ghost use Rattle.mesa_open_files.specs.Spares.{HasSpares};
 ghost use Rattle.mesa_open_files.specs.Tasks.{IsTask};
-ghost use Rattle.mesa_pick_files.specs.Gathered.{IsGathered, is_fault_among, task_with, unread_views};
+ghost use Rattle.mesa_pick_files.specs.Gathered.{IsGathered, is_fault_among, task_with};
 
 use crate::folding::folded;
 use crate::parts::{Part, Parts, open_parts};
@@ -20,7 +20,7 @@ use mesa_catalog_table::Table;
 use mesa_delta::Input;
 use mesa_disk::Made;
 use mesa_file::Damage;
-use mesa_open_files::{DeltaDisk, Spare, TaskView, Unopened};
+use mesa_open_files::{DeltaDisk, Spare, Unopened};
 use mesa_span::Work;
 use std::alloc::Global;
 
@@ -30,14 +30,13 @@ pub struct Gathered<R> {
     /// The epoch of the new delta's rows: the table's present one.
     pub epoch: u32,
     pub inputs: Vec<Input<R>>,
-    pub views: Vec<TaskView<R>>,
     /// The first file that was absent or damaged.
     pub damage: Option<Damage>,
     /// Further readers of the same files.
     pub spare: Vec<Spare<R>>,
 }
 
-/// Opens the table's files of what a work folds. They are opened once for each part of the merge, and at least once. The first file that isn't the recorded one ends the opening, and is told in what is gathered. Each view's rows are to be derived from the table's.
+/// Opens the table's files of what a work folds. They are opened once for each part of the merge, and at least once. The first file that isn't the recorded one ends the opening, and is told in what is gathered.
 pub fn gather<M: Made, D: DeltaDisk<M>>(
     alloc: Global,
     disk: &mut D,
@@ -48,7 +47,6 @@ pub fn gather<M: Made, D: DeltaDisk<M>>(
     requires { (next : ℕ) × (next < 2 ^ 32) × IsTable next table.now × AllByRecursion (λ d. d.epoch ≤ epoch_of table.now.evolving.value) (deltas_of (meta_of next table.now)) }
     ensures unmoved { Unmoved (D.story disk.old) (D.story disk.new) }
     ensures counted { Counted (D.story disk.old) (D.story disk.new) (is_fault_among result) }
-    ensures views { IfOk result (λ g. g.views.items ≡ unread_views 0 (length table.now.evolving.value.views)) }
     ensures damage { IfOk result (λ g. IfSome g.damage (λ d. d.want ≢ d.found)) }
     // Whichever number the table has and whichever lease it gets, this is a task of it.
     ensures task { IfOk result (λ g. (number lease : ℕ) → IsTask D.Reader.bytes table.now.evolving.value (task_with number work lease g)) }
@@ -59,15 +57,13 @@ pub fn gather<M: Made, D: DeltaDisk<M>>(
     let Ok(wanted) = table_files(alloc, &table.evolving, &deltas) else {
         return Err(Unopened::Memory);
     };
-    let count = table.evolving.views();
-    match open_parts(alloc, disk, &wanted, count, parts) {
+    match open_parts(alloc, disk, &wanted, parts) {
         Ok(Parts { first, spare }) => {
             let Part { readers, damage } = first;
-            let Spare { inputs, views } = readers;
+            let Spare { inputs } = readers;
             Ok(Gathered {
                 epoch: table.evolving.epoch(),
                 inputs,
-                views,
                 damage,
                 spare,
             })

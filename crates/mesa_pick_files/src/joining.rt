@@ -1,6 +1,7 @@
 // Inputs, each with whose file it reads.
 ghost use Rattle.std.specs.Prelude.{◌≡◌, ◌≤◌, length, vec_capacity, vec_len};
-ghost use Rattle.mesa_query.specs.Files.{inputs_in, owns_in};
+ghost use Rattle.mesa_query.specs.mesa_group_blocks.Moved.{inputs_in};
+ghost use Rattle.mesa_query.specs.Files.{owns_in};
 
 use mesa_delta::Input;
 use mesa_open_files::PinnedInput;

@@ -9,7 +9,8 @@ ghost use Rattle.mesa_validate.specs.mesa_store_spec.Planned.{planned as planned
 ghost use Rattle.mesa_pick_files.specs.Read.{HaveFiles, IsPinnedFor, SomeUnsound, relation_read};
 ghost use Rattle.mesa_pick_files.specs.Files.{want_in, want_of};
 ghost use Rattle.mesa_pick_files.specs.Lent.{AreOfEpochs, lent_in};
-ghost use Rattle.mesa_query.specs.Files.{inputs_in, owns_in};
+ghost use Rattle.mesa_query.specs.mesa_group_blocks.Moved.{inputs_in};
+ghost use Rattle.mesa_query.specs.Files.{owns_in};
 ghost use Rattle.mesa_schema.specs.Changes.{epoch_of};
 ghost use Rattle.mesa_catalog_table.specs.Meaning.{IsTable, meta_of};
 ghost use Rattle.mesa_open_files.specs.Opening.{Counted, HasEpoch, HaveOpened, is_read_fault};

@@ -1,16 +1,16 @@
 // Opening a list of files once for each part of a merge.
-ghost use Rattle.std.specs.Prelude.{◌≡◌, ◌-◌, ◌≤◌, ◌++◌, flat_map, IfOk, None, vec_capacity, vec_len};
+ghost use Rattle.std.specs.Prelude.{◌≡◌, ◌-◌, ◌≤◌, ◌++◌, flat_map, IfOk, None};
 ghost use Rattle.std.specs.List.{AllByRecursion};
 ghost use Rattle.mesa_disk.specs.Story.{Unmoved};
 ghost use Rattle.mesa_open_files.specs.GivingBack.{GivesBack, spare_inputs};
 ghost use Rattle.mesa_open_files.specs.Opening.{Counted, HasEpoch};
-ghost use Rattle.mesa_pick_files.specs.Gathered.{is_fault_among, unread_views};
+ghost use Rattle.mesa_pick_files.specs.Gathered.{is_fault_among};
 ghost use Rattle.mesa_pick_files.specs.Parts.{ArePartsOf, AreReaders, IsPartOf};
 
 use mesa_disk::{Disk, Made};
 use mesa_file::Damage;
 use mesa_open_files::{
-    DeltaDisk, Opened, Spare, TaskView, Unopened, Wanted, open_all, retire_spare, retire_spares,
+    DeltaDisk, Opened, Spare, Unopened, Wanted, open_all, retire_spare, retire_spares,
 };
 use std::alloc::Global;
 
@@ -32,15 +32,14 @@ pub(crate) fn open_parts<M: Made, D: DeltaDisk<M>>(
     alloc: Global,
     disk: &mut D,
     wanted: &[Wanted],
-    views: u8,
     parts: u8,
 ) -> Result<Parts<D::Reader>, Unopened>
     requires { AllByRecursion HasEpoch wanted.now }
     ensures unmoved { Unmoved (D.story disk.old) (D.story disk.new) }
     ensures counted { Counted (D.story disk.old) (D.story disk.new) (is_fault_among result) }
-    ensures opened { IfOk result (ArePartsOf D.Reader.bytes D.Reader.faults (D.story disk.old).told wanted.now views (parts - 1)) }
+    ensures opened { IfOk result (ArePartsOf D.Reader.bytes D.Reader.faults (D.story disk.old).told wanted.now (parts - 1)) }
 {
-    let Part { readers, damage } = match open_part(alloc, disk, wanted, views) {
+    let Part { readers, damage } = match open_part(alloc, disk, wanted) {
         Ok(part) => part,
         Err(unopened) => return Err(unopened),
     };
@@ -49,7 +48,7 @@ pub(crate) fn open_parts<M: Made, D: DeltaDisk<M>>(
             first: Part { readers, damage },
             spare: Vec::new(alloc),
         }),
-        None => open_further(alloc, disk, wanted, views, parts.saturating_sub(1), readers),
+        None => open_further(alloc, disk, wanted, parts.saturating_sub(1), readers),
     }
 }
 
@@ -58,22 +57,21 @@ fn open_further<M: Made, D: DeltaDisk<M>>(
     alloc: Global,
     disk: &mut D,
     wanted: &[Wanted],
-    views: u8,
     more: u8,
     first: Spare<D::Reader>,
 ) -> Result<Parts<D::Reader>, Unopened>
     requires epochs { AllByRecursion HasEpoch wanted.now }
-    requires first { AreReaders D.Reader.bytes D.Reader.faults (D.story disk.old).told wanted.now views None first }
+    requires first { AreReaders D.Reader.bytes D.Reader.faults (D.story disk.old).told wanted.now None first }
     ensures unmoved { Unmoved (D.story disk.old) (D.story disk.new) }
     ensures counted { Counted (D.story disk.old) (D.story disk.new) (is_fault_among result) }
-    ensures opened { IfOk result (ArePartsOf D.Reader.bytes D.Reader.faults (D.story disk.old).told wanted.now views more) }
+    ensures opened { IfOk result (ArePartsOf D.Reader.bytes D.Reader.faults (D.story disk.old).told wanted.now more) }
 {
     let Ok(mut spare) = Vec::with_capacity(alloc, more as usize) else {
         retire_spare(disk, first);
         return Err(Unopened::Memory);
     };
     'parts: for _ in 0..more {
-        match open_part(alloc, disk, wanted, views) {
+        match open_part(alloc, disk, wanted) {
             Ok(part) => {
                 let Part { readers, damage } = part;
                 match damage {
@@ -115,46 +113,22 @@ fn retire_both<M: Made, D: Disk<M>>(
     retire_spares(disk, spare);
 }
 
-// Opens files for one part. The rows of each view are to be derived from the table's.
+// Opens files for one part.
 fn open_part<M: Made, D: DeltaDisk<M>>(
     alloc: Global,
     disk: &mut D,
     wanted: &[Wanted],
-    views: u8,
 ) -> Result<Part<D::Reader>, Unopened>
     requires { AllByRecursion HasEpoch wanted.now }
     ensures unmoved { Unmoved (D.story disk.old) (D.story disk.new) }
     ensures counted { Counted (D.story disk.old) (D.story disk.new) (is_fault_among result) }
-    ensures opened { IfOk result (IsPartOf D.Reader.bytes D.Reader.faults (D.story disk.old).told wanted.now views) }
+    ensures opened { IfOk result (IsPartOf D.Reader.bytes D.Reader.faults (D.story disk.old).told wanted.now) }
 {
-    let Ok(mut numbered) = Vec::with_capacity(alloc, views as usize) else {
-        return Err(Unopened::Memory);
-    };
     match open_all(alloc, disk, wanted) {
-        Ok(Opened { inputs, damage }) => {
-            number_views(&mut numbered, views);
-            Ok(Part {
-                readers: Spare {
-                    inputs,
-                    views: numbered,
-                },
-                damage,
-            })
-        }
-        Err(unopened) => {
-            numbered.destroy_empty();
-            Err(unopened)
-        }
-    }
-}
-
-// A view of each number, with no files of its own.
-fn number_views<R>(views: &mut Vec<TaskView<R>>, count: u8)
-    requires empty { vec_len views.old ≡ 0 }
-    requires room { count ≤ vec_capacity views.old }
-    ensures { views.new.items ≡ unread_views 0 count }
-{
-    'views: for view in 0..count {
-        views.push_reserved(TaskView { view, inputs: None });
+        Ok(Opened { inputs, damage }) => Ok(Part {
+            readers: Spare { inputs },
+            damage,
+        }),
+        Err(unopened) => Err(unopened),
     }
 }

@@ -1,5 +1,6 @@
 use Rattle.std.proofs.Common.{◌≡◌, ◌+◌, ◌++◌, length, take, reverse, vec_capacity, vec_len}
-use Rattle.mesa_query.specs.Files.{inputs_in, owns_in}
+use Rattle.mesa_query.specs.mesa_group_blocks.Moved.{inputs_in}
+use Rattle.mesa_query.specs.Files.{owns_in}
 use Rattle.mesa_pick_files.proofs.joining.join.Given as goal
 
 -- those that are left, and behind them those that were put, the last one first

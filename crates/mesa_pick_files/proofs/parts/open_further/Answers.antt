@@ -11,7 +11,7 @@ use Rattle.mesa_pick_files.proofs.parts.open_further.Goals as goal
 pub returns-in_default-clause-counted : goal.returns-in_default-clause-counted
 returns-in_default-clause-counted g c =
     counted_back g.D.Reader.FileReader.faults (spare_inputs c.args.first) (g.D.Disk.story c.args.disk.now) (g.D.Disk.story c.retire_spare.new.disk)
-    (readers_fresh g.D.Reader.FileReader.bytes g.D.Reader.FileReader.faults (g.D.Disk.story c.args.disk.now).told c.args.wanted.now c.args.views None c.args.first c.requires.first) c.retire_spare.ensures.given
+    (readers_fresh g.D.Reader.FileReader.bytes g.D.Reader.FileReader.faults (g.D.Disk.story c.args.disk.now).told c.args.wanted.now None c.args.first c.requires.first) c.retire_spare.ensures.given
 
 pub parts-init : goal.parts-init
 parts-init g c =
@@ -19,7 +19,7 @@ parts-init g c =
     record {
       unmoved = unmoved_none (g.D.Disk.story c.args.disk.now);
       counted = counted_none (g.D.Disk.story c.args.disk.now);
-      spare = subst (AllByRecursion (AreReaders g.D.Reader.FileReader.bytes g.D.Reader.FileReader.faults told c.args.wanted.now c.args.views None)) (sym c.in-Ok.ensures.items) tt;
+      spare = subst (AllByRecursion (AreReaders g.D.Reader.FileReader.bytes g.D.Reader.FileReader.faults told c.args.wanted.now None)) (sym c.in-Ok.ensures.items) tt;
       len = c.in-Ok.ensures.len;
       room = c.in-Ok.ensures.exact;
     }
@@ -31,7 +31,7 @@ returns-in-Some-clause-unmoved g c = unmoved_more _ _ _ (unmoved_more _ _ _ c.pa
 
 pub returns-in-Some-clause-counted : goal.returns-in-Some-clause-counted
 returns-in-Some-clause-counted g c =
-    let fresh = both_fresh g.D.Reader.FileReader.bytes g.D.Reader.FileReader.faults (g.D.Disk.story c.args.disk.now).told c.args.wanted.now c.args.views c.args.first c.parts.spare.items c.requires.first c.parts.invariant.spare in
+    let fresh = both_fresh g.D.Reader.FileReader.bytes g.D.Reader.FileReader.faults (g.D.Disk.story c.args.disk.now).told c.args.wanted.now c.args.first c.parts.spare.items c.requires.first c.parts.invariant.spare in
     counted_then (g.D.Disk.story c.args.disk.now) (g.D.Disk.story c.open_part.new.disk) (g.D.Disk.story c.retire_both.new.disk) false
     (counted_more _ _ _ false c.parts.invariant.counted c.in-Ok-open_part.ensures.counted) c.retire_both.ensures.given.calls (c.retire_both.ensures.given.quiet fresh)
 
@@ -41,8 +41,8 @@ returns-in-Some-clause-opened g c =
     let faults = g.D.Reader.FileReader.faults in
     let part = c.in-Ok-open_part.part in
     record {
-      first = subst (λ (t : Option Image). AreReaders bytes faults t c.args.wanted.now c.args.views part.damage part.readers) c.parts.invariant.unmoved.told c.in-Ok-open_part.ensures.opened;
-      spare = subst (AllByRecursion (AreReaders bytes faults (g.D.Disk.story c.args.disk.now).told c.args.wanted.now c.args.views None)) (sym c.new.ensures.items) tt;
+      first = subst (λ (t : Option Image). AreReaders bytes faults t c.args.wanted.now part.damage part.readers) c.parts.invariant.unmoved.told c.in-Ok-open_part.ensures.opened;
+      spare = subst (AllByRecursion (AreReaders bytes faults (g.D.Disk.story c.args.disk.now).told c.args.wanted.now None)) (sym c.new.ensures.items) tt;
       count = λ none. absurd (damaged_not part.damage c.in-Some.field-0 c.in-Some.is none);
       none = λ d is. c.new.ensures.items;
     }
@@ -54,7 +54,7 @@ returns-in-Err-clause-unmoved g c = unmoved_more _ _ _ (unmoved_more _ _ _ c.par
 
 pub returns-in-Err-clause-counted : goal.returns-in-Err-clause-counted
 returns-in-Err-clause-counted g c =
-    let fresh = both_fresh g.D.Reader.FileReader.bytes g.D.Reader.FileReader.faults (g.D.Disk.story c.args.disk.now).told c.args.wanted.now c.args.views c.args.first c.parts.spare.items c.requires.first c.parts.invariant.spare in
+    let fresh = both_fresh g.D.Reader.FileReader.bytes g.D.Reader.FileReader.faults (g.D.Disk.story c.args.disk.now).told c.args.wanted.now c.args.first c.parts.spare.items c.requires.first c.parts.invariant.spare in
     counted_then (g.D.Disk.story c.args.disk.now) (g.D.Disk.story c.open_part.new.disk) (g.D.Disk.story c.retire_both-in-Err.new.disk) _
     (counted_more _ _ _ _ c.parts.invariant.counted c.in-Err.ensures.counted) c.retire_both-in-Err.ensures.given.calls (c.retire_both-in-Err.ensures.given.quiet fresh)
 
@@ -66,13 +66,13 @@ parts-preserved g c =
     let faults = g.D.Reader.FileReader.faults in
     let told = (g.D.Disk.story c.args.disk.now).told in
     let part = c.in-Ok-open_part.part in
-    let met = subst (λ (t : Option Image). AreReaders bytes faults t c.args.wanted.now c.args.views part.damage part.readers) c.parts.invariant.unmoved.told c.in-Ok-open_part.ensures.opened in
-    let all = readers_more bytes faults told c.args.wanted.now c.args.views c.parts.spare.items part.readers c.parts.invariant.spare
-    (subst (λ d. AreReaders bytes faults told c.args.wanted.now c.args.views d part.readers) c.in-None.is met) in
+    let met = subst (λ (t : Option Image). AreReaders bytes faults t c.args.wanted.now part.damage part.readers) c.parts.invariant.unmoved.told c.in-Ok-open_part.ensures.opened in
+    let all = readers_more bytes faults told c.args.wanted.now c.parts.spare.items part.readers c.parts.invariant.spare
+    (subst (λ d. AreReaders bytes faults told c.args.wanted.now d part.readers) c.in-None.is met) in
     record {
       unmoved = unmoved_more _ _ _ c.parts.invariant.unmoved c.open_part.ensures.unmoved;
       counted = counted_more _ _ _ false c.parts.invariant.counted c.in-Ok-open_part.ensures.counted;
-      spare = subst (AllByRecursion (AreReaders bytes faults told c.args.wanted.now c.args.views None)) (sym c.push_reserved.ensures.items) all;
+      spare = subst (AllByRecursion (AreReaders bytes faults told c.args.wanted.now None)) (sym c.push_reserved.ensures.items) all;
       len = c.push_reserved.ensures.len ∙ ap (λ n. n + 1) c.parts.invariant.len;
       room = c.push_reserved.ensures.capacity ∙ c.parts.invariant.room;
     }

@@ -10,7 +10,7 @@ abbrev pub invariant-parts : goal.invariant-parts
 invariant-parts g l = record {
   unmoved : Unmoved (g.D.Disk.story l.initial.disk) (g.D.Disk.story l.disk);
   counted : Counted (g.D.Disk.story l.initial.disk) (g.D.Disk.story l.disk) false;
-  spare : AllByRecursion (AreReaders g.D.Reader.FileReader.bytes g.D.Reader.FileReader.faults (g.D.Disk.story l.initial.disk).told l.wanted l.views None) l.spare.items;
+  spare : AllByRecursion (AreReaders g.D.Reader.FileReader.bytes g.D.Reader.FileReader.faults (g.D.Disk.story l.initial.disk).told l.wanted None) l.spare.items;
   len : vec_len l.spare ≡ l.counter;
   room : vec_capacity l.spare ≡ l.more;
 }
