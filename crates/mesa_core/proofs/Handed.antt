@@ -14,10 +14,12 @@ use Rattle.mesa_model.specs.declared.commands.Script.{Script}
 use Rattle.mesa_model.specs.declared.entries.Entry.{Entry}
 use Rattle.mesa_model.specs.declared.entries.Kind.TheVariants as kind
 use Rattle.mesa_model.specs.Query.{Answer}
-use Rattle.mesa_recast_turns.specs.mesa_query.Files.{inputs_in, owns_in}
+use Rattle.mesa_recast_turns.specs.mesa_query.mesa_group_blocks.Moved.{inputs_in}
+use Rattle.mesa_recast_turns.specs.mesa_query.Files.{owns_in}
 use Rattle.mesa_recast_turns.specs.mesa_pick_files.Told.{AreOfRelation, parts_known, parts_under}
 use Rattle.mesa_recast_turns.specs.mesa_pick_files.Told.{Tells as TellsOf}
-use Rattle.mesa_recast_turns.specs.mesa_query.Relation.{page_over, parts_pinned, parts_ungrouped, rows_ungrouped}
+use Rattle.mesa_recast_turns.specs.mesa_query.mesa_group_blocks.Ungrouped.{parts_ungrouped, rows_ungrouped}
+use Rattle.mesa_recast_turns.specs.mesa_query.Relation.{page_over, parts_pinned}
 use Rattle.mesa_recast_turns.specs.mesa_columns.declared.rows.Row.{Row}
 use Rattle.mesa_recast_turns.specs.mesa_columns.Columns.{Columns}
 use Rattle.mesa_open_files.specs.mesa_fold.Folded.{rows_of}

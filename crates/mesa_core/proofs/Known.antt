@@ -1,7 +1,5 @@
 -- Files of which the same is known: their rows merge to the same.
 use Rattle.std.proofs.Common.{◌≡◌, ◌∙◌, ℕ, List, [], ◌∷◌, map, refl, sym, ap, subst, Option, None, Some}
-use Rattle.std.specs.Prelude.{Vec, option_map}
-use Rattle.std.specs.declared.alloc.Global.{Global}
 use Rattle.mesa_recast_turns.specs.mesa_columns.declared.rows.Row.{Row}
 use Rattle.mesa_recast_turns.specs.mesa_schema.Changes.{epoch_of, lifted}
 use Rattle.mesa_recast_turns.specs.mesa_columns.Columns.{Columns, aggs_of}
@@ -10,7 +8,6 @@ use Rattle.mesa_delta.specs.Reading.{IsIndexed}
 use Rattle.mesa_delta.specs.declared.input.Input.{Input}
 use Rattle.mesa_recast_turns.specs.mesa_merge.Inputs.{Known, known_of, knowns_of}
 use Rattle.mesa_open_files.specs.Inputs.{AreTold, IsMergeOf, present_parts}
-use Rattle.mesa_open_files.specs.Tasks.{MergeOnlyTo}
 
 -- ---- lists
 
@@ -50,9 +47,3 @@ module _ {R : Type 0} (bytes : R → Option (List ℕ)) where
 
   pub merge_stays : (s : Columns) (old new : List (Input R)) (rows : List Row) → knowns_of bytes new ≡ knowns_of bytes old → IsMergeOf bytes s old rows → IsMergeOf bytes s new rows
   merge_stays s old new rows known merge = λ parts told. merge parts (told_back old new parts known told) ∙ ap (folded (aggs_of s)) (same_lifted old new parts known)
-
-  pub only_stays : (s : Columns) (rows : List Row) (old new : Option (Vec (Input R) Global)) → option_map (λ inputs. knowns_of bytes inputs.items) new ≡ option_map (λ inputs. knowns_of bytes inputs.items) old → MergeOnlyTo bytes s rows old → MergeOnlyTo bytes s rows new
-  only_stays s rows None None known only = tt
-  only_stays s rows (Some o) None known only = tt
-  only_stays s rows None (Some n) known only = absurd (none_some _ (sym known))
-  only_stays s rows (Some o) (Some n) known only = λ its merge. only its (merge_stays s n.items o.items its (sym (some_same _ _ known)) merge)

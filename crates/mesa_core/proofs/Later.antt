@@ -1,7 +1,7 @@
 -- What stands written of a range stays, while its table isn't recast.
 use Rattle.std.proofs.Common.{◌≡◌, ◌∙◌, ℕ, ◌<◌, ◌≤◌, List, [], ◌∷◌, ◌++◌, true, refl, sym, ap, subst, Option}
 use Rattle.std.specs.List.{AllByRecursion}
-use Rattle.mesa_recast_turns.specs.mesa_schema.Changes.{Lineage, columns_of, epoch_of}
+use Rattle.mesa_recast_turns.specs.mesa_schema.Changes.{Lineage, epoch_of}
 use Rattle.mesa_model.specs.declared.commands.Script.{Script}
 use Rattle.mesa_model.specs.declared.entries.Entry.{Entry}
 use Rattle.mesa_recast_turns.specs.mesa_history_spec.Claims.{HasClaim, HasRanges, is_live}
@@ -17,7 +17,7 @@ use Rattle.mesa_engine.specs.mesa_span.declared.works.Work.{Work}
 use Rattle.mesa_engine.specs.mesa_store_spec.Moves.{last_of, first_of}
 use Rattle.mesa_history_laws.proofs.Ranges.{ranges_hold}
 use Rattle.mesa_engine.specs.Vault.{Origin}
-use Rattle.mesa_recast_turns.specs.mesa_file_records.Finished.{GroupOnly, HasRange, sources_in}
+use Rattle.mesa_recast_turns.specs.mesa_file_records.Finished.{HasRange, sources_in}
 use Rattle.mesa_recast_turns.specs.mesa_file_records.Recasts.{HasItsRange, HasItsRanges}
 use Rattle.mesa_open_files.specs.Recasts.{recast_table}
 use Rattle.mesa_open_files.specs.declared.merging.Task.{Task}
@@ -62,7 +62,6 @@ range_later read was t script start origin past later below begun has =
     record {
       epochs = subst (AllByRecursion (λ (s : Source). s.epoch ≤ t.epoch)) same has.epochs;
       rows = λ its merge. has.rows its merge ∙ ap (range_rows was t.epoch) same;
-      views = subst (λ (ss : List Source). GroupOnly read (columns_of was) (range_rows was t.epoch ss) was.views t.views.items) same has.views;
     }
 
 -- ---- a recast

@@ -1,25 +1,18 @@
 -- What a task was merged to.
-use Rattle.std.proofs.Common.{◌≡◌, ◌∙◌, ℕ, ◌+◌, List, [], ◌∷◌, length, map, refl, sym, ap, subst, arith, Option, None, Some}
-use Rattle.std.specs.Prelude.{Vec, option_map}
+use Rattle.std.proofs.Common.{◌≡◌, ◌∙◌, ℕ, List, [], ◌∷◌, length, refl, sym, ap, subst, arith, Option, None, Some}
 use Rattle.std.specs.List.{AllByRecursion}
-use Rattle.std.specs.declared.alloc.Global.{Global}
 use Rattle.mesa_recast_turns.specs.mesa_columns.declared.rows.Row.{Row}
-use Rattle.mesa_recast_turns.specs.mesa_columns.declared.views.View.{View}
 use Rattle.mesa_recast_turns.specs.mesa_schema.Changes.{Lineage, columns_of}
 use Rattle.mesa_recast_turns.specs.mesa_columns.Columns.{Columns}
 use Rattle.mesa_delta.specs.declared.input.Input.{Input}
-use Rattle.mesa_recast_turns.specs.mesa_pick_files.Gathered.{unread_views}
 use Rattle.mesa_recast_turns.specs.mesa_merge.Inputs.{Known, knowns_of}
 use Rattle.mesa_core.specs.Works.{known_task}
-use Rattle.mesa_recast_turns.specs.mesa_compact.Tasks.{KnownView, known_view}
 use Rattle.mesa_open_files.specs.Inputs.{AreInputsOf, IsMergeOf}
-use Rattle.mesa_open_files.specs.Tasks.{AreTaskViews, HasOwn, HaveMerged, IsMerged, IsTask}
+use Rattle.mesa_open_files.specs.Tasks.{HaveMerged, IsMerged, IsTask}
 use Rattle.mesa_open_files.specs.declared.made.MadeFiles.{MadeFiles}
 use Rattle.mesa_open_files.specs.declared.merging.NewDelta.{NewDelta}
 use Rattle.mesa_open_files.specs.declared.merging.Task.{Task}
-use Rattle.mesa_open_files.specs.declared.merging.TaskView.{TaskView}
-use Rattle.mesa_core.specs.Known.{IsKnownOf, unread_from}
-use Rattle.mesa_core.proofs.Known.{cons_none, first_same, rest_same}
+use Rattle.mesa_core.specs.Known.{IsKnownOf}
 
 module _ {R : Type 0} (bytes : R → Option (List ℕ)) where
   -- ---- what is known of a grant
@@ -28,31 +21,15 @@ module _ {R : Type 0} (bytes : R → Option (List ℕ)) where
   tables_known was [] are = tt
   tables_known was (i ∷ inputs) are = (are.0.1, tables_known was inputs are.1)
 
-  views_known : (views : List View) (from : ℕ) → map (known_view bytes) (unread_views {R = R} from (length views)) ≡ unread_from from views
-  views_known [] from = refl
-  views_known (v ∷ views) from = ap (λ more. record { view = from; own = None } ∷ more) (views_known views (from + 1))
-
-  pub grant_known : (was : Lineage) (t : Task R) → IsTask bytes was t → t.views.items ≡ unread_views 0 (length was.views) → IsKnownOf was (known_task bytes t)
-  grant_known was t task unread = record { epoch = task.epoch; files = tables_known was t.inputs.items task.inputs; views = ap (map (known_view bytes)) unread ∙ views_known was.views 0 }
+  pub grant_known : (was : Lineage) (t : Task R) → IsTask bytes was t → IsKnownOf was (known_task bytes t)
+  grant_known was t task = record { epoch = task.epoch; files = tables_known was t.inputs.items task.inputs }
 
   -- ---- a task without files
 
-  none_own : (s : Columns) (own : Option (Vec (Input R) Global)) → option_map (λ inputs. knowns_of bytes inputs.items) own ≡ None → HasOwn bytes s own
-  none_own s None is = tt
-  none_own s (Some inputs) is = absurd cc
-
-  views_task : (s : Columns) (number : ℕ) (views : List View) (ts : List (TaskView R)) → map (known_view bytes) ts ≡ unread_from number views → AreTaskViews bytes s number views ts
-  views_task s number [] [] same = tt
-  views_task s number [] (t ∷ ts) same = absurd (cons_none _ _ same)
-  views_task s number (v ∷ views) [] same = absurd (cons_none _ _ (sym same))
-  views_task s number (v ∷ views) (t ∷ ts) same =
-      let one : known_view bytes t ≡ record { view = number; own = None } = first_same _ _ _ _ same in
-      (ap (λ (k : KnownView). k.view) one, none_own _ t.inputs (ap (λ (k : KnownView). k.own) one), views_task s (number + 1) views ts (rest_same _ _ _ _ same))
-
   module _ {M : Type 0} (made_bytes : M → Option (List ℕ)) (id_of : M → ℕ) (was l : Lineage) (t : Task R) (d : NewDelta M) (known : IsKnownOf was (known_task bytes t)) (task : IsTask bytes l t) (merged : IsMerged made_bytes id_of bytes l t d) where
-    none_merged : (rows : List Row) → rows ≡ [] → (files : Option (MadeFiles M)) → HaveMerged made_bytes id_of bytes l t rows files → HaveMerged made_bytes id_of bytes was t rows files
+    none_merged : (rows : List Row) → rows ≡ [] → (files : Option (MadeFiles M)) → HaveMerged made_bytes id_of l rows files → HaveMerged made_bytes id_of was rows files
     none_merged rows none None have = none
-    none_merged rows none (Some made) have = absurd (let some = have.0.rows.some in let zero = ap length none in omega (arith, some, zero))
+    none_merged rows none (Some made) have = absurd (let some = have.table.rows.some in let zero = ap length none in omega (arith, some, zero))
 
     no_parts : (s : Columns) (rows : List Row) → rows ≡ [] → IsMergeOf bytes s [] rows
     no_parts s rows none [] told = none
@@ -64,7 +41,6 @@ module _ {R : Type 0} (bytes : R → Option (List ℕ)) where
           record {
             epoch = known.epoch;
             inputs = subst (AreInputsOf bytes was) (sym is) tt;
-            views = views_task (columns_of was) 0 was.views t.views.items known.views;
           },
           record {
             rows = merged.rows;

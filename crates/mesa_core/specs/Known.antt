@@ -1,14 +1,12 @@
 -- What is known of granted tasks.
-use Rattle.std.specs.Prelude.{◌≡◌, ℕ, ◌+◌, List, [], ◌∷◌, Option, None}
+use Rattle.std.specs.Prelude.{◌≡◌, ℕ, List, Option}
 use Rattle.std.specs.List.{AllByRecursion}
 use Rattle.mesa_recast_turns.specs.mesa_schema.Changes.{Lineage, epoch_of}
-use Rattle.mesa_recast_turns.specs.mesa_columns.declared.views.View.{View}
 use Rattle.mesa_recast_turns.specs.mesa_merge.Inputs.{Known}
 use Rattle.mesa_recast_turns.specs.mesa_copy.Copying.{IsRecastBounded}
 use Rattle.mesa_core.specs.Recasts.{KnownRecast, known_recast}
 use Rattle.mesa_model.specs.Warehouse.{Store, table_at}
 use Rattle.mesa_core.specs.Works.{KnownTask, known_task}
-use Rattle.mesa_recast_turns.specs.mesa_compact.Tasks.{KnownView}
 use Rattle.mesa_recast_turns.specs.mesa_file_records.Finished.{HasRange}
 use Rattle.mesa_recast_turns.specs.mesa_file_records.Recasts.{HasItsRanges}
 use Rattle.mesa_recast_turns.specs.mesa_history_spec.Sources.{Written}
@@ -23,16 +21,10 @@ lineage_in s number = (table_at s number).lineage
 abbrev pub AllHaveRange : {R : Type 0} → (R → Option (List ℕ)) → Lineage → KnownTask → List Written → Type 0
 AllHaveRange {R = R} read was k written = (t : Task R) → known_task read t ≡ k → HasRange read was t written
 
--- views with no files of their own, by their numbers from one on
-abbrev pub unread_from : ℕ → List View → List KnownView
-unread_from number [] = []
-unread_from number (v ∷ views) = record { view = number; own = None } ∷ unread_from (number + 1) views
-
--- A task is one of a table with these columns and views: each file is the table's, and no view has files of its own.
+-- A task is one of a table with these columns and views: each file is the table's.
 pub record IsKnownOf (was : Lineage) (k : KnownTask) : Type 0 where
   pub epoch : k.epoch ≡ epoch_of was
   pub files : AllByRecursion (λ (f : Known). f.table ≡ was) k.files
-  pub views : k.views ≡ unread_from 0 was.views
 
 -- ---- recasts
 

@@ -23,8 +23,10 @@ use Rattle.mesa_recast_turns.specs.mesa_merge.Inputs.{Known, AreTold, knowns_of}
 use Rattle.mesa_open_files.specs.GivingBack.{pinned_inputs}
 use Rattle.mesa_open_files.specs.Pins.{IsPinned}
 use Rattle.mesa_open_files.specs.declared.querying.Pinned.{Pinned}
-use Rattle.mesa_recast_turns.specs.mesa_query.Files.{inputs_in, owns_in}
-use Rattle.mesa_recast_turns.specs.mesa_query.Relation.{page_over, parts_pinned, parts_ungrouped}
+use Rattle.mesa_recast_turns.specs.mesa_query.mesa_group_blocks.Moved.{inputs_in}
+use Rattle.mesa_recast_turns.specs.mesa_query.Files.{owns_in}
+use Rattle.mesa_recast_turns.specs.mesa_query.mesa_group_blocks.Ungrouped.{parts_ungrouped}
+use Rattle.mesa_recast_turns.specs.mesa_query.Relation.{page_over, parts_pinned}
 use Rattle.mesa_core.specs.Damages.{IsUnread}
 use Rattle.mesa_open_files.specs.Errors.{Differs}
 

@@ -6,7 +6,6 @@ use Rattle.mesa_engine.specs.mesa_span.declared.works.Work.{Work}
 use Rattle.mesa_recast_turns.specs.mesa_schema.Changes.{Lineage}
 use Rattle.mesa_model.specs.declared.entries.Entry.{Entry}
 use Rattle.mesa_recast_turns.specs.mesa_compact.Bounded.{IsBounded}
-use Rattle.mesa_recast_turns.specs.mesa_compact.Tasks.{KnownView, known_views}
 use Rattle.mesa_recast_turns.specs.mesa_merge.Inputs.{Known as KnownFile, knowns_of}
 use Rattle.mesa_open_files.specs.GivingBack.{task_inputs}
 use Rattle.mesa_open_files.specs.Spares.{IsSpareOf}
@@ -25,11 +24,10 @@ pub record KnownTask : Type 0 where
   pub lease : ℕ
   pub epoch : ℕ
   pub files : List KnownFile
-  pub views : List KnownView
   pub damage : Option Damage
 
 abbrev pub known_task : {R : Type 0} → (R → Option (List ℕ)) → Task R → KnownTask
-known_task bytes t = record { table = t.table; work = t.work; lease = t.lease; epoch = t.epoch; files = knowns_of bytes t.inputs.items; views = known_views bytes t.views.items; damage = t.damage }
+known_task bytes t = record { table = t.table; work = t.work; lease = t.lease; epoch = t.epoch; files = knowns_of bytes t.inputs.items; damage = t.damage }
 
 -- A task that can be merged: it is one of a table with some columns and views; damage that was met where its files were opened differs from what was wanted; and where none was met, its further readers are of just its files.
 pub record CanBeMerged {R : Type 0} (bytes : R → Option (List ℕ)) (t : Task R) : Type 0 where

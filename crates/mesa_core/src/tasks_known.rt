@@ -1,7 +1,6 @@
 // What is known of granted tasks and recasts.
 ghost use Rattle.std.specs.Prelude.{◌≡◌, ◌<◌, ◌++◌, ℕ, List, length, true};
 ghost use Rattle.std.specs.List.{AllByRecursion};
-ghost use Rattle.mesa_recast_turns.specs.mesa_pick_files.Gathered.{unread_views};
 ghost use Rattle.mesa_recast_turns.specs.mesa_pick_files.Ranges.{HoldsAll};
 ghost use Rattle.mesa_engine.specs.mesa_store_spec.Catalog.{TableMeta};
 ghost use Rattle.mesa_recast_turns.specs.mesa_history_spec.Claims.{HasClaim, HasRanges, is_live};
@@ -38,9 +37,9 @@ pub fn ranges_are_known<R: FileReader>(task: &Task<R>)
     ensures { (was : Lineage) (written : List Written) → HasRange R.bytes was task.now written → AllHaveRange R.bytes was (known_task R.bytes task.now) written }
 {}
 
-/// A task of a table, none of whose views has files of its own, is known to be one.
+/// A task of a table is known to be one.
 pub fn grants_are_known<R: FileReader>(task: &Task<R>)
-    ensures { (was : Lineage) → IsTask R.bytes was task.now → task.now.views.items ≡ unread_views 0 (length was.views) → IsKnownOf was (known_task R.bytes task.now) }
+    ensures { (was : Lineage) → IsTask R.bytes was task.now → IsKnownOf was (known_task R.bytes task.now) }
 {}
 
 /// What a task was merged to by some columns and views it was merged to by those of its grant.

@@ -37,7 +37,7 @@ use Rattle.mesa_work_turns.proofs.mesa_invariant_spec.Working.{lost_turn, starve
 use Rattle.mesa_engine.specs.Engine.{IsEngine}
 use Rattle.mesa_engine.proofs.Turning.{told_engine}
 use Rattle.mesa_engine.proofs.Undone.{not_skipped}
-use Rattle.mesa_recast_turns.specs.Unfit.{HasNotRecast, cause_met, unfit_state}
+use Rattle.mesa_recast_turns.specs.Unfit.{HasNotRecast, cause_unfit, unfit_state}
 use Rattle.mesa_recast_turns.specs.declared.checking.Unfit.{Unfit}
 use Rattle.mesa_recast_turns.specs.declared.checking.Unfit.TheVariants as why
 
@@ -49,20 +49,20 @@ module _ (n : Starts) (w : Rows) (sound : Bool) (l : EngineState) (story : Story
   few_granted : (ended claim.table claim.lease l.leases).granted ≤ l.leases.granted + 1
   few_granted = subst (λ q. q ≤ l.leases.granted + 1) (sym (ended_granted claim.table claim.lease l.leases)) (omega arith)
 
-  pub unfit_vault : (e : Unfit) → HasNotRecast (books_of no_rows l) at claim epoch recast e → IsPut (block (entry s number kind.Close (outcome_of (cause_met e)) m) (Some (told_at at (reply_of (cause_met e))))) now held new_held
-      → IsVault (outset_of n w) (n.origin w) sound (unfit_state e claim.table claim.lease l) story new_held (h ++ entry s number kind.Close (outcome_of (cause_met e)) m ∷ []) now (refused || is_refusal (reply_of (cause_met e)))
+  pub unfit_vault : (e : Unfit) → HasNotRecast (books_of no_rows l) at claim epoch recast e → IsPut (block (entry s number kind.Close (outcome_of (cause_unfit e)) m) (Some (told_at at (reply_of (cause_unfit e))))) now held new_held
+      → IsVault (outset_of n w) (n.origin w) sound (unfit_state e claim.table claim.lease l) story new_held (h ++ entry s number kind.Close (outcome_of (cause_unfit e)) m ∷ []) now (refused || is_refusal (reply_of (cause_unfit e)))
   unfit_vault (why.Lost x) has put =
-      still_vault (outset_of n w) (n.origin w) sound l story held h running refused v (entry s number kind.Close (outcome_of (cause_met (why.Lost x))) m) story new_held now (refused || true) (stays story)
+      still_vault (outset_of n w) (n.origin w) sound l story held h running refused v (entry s number kind.Close (outcome_of (cause_unfit (why.Lost x))) m) story new_held now (refused || true) (stays story)
       (lost_turn (outset_of n w) sound (books_of v.rows l) story held h running refused v.invariant s number low few (command.Recast words) refl m ran at place moment story (stays story) claim due x has (counts_same story) now new_held put)
   unfit_vault (why.Changed x) has put =
-      leased_vault (outset_of n w) (n.origin w) sound l story held h running refused v (entry s number kind.Close (outcome_of (cause_met (why.Changed x))) m) story new_held now (refused || true) (stays story) (ended claim.table claim.lease l.leases) few_granted
+      leased_vault (outset_of n w) (n.origin w) sound l story held h running refused v (entry s number kind.Close (outcome_of (cause_unfit (why.Changed x))) m) story new_held now (refused || true) (stays story) (ended claim.table claim.lease l.leases) few_granted
       (changed_turn (outset_of n w) sound (books_of v.rows l) story held h running refused v.invariant s number low few (command.Recast words) refl m ran at place claim epoch recast errand due has.0 x has.1 moment story (stays story) (counts_same story) now new_held put)
   unfit_vault why.Memory has put =
-      leased_vault (outset_of n w) (n.origin w) sound l story held h running refused v (entry s number kind.Close (outcome_of (cause_met why.Memory)) m) story new_held now (refused || true) (stays story) (ended claim.table claim.lease l.leases) few_granted
+      leased_vault (outset_of n w) (n.origin w) sound l story held h running refused v (entry s number kind.Close (outcome_of (cause_unfit why.Memory)) m) story new_held now (refused || true) (stays story) (ended claim.table claim.lease l.leases) few_granted
       (starved_turn (outset_of n w) sound (books_of v.rows l) story held h running refused v.invariant s number low few (command.Recast words) refl m ran at place moment story (stays story) claim due has (counts_same story) now new_held put)
 
 -- no damage keeps a table from being recast
-refused_undamaged : (e : Unfit) → is_damaged (outcome_of (cause_met e)) ≡ false
+refused_undamaged : (e : Unfit) → is_damaged (outcome_of (cause_unfit e)) ≡ false
 refused_undamaged (why.Lost refusal) = refl
 refused_undamaged (why.Changed refusal) = refl
 refused_undamaged why.Memory = refl
@@ -72,7 +72,7 @@ refused_undamaged why.Memory = refl
 module _ {K : Type 0} (held : K → Option (List ℕ)) (faults : K → ℕ) (n : Starts) (turns sinks : ℕ) (m after : Memory) (story : Story) (log later : Log K) (v : IsEngine held faults n turns sinks m story log)
     (s number : ℕ) (low : s < 2 ^ 16) (few : number < 2 ^ 32) (words : RecastWords) (mo : ℕ) (moment : mo ≡ story.moment) (ran : not log.printer.broken ≡ true) (claim : Claim) (epoch : ℕ) (recast : Asked) (errand : claim.errand ≡ Recasts epoch recast)
     (due : (w : Rows) → IsDue n.script (run_at n.script (n.start w) log.history.items) s number (command.Recast words) (Renewed claim)) (e : Unfit) (has : HasNotRecast (books_of no_rows m.state) (length log.history.items) claim epoch recast e)
-    (cause : Cause) (cause_is : cause ≡ cause_met e)
+    (cause : Cause) (cause_is : cause ≡ cause_unfit e)
     (grew : later.history.items ≡ log.history.items ++ entry s number kind.Close (outcome_of cause) mo ∷ []) (roomy : vec_capacity log.history ≤ vec_capacity later.history)
     (is : after ≡ with_state (unfit_state e claim.table claim.lease m.state) m) where
   pub unfit_engine : PrintsBlock held faults log.printer later.printer (entry s number kind.Close (outcome_of cause) mo) (told_at (length log.history.items) (reply_of cause)) → later.refused ≡ (log.refused || is_refusal (reply_of cause)) → IsEngine held faults n turns sinks after story later
@@ -92,13 +92,13 @@ closed_takes n w old new s number words claim due cause grew ran seen =
     complete_takes n.script (n.start w) old new s number (command.Recast words) claim due (record { outcome = outcome_of cause; grew = grew; skipped = not_skipped cause ∙ ap not (sym ran); still = λ on. ran }) seen
 
 -- no file was being built
-pub no_draft : (closing : Bool) (u : Unfit) → answers_bench closing (outcome_of (cause_met u)) ≡ false
+pub no_draft : (closing : Bool) (u : Unfit) → answers_bench closing (outcome_of (cause_unfit u)) ≡ false
 no_draft closing (why.Lost refusal) = refl
 no_draft closing (why.Changed refusal) = refl
 no_draft closing why.Memory = refl
 
 -- nor a fault of the disk
-pub no_fault : (closing : Bool) (u : Unfit) → answers_disk closing (outcome_of (cause_met u)) ≡ false
+pub no_fault : (closing : Bool) (u : Unfit) → answers_disk closing (outcome_of (cause_unfit u)) ≡ false
 no_fault closing (why.Lost refusal) = refl
 no_fault closing (why.Changed refusal) = refl
 no_fault closing why.Memory = refl
@@ -106,7 +106,7 @@ no_fault closing why.Memory = refl
 -- ---- where its turn stands
 
 -- Where its turn stands, its claim didn't hold, or the rules didn't allow it any more.
-pub not_done : (books : Books) (at : ℕ) (claim : Claim) (epoch : ℕ) (r : Asked) (u : Unfit) → HasNotRecast books at claim epoch r u → outcome_of (cause_met u) ≡ outcome.Stands
+pub not_done : (books : Books) (at : ℕ) (claim : Claim) (epoch : ℕ) (r : Asked) (u : Unfit) → HasNotRecast books at claim epoch r u → outcome_of (cause_unfit u) ≡ outcome.Stands
     → claim_checked books.bare books.machine at claim ≡ Ok tt → still_checked (table_at books.bare.store claim.table).lineage epoch r ≡ Ok tt → ⊥
 not_done books at claim epoch r (why.Lost x) has stands holds still = let is : claim_checked books.bare books.machine at claim ≡ Err x = has in cc
 not_done books at claim epoch r (why.Changed x) has stands holds still = let is : still_checked (table_at books.bare.store claim.table).lineage epoch r ≡ Err x = has.1 in cc

@@ -15,10 +15,10 @@ use Rattle.mesa_recast_turns.specs.declared.checking.Unfit.{Unfit}
 use Rattle.mesa_recast_turns.specs.declared.checking.Unfit.TheVariants as why
 
 -- why a table isn't recast
-abbrev pub cause_met : Unfit → Cause
-cause_met (why.Lost refusal) = Replies (reply.Refused refusal)
-cause_met (why.Changed refusal) = Replies (reply.Refused refusal)
-cause_met why.Memory = NoMemory
+abbrev pub cause_unfit : Unfit → Cause
+cause_unfit (why.Lost refusal) = Replies (reply.Refused refusal)
+cause_unfit (why.Changed refusal) = Replies (reply.Refused refusal)
+cause_unfit why.Memory = NoMemory
 
 -- why the rules don't allow a recast any more
 abbrev pub unfit_of : Failure → Unfit

@@ -28,7 +28,7 @@ ghost use Rattle.mesa_open_files.specs.declared.merging.CompactError.TheVariants
 ghost use Rattle.mesa_work_turns.specs.Swept.{ClaimHolds, HasStood, IsSwept};
 ghost use Rattle.mesa_work_turns.specs.Unmerged.{MergeDiffered, cause_of, closing_cause, closing_state};
 ghost use Rattle.mesa_recast_turns.specs.Rested.{HasRested, HasUnpaid};
-ghost use Rattle.mesa_recast_turns.specs.Unfit.{HasNotRecast, cause_met, unfit_state};
+ghost use Rattle.mesa_recast_turns.specs.Unfit.{HasNotRecast, cause_unfit, unfit_state};
 
 use crate::checking::{Unfit, check_recast};
 use crate::readying::{Ready, prepare};
@@ -46,7 +46,7 @@ use std::alloc::{AllocError, Global};
 // Why a table isn't recast. Unless its claim doesn't hold, the lease ends.
 fn fall(metadata: &mut Metadata, table: u16, lease: u64, why: Unfit) -> Failure
     requires { table < TABLES }
-    ensures cause { cause_in result ≡ cause_met why }
+    ensures cause { cause_in result ≡ cause_unfit why }
     ensures after { metadata.new ≡ with_state (unfit_state why table lease metadata.old.state) metadata.old }
 {
     match why {
@@ -78,7 +78,7 @@ fn refuse<N: Naming, M: Made, D: Disk<M>, K: Sink>(
     ensures disk { AnswersDisk N.script (N.start no_rows) engine.old.shown engine.new.shown ⊥ }
     ensures draft { AnswersDraft N.script (N.start no_rows) engine.old.shown engine.new.shown who.session ⊥ }
     ensures state { engine.new.state ≡ unfit_state why task.now.table task.now.lease engine.old.state }
-    ensures outcome { engine.new.shown.history ≡ engine.old.shown.history ++ entry who.session who.command kind.Close (outcome_of (cause_met why)) engine.new.shown.clock ∷ [] }
+    ensures outcome { engine.new.shown.history ≡ engine.old.shown.history ++ entry who.session who.command kind.Close (outcome_of (cause_unfit why)) engine.new.shown.clock ∷ [] }
 {
     let moment = engine.disk.clock();
     let failure = fall(&mut engine.metadata, task.table, task.lease, why);

@@ -1,18 +1,15 @@
 -- The files of a range are told where the store is sound, and no sum over them leaves its type.
-use Rattle.std.proofs.Common.{◌≡◌, ◌∙◌, ℕ, zero, suc, ◌<◌, List, [], ◌∷◌, length, map, true, refl, sym, ap, subst, zero-add, Option, None, Some}
-use Rattle.std.specs.Prelude.{flat_map, slice_get}
+use Rattle.std.proofs.Common.{◌≡◌, ◌∙◌, ℕ, ◌<◌, List, [], ◌∷◌, length, map, true, refl, sym, ap, subst, zero-add, Option, None}
+use Rattle.std.specs.Prelude.{flat_map}
 use Rattle.std.specs.List.{AllByRecursion}
 use Rattle.mesa_write_turns.specs.mesa_batch.Totals.{abs_total, sum_bound}
 use Rattle.mesa_engine.specs.mesa_commit.Images.{Has}
-use Rattle.mesa_copy.specs.mesa_compact.Bounded.{AreBounded, AreOwnBounded, IsBounded}
+use Rattle.mesa_copy.specs.mesa_compact.Bounded.{IsBounded}
 use Rattle.mesa_disk.specs.Image.{Image}
 use Rattle.mesa_disk.specs.Story.{Story}
-use Rattle.mesa_write_turns.specs.mesa_schema.Changes.{Lineage, columns_of, epoch_of, lifted}
-use Rattle.mesa_write_turns.specs.mesa_columns.Columns.{Columns}
+use Rattle.mesa_write_turns.specs.mesa_schema.Changes.{Lineage, epoch_of, lifted}
 use Rattle.mesa_open_files.specs.mesa_fold.Folded.{rows_of}
-use Rattle.mesa_write_turns.specs.mesa_schema.Views.{view_columns}
 use Rattle.mesa_write_turns.specs.mesa_columns.declared.rows.Row.{Row}
-use Rattle.mesa_write_turns.specs.mesa_columns.declared.views.View.{View}
 use Rattle.mesa_delta.specs.declared.input.Input.{Input}
 use Rattle.mesa_engine.specs.mesa_store_spec.Catalog.{Catalog, Delta, TableMeta, meta_at}
 use Rattle.mesa_engine.specs.mesa_store_spec.Contents.{Rows, present}
@@ -27,7 +24,7 @@ use Rattle.mesa_engine.proofs.Standing.{held_there}
 use Rattle.mesa_pick_files.specs.mesa_merge.Inputs.{AreTold, knowns_of, lifted_parts}
 use Rattle.mesa_model.specs.declared.entries.Entry.{Entry}
 use Rattle.mesa_pick_files.specs.Folding.{folded_deltas}
-use Rattle.mesa_pick_files.specs.Gathered.{IsGathered, unread_view}
+use Rattle.mesa_pick_files.specs.Gathered.{IsGathered}
 use Rattle.mesa_pick_files.specs.Read.{own_file}
 use Rattle.mesa_pick_files.proofs.Folds.{table_parts}
 use Rattle.mesa_pick_files.proofs.Given.{AreGiven, IsGiven, all_given, all_told, part_of, rows_seen}
@@ -38,16 +35,9 @@ use Rattle.mesa_pick_files.proofs.Among.{all_folded}
 use Rattle.mesa_pick_files.specs.Files.{Seen, Want, table_wanted, want_of}
 use Rattle.mesa_open_files.specs.Opening.{HaveOpened}
 use Rattle.mesa_open_files.specs.declared.merging.Task.{Task}
-use Rattle.mesa_open_files.specs.declared.merging.TaskView.{TaskView}
 use Rattle.mesa_open_files.specs.declared.opening.Wanted.{Wanted}
 use Rattle.mesa_write_turns.specs.mesa_invariant_spec.Invariant.{Outset}
 use Rattle.mesa_work_turns.proofs.Grants.{shaped_at}
-
--- a view that has no files of its own has none that could be wrong
-unread_bounded : {R : Type 0} (bytes : R → Option (List ℕ)) (s : Columns) (numbers : List ℕ) (i : ℕ) (v : View) (t : TaskView R) → slice_get (map unread_view numbers) i ≡ Some t → AreOwnBounded bytes (view_columns s v) t.inputs
-unread_bounded bytes s [] i v t is = absurd cc
-unread_bounded bytes s (n ∷ numbers) zero v t is = let same : unread_view n ≡ t = cc in subst (λ (x : TaskView _). AreOwnBounded bytes (view_columns s v) x.inputs) same tt
-unread_bounded bytes s (n ∷ numbers) (suc i) v t is = unread_bounded bytes s numbers i v t is
 
 -- the rows of a table's files, lifted
 lifted_are : {R : Type 0} (bytes : R → Option (List ℕ)) (faults : R → ℕ) (told : Option Image) (rows : Rows) (ws : List Wanted) (is : List (Input R)) (wants : List Want) → map want_of ws ≡ wants → HaveOpened bytes faults told ws is None
@@ -65,7 +55,7 @@ lifted_are bytes faults told rows (w ∷ ws) (i ∷ is) (x ∷ wants) same have 
     λ j. map (lifted (lineage j) (epoch j) (epoch_of (lineage j))) (rows x.file.id) ∷ lifted_are bytes faults told rows ws is wants others have.1 j
 
 module _ (o : Outset) (g : Origin) (l : EngineState) (story : Story) (held : Option (List ℕ)) (h : List Entry) (running refused : _) (v : IsVault o g true l story held h running refused) (opened : l.closed ≡ None)
-    {R : Type 0} (bytes : R → Option (List ℕ)) (faults : R → ℕ) (t : Task R) (there : t.table < length l.catalogue.tables) (numbers : List ℕ) (views : t.views.items ≡ map unread_view numbers)
+    {R : Type 0} (bytes : R → Option (List ℕ)) (faults : R → ℕ) (t : Task R) (there : t.table < length l.catalogue.tables)
     (gathered : IsGathered bytes faults story.told (meta_at l.catalogue t.table) t.work t) (whole : t.damage ≡ None) where
   abbrev c : Catalog
   c = l.catalogue
@@ -103,18 +93,12 @@ module _ (o : Outset) (g : Origin) (l : EngineState) (story : Story) (held : Opt
     ap rows_of (lifted_are bytes faults story.told v.rows gathered.wanted t.inputs.items (flat_map (table_wanted lin) ds) gathered.are all_open) ∙ table_parts v.rows lin ds,
   )
 
-  table_bounded : AreBounded (columns_of lin) (knowns_of bytes t.inputs.items)
-  table_bounded = record {
+  -- The sums over the files of a range stay in their type.
+  pub is_bounded : IsBounded bytes (meta_at l.catalogue t.table).lineage t
+  is_bounded = record {
     contents = range_told.0;
     told = range_told.1;
     bound = λ k sum.
         subst (λ n. n < sum_bound) (sym (zero-add _)) (subst (λ (rs : List Row). abs_total k rs < sum_bound) (sym range_told.2)
         (folded_sums v.rows c.floor c.next u (shaped_at c v.shaped t.table there) (meta_found (HasSoundRows v.rows) c.tables t.table there (v.sound_rows refl).0) (is_base t.work) (last_of t.work) k sum));
-  }
-
-  -- The sums over the files of a range, and over those of its views, stay in their type.
-  pub is_bounded : IsBounded bytes (meta_at l.catalogue t.table).lineage t
-  is_bounded = record {
-    table = table_bounded;
-    views = λ i view tv of_table of_task. unread_bounded bytes (columns_of lin) numbers i view tv (subst (λ (xs : List (TaskView R)). slice_get xs i ≡ Some tv) views of_task);
   }

@@ -29,7 +29,7 @@ use Rattle.mesa_engine.specs.declared.log.Log.{Log}
 use Rattle.mesa_engine.specs.Printing.{PrintsBlock}
 use Rattle.mesa_engine.specs.Memory.{Memory, with_leases}
 use Rattle.mesa_engine.specs.Engine.{IsEngine}
-use Rattle.mesa_work_turns.specs.Claims.{cause_met}
+use Rattle.mesa_work_turns.specs.Claims.{cause_unopened}
 use Rattle.mesa_work_turns.proofs.Grants.{answers, fault_counts, granted_engine, granted_takes, has_no_claim, never_unwritten, ungranted_engine, ungranted_takes}
 
 -- The claim is granted: the engine is kept, the session's command has the claim, a fault of the disk would be answered only where one of its counts rose, and this is the vault behind the turn.
@@ -69,7 +69,7 @@ module _ {K : Type 0} (held : K → Option (List ℕ)) (faults : K → ℕ) (n :
         behind = λ w b sound. subst (λ (x : Memory). IsVault (outset_of n w) (n.origin w) b x.state new (held later.printer.sink) later.history.items (not later.printer.broken) later.refused) gives (kept.vault w b sound);
       }
 
-  pub is_no_grant : m.state.closed ≡ None → (e : Unopened) (cause : Cause) → cause ≡ cause_met e → Counts story new (is_read_fault (cause_met e)) → IsShort (entry s number kind.Grant (outcome_of cause) mo)
+  pub is_no_grant : m.state.closed ≡ None → (e : Unopened) (cause : Cause) → cause ≡ cause_unopened e → Counts story new (is_read_fault (cause_unopened e)) → IsShort (entry s number kind.Grant (outcome_of cause) mo)
       → later.history.items ≡ log.history.items ++ entry s number kind.Grant (outcome_of cause) mo ∷ [] → PrintsBlock held faults log.printer later.printer (entry s number kind.Grant (outcome_of cause) mo) (told_at at (reply_of cause)) → later.refused ≡ (log.refused || is_refusal (reply_of cause))
       → IsNoGrant held faults n turns sinks m story new old seen later s number
   is_no_grant open' e cause is counts short grew prints refused =

@@ -46,7 +46,7 @@ use Rattle.mesa_engine.specs.Memory.{Memory, with_leases}
 use Rattle.mesa_engine.specs.Engine.{IsEngine}
 use Rattle.mesa_engine.proofs.Turning.{passed_engine, told_engine}
 use Rattle.mesa_pick_files.specs.Gathered.{is_fault_among}
-use Rattle.mesa_work_turns.specs.Claims.{cause_met}
+use Rattle.mesa_work_turns.specs.Claims.{cause_unopened}
 
 -- ---- counts of faults
 
@@ -69,17 +69,17 @@ fault_counts old new fault c = record { faults = c.faults; reads = c.read_faults
     ]
 
 -- so where files weren't opened
-pub unopened_counts : (T : Type 0) (old new : Story) (e : Unopened) → Counted old new (is_fault_among {T = T} (Err e)) → Counts old new (is_read_fault (cause_met e))
+pub unopened_counts : (T : Type 0) (old new : Story) (e : Unopened) → Counted old new (is_fault_among {T = T} (Err e)) → Counts old new (is_read_fault (cause_unopened e))
 unopened_counts T old new un.Fault c = fault_counts old new true c
 unopened_counts T old new un.Memory c = fault_counts old new false c
 
 -- no file is written at a grant
-pub never_unwritten : (u : Unopened) → cause_met u ≡ Unwritten → ⊥
+pub never_unwritten : (u : Unopened) → cause_unopened u ≡ Unwritten → ⊥
 never_unwritten un.Fault is = cc
 never_unwritten un.Memory is = cc
 
 -- why no claim is granted then
-pub has_no_claim : (l : EngineState) (asked : Result Claim Reply) (claim : Claim) (e : Unopened) → l.closed ≡ None → asked ≡ Ok claim → HasNoClaim (books_of no_rows l) asked (cause_met e)
+pub has_no_claim : (l : EngineState) (asked : Result Claim Reply) (claim : Claim) (e : Unopened) → l.closed ≡ None → asked ≡ Ok claim → HasNoClaim (books_of no_rows l) asked (cause_unopened e)
 has_no_claim l asked claim un.Fault open' is = (claim, is)
 has_no_claim l asked claim un.Memory open' is = open'
 
@@ -161,7 +161,7 @@ module _ (o : Outset) (g : Origin) (sound : Bool) (l : EngineState) (story : Sto
       grew (stands ∙ ap not (sym ran)) (λ on. ran) seen
 
 -- a turn that answers isn't skipped
-pub answers : (e : Unopened) → is_skip (outcome_of (cause_met e)) ≡ false
+pub answers : (e : Unopened) → is_skip (outcome_of (cause_unopened e)) ≡ false
 answers un.Fault = refl
 answers un.Memory = refl
 

@@ -20,21 +20,21 @@ use Rattle.mesa_engine.specs.Vault.{Origin, IsVault, written_by}
 use Rattle.mesa_engine.proofs.Standing.{held_there}
 use Rattle.mesa_model.specs.declared.entries.Entry.{Entry}
 use Rattle.mesa_pick_files.specs.Folding.{folded_deltas}
-use Rattle.mesa_pick_files.specs.Gathered.{IsGathered, unread_view}
+use Rattle.mesa_pick_files.specs.Gathered.{IsGathered}
 use Rattle.mesa_pick_files.proofs.Among.{all_folded}
 use Rattle.mesa_pick_files.proofs.Cumulative.{work_folds}
-use Rattle.mesa_write_turns.specs.mesa_file_records.Finished.{GroupOnly, HasRange, sources_in}
+use Rattle.mesa_write_turns.specs.mesa_file_records.Finished.{HasRange, sources_in}
 use Rattle.mesa_open_files.specs.Inputs.{present_parts}
 use Rattle.mesa_open_files.specs.Tasks.{IsTask}
 use Rattle.mesa_open_files.specs.declared.merging.Task.{Task}
 use Rattle.mesa_write_turns.specs.mesa_invariant_spec.Invariant.{Outset}
-use Rattle.mesa_work_turns.proofs.Sound.{IsSoundDelta, none_met, none_own, present_lifted, same_folded, sound_deltas, told_inputs}
+use Rattle.mesa_work_turns.proofs.Sound.{IsSoundDelta, none_met, present_lifted, same_folded, sound_deltas, told_inputs}
 use Rattle.mesa_work_turns.proofs.Bounded.{range_told}
 use Rattle.mesa_work_turns.proofs.Grants.{shaped_at}
 
 module _ (o : Outset) (g : Origin) (l : EngineState) (story : Story) (held : Option (List ℕ)) (h : List Entry) (running refused : Bool) (v : IsVault o g true l story held h running refused) (opened : l.closed ≡ None)
     {R : Type 0} (bytes : R → Option (List ℕ)) (faults : R → ℕ) (t : Task R) (there : t.table < length l.catalogue.tables) (may : may_be_work l.catalogue (meta_at l.catalogue t.table) (is_base t.work) (first_of t.work) (last_of t.work) ≡ true)
-    (task : IsTask bytes (meta_at l.catalogue t.table).lineage t) (numbers : List ℕ) (views : t.views.items ≡ map unread_view numbers) (gathered : IsGathered bytes faults story.told (meta_at l.catalogue t.table) t.work t) where
+    (task : IsTask bytes (meta_at l.catalogue t.table).lineage t) (gathered : IsGathered bytes faults story.told (meta_at l.catalogue t.table) t.work t) where
   abbrev c : Catalog
   c = l.catalogue
 
@@ -68,11 +68,10 @@ module _ (o : Outset) (g : Origin) (l : EngineState) (story : Story) (held : Opt
   has_range = record {
     epochs = subst (λ e. AllByRecursion (λ (s : Source). s.epoch ≤ e) (sources_in t written)) (sym task.epoch) (epochs_written v.rows (written_by o g.found h) c v.shaped (v.sourced refl) t.table there (first_of t.work) (last_of t.work));
     rows = λ its merge.
-        let all = range_told o g l story held h running refused v opened bytes faults t there numbers views gathered has_no_damage in
+        let all = range_told o g l story held h running refused v opened bytes faults t there gathered has_no_damage in
         merge all.0 (told_inputs bytes t.inputs.items all.0 all.1)
         ∙ same_folded (aggs_of (columns_of lin)) (present_parts t.inputs.items all.0) (map (present v.rows lin) (folded_deltas u (is_base t.work) (last_of t.work))) (ap rows_of (present_lifted bytes t.inputs.items all.0) ∙ all.2)
         ∙ work_folds v.rows c.floor c.next u (shaped_at c v.shaped t.table there) (meta_found (HasSoundRows v.rows) c.tables t.table there (v.sound_rows refl).0) (is_base t.work) (last_of t.work)
         ∙ work_written v.rows (written_by o g.found h) c v.shaped (v.sourced refl) t.table there (is_base t.work) (first_of t.work) (last_of t.work) may
         ∙ ap (λ e. range_rows lin e (sources_in t written)) (sym task.epoch);
-    views = subst (GroupOnly bytes (columns_of lin) (range_rows lin t.epoch (sources_in t written)) lin.views) (sym views) (none_own bytes (columns_of lin) (range_rows lin t.epoch (sources_in t written)) lin.views numbers);
   }

@@ -32,7 +32,7 @@ use Rattle.mesa_write_turns.proofs.mesa_invariant_spec.Working.{lost_turn, starv
 use Rattle.mesa_engine.specs.Engine.{IsEngine}
 use Rattle.mesa_engine.proofs.Turning.{told_engine}
 use Rattle.mesa_engine.proofs.Undone.{not_skipped}
-use Rattle.mesa_work_turns.specs.Merged.{HasNotSwapped, cause_met, unswapped_state}
+use Rattle.mesa_work_turns.specs.Merged.{HasNotSwapped, cause_unswapped, unswapped_state}
 use Rattle.mesa_work_turns.specs.declared.completing.Unswapped.{Unswapped}
 use Rattle.mesa_work_turns.specs.declared.completing.Unswapped.TheVariants as why
 
@@ -44,17 +44,17 @@ module _ (n : Starts) (w : Rows) (sound : Bool) (l : EngineState) (story : Story
   few_granted : (ended claim.table claim.lease l.leases).granted ≤ l.leases.granted + 1
   few_granted = subst (λ q. q ≤ l.leases.granted + 1) (sym (ended_granted claim.table claim.lease l.leases)) (omega arith)
 
-  pub unswapped_vault : (e : Unswapped) → HasNotSwapped (books_of no_rows l) at claim e → IsPut (block (entry s number kind.Close (outcome_of (cause_met e)) m) (Some (told_at at (reply_of (cause_met e))))) now held new_held
-      → IsVault (outset_of n w) (n.origin w) sound (unswapped_state e claim.table claim.lease l) story new_held (h ++ entry s number kind.Close (outcome_of (cause_met e)) m ∷ []) now (refused || is_refusal (reply_of (cause_met e)))
+  pub unswapped_vault : (e : Unswapped) → HasNotSwapped (books_of no_rows l) at claim e → IsPut (block (entry s number kind.Close (outcome_of (cause_unswapped e)) m) (Some (told_at at (reply_of (cause_unswapped e))))) now held new_held
+      → IsVault (outset_of n w) (n.origin w) sound (unswapped_state e claim.table claim.lease l) story new_held (h ++ entry s number kind.Close (outcome_of (cause_unswapped e)) m ∷ []) now (refused || is_refusal (reply_of (cause_unswapped e)))
   unswapped_vault (why.Refused x) has put =
-      still_vault (outset_of n w) (n.origin w) sound l story held h running refused v (entry s number kind.Close (outcome_of (cause_met (why.Refused x))) m) story new_held now (refused || true) (stays story)
+      still_vault (outset_of n w) (n.origin w) sound l story held h running refused v (entry s number kind.Close (outcome_of (cause_unswapped (why.Refused x))) m) story new_held now (refused || true) (stays story)
       (lost_turn (outset_of n w) sound (books_of v.rows l) story held h running refused v.invariant s number low few (command.Work words) refl m ran at place moment story (stays story) claim due x has (counts_same story) now new_held put)
   unswapped_vault why.Memory has put =
-      leased_vault (outset_of n w) (n.origin w) sound l story held h running refused v (entry s number kind.Close (outcome_of (cause_met why.Memory)) m) story new_held now (refused || true) (stays story) (ended claim.table claim.lease l.leases) few_granted
+      leased_vault (outset_of n w) (n.origin w) sound l story held h running refused v (entry s number kind.Close (outcome_of (cause_unswapped why.Memory)) m) story new_held now (refused || true) (stays story) (ended claim.table claim.lease l.leases) few_granted
       (starved_turn (outset_of n w) sound (books_of v.rows l) story held h running refused v.invariant s number low few (command.Work words) refl m ran at place moment story (stays story) claim due has (counts_same story) now new_held put)
 
 -- no damage keeps a range from being swapped in
-refused_undamaged : (e : Unswapped) → is_damaged (outcome_of (cause_met e)) ≡ false
+refused_undamaged : (e : Unswapped) → is_damaged (outcome_of (cause_unswapped e)) ≡ false
 refused_undamaged (why.Refused refusal) = refl
 refused_undamaged why.Memory = refl
 
@@ -63,7 +63,7 @@ refused_undamaged why.Memory = refl
 module _ {K : Type 0} (held : K → Option (List ℕ)) (faults : K → ℕ) (n : Starts) (turns sinks : ℕ) (m after : Memory) (story : Story) (log later : Log K) (v : IsEngine held faults n turns sinks m story log)
     (s number : ℕ) (low : s < 2 ^ 16) (few : number < 2 ^ 32) (words : WorkWords) (mo : ℕ) (moment : mo ≡ story.moment) (ran : not log.printer.broken ≡ true) (claim : Claim)
     (due : (w : Rows) → IsDue n.script (run_at n.script (n.start w) log.history.items) s number (command.Work words) (Renewed claim)) (e : Unswapped) (has : HasNotSwapped (books_of no_rows m.state) (length log.history.items) claim e)
-    (cause : Cause) (cause_is : cause ≡ cause_met e)
+    (cause : Cause) (cause_is : cause ≡ cause_unswapped e)
     (grew : later.history.items ≡ log.history.items ++ entry s number kind.Close (outcome_of cause) mo ∷ []) (roomy : vec_capacity log.history ≤ vec_capacity later.history)
     (is : after ≡ with_state (unswapped_state e claim.table claim.lease m.state) m) where
   pub unswapped_engine : PrintsBlock held faults log.printer later.printer (entry s number kind.Close (outcome_of cause) mo) (told_at (length log.history.items) (reply_of cause)) → later.refused ≡ (log.refused || is_refusal (reply_of cause)) → IsEngine held faults n turns sinks after story later
@@ -83,11 +83,11 @@ closed_takes n w old new s number words claim due cause grew ran seen =
     complete_takes n.script (n.start w) old new s number (command.Work words) claim due (record { outcome = outcome_of cause; grew = grew; skipped = not_skipped cause ∙ ap not (sym ran); still = λ on. ran }) seen
 
 -- no file was being built
-pub no_draft : (closing : Bool) (u : Unswapped) → answers_bench closing (outcome_of (cause_met u)) ≡ false
+pub no_draft : (closing : Bool) (u : Unswapped) → answers_bench closing (outcome_of (cause_unswapped u)) ≡ false
 no_draft closing (why.Refused refusal) = refl
 no_draft closing why.Memory = refl
 
 -- nor a fault of the disk
-pub no_fault : (closing : Bool) (u : Unswapped) → answers_disk closing (outcome_of (cause_met u)) ≡ false
+pub no_fault : (closing : Bool) (u : Unswapped) → answers_disk closing (outcome_of (cause_unswapped u)) ≡ false
 no_fault closing (why.Refused refusal) = refl
 no_fault closing why.Memory = refl

@@ -5,9 +5,7 @@ use Rattle.std.specs.List.{AllByRecursion}
 use Rattle.mesa_file.specs.declared.damage.Damage.{Damage}
 use Rattle.mesa_file.specs.declared.file_ref.FileRef.{FileRef}
 use Rattle.mesa_write_turns.specs.mesa_columns.declared.rows.Row.{Row}
-use Rattle.mesa_write_turns.specs.mesa_columns.declared.views.View.{View}
 use Rattle.mesa_write_turns.specs.mesa_schema.Changes.{Lineage, columns_at}
-use Rattle.mesa_write_turns.specs.mesa_columns.Columns.{Columns}
 use Rattle.mesa_open_files.specs.mesa_fold.Folded.{folded, folded_at, keys_of, rows_of}
 use Rattle.mesa_pick_files.specs.mesa_value.declared.Agg.{Agg}
 use Rattle.mesa_disk.specs.Image.{Image, file_of}
@@ -21,8 +19,6 @@ use Rattle.mesa_engine.specs.mesa_store_spec.Sound.{HaveSoundRows, HasSoundRows,
 use Rattle.mesa_engine.proofs.mesa_store_spec.Lists.{all_unflat, all_unmap, meta_found}
 use Rattle.mesa_engine.proofs.Lists.{all_also}
 use Rattle.mesa_pick_files.specs.Files.{Want, files_wanted, table_wanted, want_of}
-use Rattle.mesa_pick_files.specs.Gathered.{unread_view}
-use Rattle.mesa_write_turns.specs.mesa_file_records.Finished.{GroupOnly}
 use Rattle.mesa_pick_files.specs.mesa_merge.Inputs.{AreTold, known_of, knowns_of, lifted_in, lifted_parts}
 use Rattle.mesa_open_files.specs.Inputs.{present_parts}
 use Rattle.mesa_open_files.specs.Inputs.{AreTold as AreToldInputs}
@@ -85,7 +81,7 @@ module _ {R : Type 0} (bytes : R → Option (List ℕ)) (faults : R → ℕ) (to
   none_met [] all (w ∷ ws) is d same have = absurd (cons_none _ _ same)
   none_met (d ∷ ds) all ws is x same have = none_behind d.epoch (flat_map (table_wanted l) ds) (none_met ds all.1) d.files all.0 ws is x same have
 
--- ---- folds, and views
+-- ---- folds
 
 -- inputs that are told, as a merge knows them, and their rows at present
 pub told_inputs : {R : Type 0} (bytes : R → Option (List ℕ)) (is : List (Input R)) (parts : List (List Row)) → AreTold (knowns_of bytes is) parts → AreToldInputs bytes is parts
@@ -102,9 +98,3 @@ present_lifted bytes (i ∷ is) (rows ∷ parts) = λ k. map (lifted_in (known_o
 -- parts with the same rows fold to the same
 pub same_folded : (aggs : List Agg) (xs ys : List (List Row)) → rows_of xs ≡ rows_of ys → folded aggs xs ≡ folded aggs ys
 same_folded aggs xs ys same = λ k. map (folded_at aggs (same k)) (keys_of (same k))
-
--- views with no files of their own say nothing
-pub none_own : {R : Type 0} (read : R → Option (List ℕ)) (s : Columns) (rows : List Row) (views : List View) (numbers : List ℕ) → GroupOnly read s rows views (map (unread_view {R = R}) numbers)
-none_own read s rows [] numbers = tt
-none_own read s rows (v ∷ views) [] = tt
-none_own read s rows (v ∷ views) (number ∷ numbers) = (tt, none_own read s rows views numbers)

@@ -25,9 +25,9 @@ abbrev pub recast_claim_as : EngineState → Regrouping → Claim
 recast_claim_as l x = record { table = x.table; lease = l.leases.granted + 1; errand = Recasts (epoch_of (meta_at l.catalogue x.table).lineage) (record { keys = x.names.keys; values = x.names.values }) }
 
 -- why none is granted whose files weren't opened
-abbrev pub cause_met : Unopened → Cause
-cause_met un.Fault = Unread
-cause_met un.Memory = NoMemory
+abbrev pub cause_unopened : Unopened → Cause
+cause_unopened un.Fault = Unread
+cause_unopened un.Memory = NoMemory
 
 -- what the books say of a claim, by its table and the number of its lease
 abbrev pub lease_checked : Books → ℕ → ℕ → ℕ → Result (Unit {0}) Refusal

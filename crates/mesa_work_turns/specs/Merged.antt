@@ -11,9 +11,9 @@ use Rattle.mesa_work_turns.specs.declared.completing.Unswapped.{Unswapped}
 use Rattle.mesa_work_turns.specs.declared.completing.Unswapped.TheVariants as why
 
 -- why a range isn't swapped in
-abbrev pub cause_met : Unswapped → Cause
-cause_met (why.Refused refusal) = Replies (reply.Refused refusal)
-cause_met why.Memory = NoMemory
+abbrev pub cause_unswapped : Unswapped → Cause
+cause_unswapped (why.Refused refusal) = Replies (reply.Refused refusal)
+cause_unswapped why.Memory = NoMemory
 
 -- Why a claim's range isn't swapped in: the books refuse the claim; or they are open, and there was no memory.
 abbrev pub HasNotSwapped : Books → ℕ → Claim → Unswapped → Type 0

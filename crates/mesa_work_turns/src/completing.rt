@@ -19,7 +19,7 @@ ghost use Rattle.mesa_write_turns.specs.mesa_invariant_spec.Turns.{AnswersDisk, 
 ghost use Rattle.mesa_write_turns.specs.mesa_invariant_spec.Invariant.{run_at};
 ghost use Rattle.mesa_open_files.specs.Tasks.{claim_in};
 ghost use Rattle.mesa_engine.specs.Written.{written_at};
-ghost use Rattle.mesa_work_turns.specs.Merged.{HasNotSwapped, cause_met, unswapped_state};
+ghost use Rattle.mesa_work_turns.specs.Merged.{HasNotSwapped, cause_unswapped, unswapped_state};
 ghost use Rattle.mesa_work_turns.specs.Swept.{ClaimHolds, HasStood, IsSwept};
 
 use crate::give_back;
@@ -56,7 +56,7 @@ fn range_of(work: Work) -> Reply
 // Why nothing is swapped in. Without memory the lease ends.
 fn fall(metadata: &mut Metadata, table: u16, lease: u64, why: Unswapped) -> Failure
     requires { table < TABLES }
-    ensures cause { cause_in result ≡ cause_met why }
+    ensures cause { cause_in result ≡ cause_unswapped why }
     ensures after { metadata.new ≡ with_state (unswapped_state why table lease metadata.old.state) metadata.old }
 {
     match why {
@@ -84,7 +84,7 @@ fn refuse<N: Naming, M: Made, D: Disk<M>, K: Sink>(
     ensures disk { AnswersDisk N.script (N.start no_rows) engine.old.shown engine.new.shown ⊥ }
     ensures draft { AnswersDraft N.script (N.start no_rows) engine.old.shown engine.new.shown who.session ⊥ }
     ensures state { engine.new.state ≡ unswapped_state why task.now.table task.now.lease engine.old.state }
-    ensures outcome { engine.new.shown.history ≡ engine.old.shown.history ++ entry who.session who.command kind.Close (outcome_of (cause_met why)) engine.new.shown.clock ∷ [] }
+    ensures outcome { engine.new.shown.history ≡ engine.old.shown.history ++ entry who.session who.command kind.Close (outcome_of (cause_unswapped why)) engine.new.shown.clock ∷ [] }
 {
     let moment = engine.disk.clock();
     let failure = fall(&mut engine.metadata, task.table, task.lease, why);

@@ -1,7 +1,6 @@
 // A work's grant.
 ghost use Rattle.std.specs.Prelude.{◌≡◌, ◌≢◌, ◌+◌, ◌-◌, ◌<◌, ◌≤◌, ◌^◌, ℕ, List, true, length, None, Some, Ok, IfSome, OnSome};
 ghost use Rattle.mesa_copy.specs.mesa_compact.Bounded.{IsBounded};
-ghost use Rattle.mesa_pick_files.specs.Gathered.{unread_views};
 ghost use Rattle.mesa_write_turns.specs.mesa_history_spec.Machine.{claim_of};
 ghost use Rattle.mesa_write_turns.specs.mesa_history_spec.Run.{First, Granted};
 ghost use Rattle.mesa_write_turns.specs.mesa_history_spec.Turns.{IsDue};
@@ -23,7 +22,7 @@ ghost use Rattle.mesa_open_files.specs.Tasks.{IsTask, claim_in};
 ghost use Rattle.mesa_write_turns.specs.mesa_invariant_spec.Turns.{AnswersDisk, SomeRose, Takes};
 ghost use Rattle.mesa_write_turns.specs.mesa_invariant_spec.Invariant.{run_at};
 ghost use Rattle.mesa_write_turns.specs.mesa_invariant_spec.Works.{stage_if};
-ghost use Rattle.mesa_work_turns.specs.Claims.{cause_met, claim_as};
+ghost use Rattle.mesa_work_turns.specs.Claims.{cause_unopened, claim_as};
 ghost use Rattle.mesa_engine.specs.Written.{written_at};
 
 use crate::claiming::{Claimed, claim};
@@ -53,7 +52,6 @@ pub fn grant<N: Naming, M: Made, D: DeltaDisk<M>, K: Sink>(
     ensures there { IfSome result (λ t. t.table < length (run_at N.script (N.start no_rows) engine.new.shown.history).state.warehouse.store.tables) }
     ensures next { IfSome result (λ t. last_of t.work < (run_at N.script (N.start no_rows) engine.new.shown.history).state.warehouse.next) }
     ensures task { IfSome result (λ t. IsTask D.Reader.bytes (meta_at engine.old.state.catalogue t.table).lineage t) }
-    ensures views { IfSome result (λ t. t.views.items ≡ unread_views 0 (length (meta_at engine.old.state.catalogue t.table).lineage.views)) }
     ensures damage { IfSome result (λ t. IfSome t.damage (λ d. d.want ≢ d.found)) }
 
     // Each of its files is open once more for each further part of the merge, unless one of them is damaged.
@@ -100,7 +98,6 @@ fn take<N: Naming, M: Made, D: DeltaDisk<M>, K: Sink>(
     ensures there { IfSome result (λ t. t.table < length (run_at N.script (N.start no_rows) engine.new.shown.history).state.warehouse.store.tables) }
     ensures next { IfSome result (λ t. last_of t.work < (run_at N.script (N.start no_rows) engine.new.shown.history).state.warehouse.next) }
     ensures task { IfSome result (λ t. IsTask D.Reader.bytes (meta_at engine.old.state.catalogue claimed.table).lineage t) }
-    ensures views { IfSome result (λ t. t.views.items ≡ unread_views 0 (length (meta_at engine.old.state.catalogue t.table).lineage.views)) }
     ensures damage { IfSome result (λ t. IfSome t.damage (λ d. d.want ≢ d.found)) }
     ensures spare { IfSome result (HasSpares D.Reader.bytes (parts - 1)) }
     ensures whole { (w : Rows) → N.sound w → IfSome result (λ t. t.damage ≡ None) }
@@ -116,7 +113,6 @@ fn take<N: Naming, M: Made, D: DeltaDisk<M>, K: Sink>(
             Gathered {
                 epoch,
                 inputs,
-                views,
                 damage,
                 spare,
             },
@@ -131,7 +127,6 @@ fn take<N: Naming, M: Made, D: DeltaDisk<M>, K: Sink>(
                 lease,
                 epoch,
                 inputs,
-                views,
                 damage,
                 spare,
             })
@@ -162,7 +157,7 @@ pub(crate) fn lease(metadata: &mut Metadata, table: u16, worker: u16, position: 
 
 /// Why nothing is granted whose files weren't opened.
 pub fn failure_of(unopened: Unopened) -> Failure
-    ensures { cause_in result ≡ cause_met unopened }
+    ensures { cause_in result ≡ cause_unopened unopened }
 {
     match unopened {
         Unopened::Fault => Failure::Unread,

@@ -12,7 +12,7 @@ use Rattle.mesa_engine.specs.Engine.{Standing, starts_of}
 use Rattle.mesa_work_turns.specs.mesa_history_spec.Rows.{no_rows}
 use Rattle.mesa_open_files.specs.Recasts.{claim_of_recast, recast_in}
 use Rattle.mesa_work_turns.proofs.Sweeping.{stood_as}
-use Rattle.mesa_recast_turns.specs.Unfit.{HasNotRecast, cause_met}
+use Rattle.mesa_recast_turns.specs.Unfit.{HasNotRecast, cause_unfit}
 use Rattle.mesa_recast_turns.proofs.Dues.{recast_is_there}
 use Rattle.mesa_recast_turns.proofs.Regroups.{table_is}
 use Rattle.mesa_recast_turns.proofs.Unfits.{not_done}
@@ -46,6 +46,6 @@ returns-in-Err-clause-swept g c stood holds still =
     subst (λ p. HasNotRecast (books_of no_rows i.metadata.state) p claim t.epoch (recast_in t) why) c.position-at.ensures c.in-Err.ensures.refused in
     let has : HasNotRecast (books_of no_rows l) at claim t.epoch (recast_in t) why =
     subst (λ (x : Standing). HasNotRecast (books_of no_rows x.state) (length x.shown.history) claim t.epoch (recast_in t) why) c.engine.view_is here in
-    let stands = stood_as c.args.engine.now.shown c.refuse.new.engine.shown c.args.who.session c.args.who.command (outcome_of (cause_met why)) _ c.refuse.ensures.outcome stood in
+    let stands = stood_as c.args.engine.now.shown c.refuse.new.engine.shown c.args.who.session c.args.who.command (outcome_of (cause_unfit why)) _ c.refuse.ensures.outcome stood in
     let allowed = ap (λ (u : Table). still_checked u.lineage t.epoch (recast_in t)) (table_is l t.table) ∙ still in
     absurd (not_done (books_of no_rows l) at claim t.epoch (recast_in t) why has stands holds allowed)

@@ -19,7 +19,7 @@ use Rattle.mesa_work_turns.proofs.mesa_invariant_spec.Faulting.{disk_never}
 use Rattle.mesa_engine.specs.Engine.{Standing, IsEngine, starts_of}
 use Rattle.mesa_engine.proofs.Drafting.{answers_none}
 use Rattle.mesa_open_files.specs.Recasts.{claim_of_recast, recast_in}
-use Rattle.mesa_recast_turns.specs.Unfit.{HasNotRecast, cause_met, unfit_state}
+use Rattle.mesa_recast_turns.specs.Unfit.{HasNotRecast, cause_unfit, unfit_state}
 use Rattle.mesa_recast_turns.proofs.Unfits.{closed_takes, no_draft, no_fault, unfit_engine}
 use Rattle.mesa_recast_turns.proofs.recasting.refuse.Goals as goal
 
@@ -109,5 +109,5 @@ returns-clause-outcome g c =
     let who = c.args.who in
     let h = c.engine.inside.log.history.items in
     let now = (g.D.Disk.story c.engine.inside.disk).moment in
-    subst (λ (x : Standing). c.fail.new.self.history.items ≡ x.shown.history ++ entry who.session who.command kind.Close (outcome_of (cause_met c.args.why)) now ∷ []) c.engine.view_is
+    subst (λ (x : Standing). c.fail.new.self.history.items ≡ x.shown.history ++ entry who.session who.command kind.Close (outcome_of (cause_unfit c.args.why)) now ∷ []) c.engine.view_is
     (c.fail.ensures.items ∙ (λ j. h ++ entry who.session who.command kind.Close (outcome_of (c.fall-failure.ensures.cause j)) (c.clock-moment.ensures j) ∷ []))

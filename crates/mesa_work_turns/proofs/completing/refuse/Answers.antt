@@ -19,7 +19,7 @@ use Rattle.mesa_write_turns.proofs.mesa_invariant_spec.Faulting.{disk_never}
 use Rattle.mesa_engine.specs.Engine.{Standing, IsEngine, starts_of}
 use Rattle.mesa_engine.proofs.Drafting.{answers_none}
 use Rattle.mesa_open_files.specs.Tasks.{claim_in}
-use Rattle.mesa_work_turns.specs.Merged.{HasNotSwapped, cause_met, unswapped_state}
+use Rattle.mesa_work_turns.specs.Merged.{HasNotSwapped, cause_unswapped, unswapped_state}
 use Rattle.mesa_work_turns.proofs.Refusing.{closed_takes, no_draft, no_fault, unswapped_engine}
 use Rattle.mesa_work_turns.proofs.completing.refuse.Goals as goal
 
@@ -78,7 +78,7 @@ returns-clause-outcome g c =
     let h = c.engine.inside.log.history.items in
     let who = c.args.who in
     let now = (g.D.Disk.story c.engine.inside.disk).moment in
-    subst (λ (x : Standing). c.fail.new.self.history.items ≡ x.shown.history ++ entry who.session who.command kind.Close (outcome_of (cause_met c.args.why)) now ∷ []) c.engine.view_is
+    subst (λ (x : Standing). c.fail.new.self.history.items ≡ x.shown.history ++ entry who.session who.command kind.Close (outcome_of (cause_unswapped c.args.why)) now ∷ []) c.engine.view_is
     (c.fail.ensures.items ∙ (λ j. h ++ entry who.session who.command kind.Close (outcome_of (c.fall-failure.ensures.cause j)) (c.clock-moment.ensures j) ∷ []))
 
 pub returns-clause-draft : goal.returns-clause-draft

@@ -18,7 +18,7 @@ use Rattle.mesa_engine.specs.mesa_store_spec.Moves.{first_of, is_base, last_of}
 use Rattle.mesa_engine.specs.Vault.{IsVault, Starts, outset_of}
 use Rattle.mesa_copy.specs.mesa_compact.Bounded.{IsBounded}
 use Rattle.mesa_engine.specs.Failure.{cause_in}
-use Rattle.mesa_pick_files.specs.Gathered.{IsGathered, task_with, unread_views}
+use Rattle.mesa_pick_files.specs.Gathered.{IsGathered, task_with}
 use Rattle.mesa_pick_files.specs.declared.gathering.Gathered.{Gathered}
 use Rattle.mesa_lease.specs.Book.{granted}
 use Rattle.mesa_engine.specs.Memory.{with_leases}
@@ -178,7 +178,7 @@ pub returns-in-Ok-clause-whole : goal.returns-in-Ok-clause-whole
 returns-in-Ok-clause-whole g c w sound =
     let later = c.pass.new.self in
     has_no_damage (outset_of (starts g c) w) (g.N.Naming.origin w) (leased g c) (g.D.Disk.story c.gather-gathered.new.disk) (g.K.Sink.held later.printer.sink) later.history.items (not later.printer.broken) later.refused (vault_behind g c w true (λ ok. sound)) (was_open g c)
-    g.D.Reader.FileReader.bytes g.D.Reader.FileReader.faults (task_of g c) (table_there g c) (work_due g c) (is_task g c) _ c.in-Ok.ensures.views (gathered g c)
+    g.D.Reader.FileReader.bytes g.D.Reader.FileReader.faults (task_of g c) (table_there g c) (work_due g c) (is_task g c) (gathered g c)
 
 pub returns-in-Ok-clause-bounded : goal.returns-in-Ok-clause-bounded
 returns-in-Ok-clause-bounded g c w sound =
@@ -186,7 +186,7 @@ returns-in-Ok-clause-bounded g c w sound =
     let t = task_of g c in
     subst (λ (x : Standing). IsBounded g.D.Reader.FileReader.bytes (meta_at x.state.catalogue t.table).lineage t) c.engine.view_is
     (is_bounded (outset_of (starts g c) w) (g.N.Naming.origin w) (leased g c) (g.D.Disk.story c.gather-gathered.new.disk) (g.K.Sink.held later.printer.sink) later.history.items (not later.printer.broken) later.refused (vault_behind g c w true (λ ok. sound)) (was_open g c)
-    g.D.Reader.FileReader.bytes g.D.Reader.FileReader.faults t (table_there g c) _ c.in-Ok.ensures.views (gathered g c) (returns-in-Ok-clause-whole g c w sound))
+    g.D.Reader.FileReader.bytes g.D.Reader.FileReader.faults t (table_there g c) (gathered g c) (returns-in-Ok-clause-whole g c w sound))
 
 pub returns-in-Ok-clause-range : goal.returns-in-Ok-clause-range
 returns-in-Ok-clause-range g c w sound =
@@ -196,13 +196,7 @@ returns-in-Ok-clause-range g c w sound =
     let t = task_of g c in
     subst (λ (x : Standing). HasRange bytes (meta_at x.state.catalogue t.table).lineage t (written_at N.script (N.start w) (N.origin w) later.history.items t.table)) c.engine.view_is
     (has_range (outset_of (starts g c) w) (N.origin w) (leased g c) (g.D.Disk.story c.gather-gathered.new.disk) (g.K.Sink.held later.printer.sink) later.history.items (not later.printer.broken) later.refused (vault_behind g c w true (λ ok. sound)) (was_open g c)
-    bytes g.D.Reader.FileReader.faults t (table_there g c) (work_due g c) (is_task g c) _ c.in-Ok.ensures.views (gathered g c))
-
-pub returns-in-Ok-clause-views : goal.returns-in-Ok-clause-views
-returns-in-Ok-clause-views g c =
-    c.in-Ok.ensures.views
-    ∙ ap (λ (u : TableMeta). unread_views 0 (length u.lineage.views)) (meta_is g c)
-    ∙ ap (λ (x : Standing). unread_views 0 (length (meta_at x.state.catalogue c.args.claimed.table).lineage.views)) c.engine.view_is
+    bytes g.D.Reader.FileReader.faults t (table_there g c) (work_due g c) (is_task g c) (gathered g c))
 
 pub returns-in-Ok-clause-spare : goal.returns-in-Ok-clause-spare
 returns-in-Ok-clause-spare g c = c.in-Ok.ensures.spare c.args.claimed.table c.lease-lease.result

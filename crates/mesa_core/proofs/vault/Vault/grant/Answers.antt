@@ -36,7 +36,7 @@ returns-clause-granted g c =
     (subst (IsCatalogAfter N.script N.start (N.origin no_rows).generation c.grant-granted.new.engine.shown.history) e.catalogue c.catalogue.ensures)
     c.grant-granted.result e.low e.there e.next
     (claim_if (run_at N.script (N.start no_rows) c.grant-granted.new.engine.shown.history).state c.args.who.command c.self.inside.engine.shown.running (place_of (run_at N.script (N.start no_rows) c.grant-granted.new.engine.shown.history) c.args.who.session)
-    c.grant-granted.result e.ran e.turn.place (c.claims.ensures.claims c.args.who.session)) e.task e.views e.whole e.bounded e.range
+    c.grant-granted.result e.ran e.turn.place (c.claims.ensures.claims c.args.who.session)) e.task e.whole e.bounded e.range
 
 pub returns-clause-disk : goal.returns-clause-disk
 returns-clause-disk g c =
