@@ -34,11 +34,10 @@ merge_differs bytes size inputs d (inr total) = told_as d _ total.told (λ same.
 some_differs : (o : Option Damage) (d : Damage) → IfSome o Differs → o ≡ Some d → Differs d
 some_differs o d met is = subst (λ (p : Option Damage). IfSome p Differs) is met
 
--- damage that is met in merging a task's files, its own and its views'
-files_differs : {R : Type 0} (bytes : R → Option (List ℕ)) (size : R → ℕ) (t : Task R) (d : Damage) → IsFilesDamage bytes size t.inputs.items t.views.items d → Differs d
+-- damage that is met in merging a task's files
+files_differs : {R : Type 0} (bytes : R → Option (List ℕ)) (size : R → ℕ) (t : Task R) (d : Damage) → IsFilesDamage bytes size t.inputs.items d → Differs d
 files_differs bytes size t d (inl files) = merge_differs bytes size t.inputs.items d files
-files_differs bytes size t d (inr (inl view)) = merge_differs bytes size _ d view.told
-files_differs bytes size t d (inr (inr total)) = told_as d _ total.told (λ same. unlike_fits 0 same)
+files_differs bytes size t d (inr total) = told_as d _ total.told (λ same. unlike_fits 0 same)
 
 -- what is told of a task's files differs from what was wanted
 pub task_differs : {R : Type 0} (bytes : R → Option (List ℕ)) (size : R → ℕ) (old new : Task R) (d : Damage) → IfSome old.damage Differs → IsTaskDamage bytes size old new d → Differs d

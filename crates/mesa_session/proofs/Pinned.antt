@@ -22,8 +22,10 @@ use Rattle.mesa_open_files.specs.Pins.{relation_rows}
 use Rattle.mesa_open_files.specs.declared.querying.Pinned.{Pinned}
 use Rattle.mesa_open_files.specs.declared.querying.PinnedInput.{PinnedInput}
 use Rattle.mesa_core.proofs.Known.{cons_none, first_same, rest_same}
-use Rattle.mesa_query.specs.Files.{IsDamageIn, inputs_in, owns_in}
-use Rattle.mesa_query.specs.Relation.{page_over, parts_pinned, parts_ungrouped, rows_under}
+use Rattle.mesa_query.specs.mesa_group_blocks.Moved.{inputs_in}
+use Rattle.mesa_query.specs.Files.{IsDamageIn, owns_in}
+use Rattle.mesa_query.specs.mesa_group_blocks.Ungrouped.{parts_ungrouped, rows_under}
+use Rattle.mesa_query.specs.Relation.{page_over, parts_pinned}
 use Rattle.mesa_query.specs.Sums.{IsSumIn}
 use Rattle.mesa_core.specs.Damages.{IsUnread}
 use Rattle.mesa_core.specs.Pins.{IsAnswer, IsAnswerDamage, IsPageOver, heading_in, known_pin}

@@ -9,7 +9,7 @@ ghost use Rattle.mesa_turn.specs.Passes.{IsExact, Joins};
 ghost use Rattle.mesa_core.specs.Answers.{HasCounted, HaveCounted, answered};
 ghost use Rattle.mesa_core.specs.Passes.{HasEnded, HaveEnded, Mine, Waits, at_stage, turns_of};
 
-use crate::{Gate, Vault, run_session};
+use crate::{Gate, Sessions, Vault, run_session};
 use mesa_disk::{Bench, Disk, Made};
 use mesa_engine::Naming;
 use mesa_io::Sink;
@@ -75,6 +75,7 @@ fn join_next<'s, N: Naming + Send, M: Made, D: Disk<M>, K: Sink + Send>(
 
 // A session above the prologue, whose pass has its name alone.
 fn run_one<
+    'a,
     's,
     N: Naming + Send,
     M: Made,
@@ -83,20 +84,10 @@ fn run_one<
     R: Threads + Wait + Sync,
     B: Bench<M>,
     G: Gate,
->(
-    rt: &R,
-    alloc: Global,
-    lock: &TurnLock<Vault<'s, N, M, D, K>>,
-    pass: Pass,
-    script: &Script,
-    run: u32,
-    session: u16,
-    bench: &mut B,
-    gate: &G,
-) -> Pass
-    requires lock { pass.lock ≡ lock.now }
-    requires script { script.now ≡ N.script }
-    requires run { (run ≡ (N.origin no_rows).run) × (run < 2 ^ 24) }
+>(at: &Sessions<'a, 's, N, M, D, K, R, G>, pass: Pass, session: u16, bench: &mut B) -> Pass
+    requires lock { pass.lock ≡ at.now.lock.now }
+    requires script { at.now.script.now ≡ N.script }
+    requires run { (at.now.run ≡ (N.origin no_rows).run) × (at.now.run < 2 ^ 24) }
     requires few { length N.script.sessions ≤ 8 }
     requires there { session < length N.script.sessions }
     requires commands { length (commands_of N.script session) ≤ 200000 }
@@ -109,11 +100,12 @@ fn run_one<
     ensures ended { HasEnded N.script (N.start no_rows) result session }
     ensures counted { HasCounted N.script (N.start no_rows) (history_of result.seen) session (B.faults bench.old) (B.faults bench.new) }
 {
-    run_session(rt, alloc, lock, pass, script, run, session, bench, gate)
+    run_session(at, pass, session, bench)
 }
 
 // The sessions from one on, each in a thread of its own.
 fn run_rest<
+    'a,
     's,
     N: Naming + Send,
     M: Made,
@@ -122,20 +114,10 @@ fn run_rest<
     R: Threads + Wait + Sync,
     B: Bench<M>,
     G: Gate,
->(
-    rt: &R,
-    alloc: Global,
-    lock: &TurnLock<Vault<'s, N, M, D, K>>,
-    pass: Pass,
-    script: &Script,
-    run: u32,
-    next: u16,
-    benches: &mut [B],
-    gate: &G,
-) -> Pass
-    requires lock { pass.lock ≡ lock.now }
-    requires script { script.now ≡ N.script }
-    requires run { (run ≡ (N.origin no_rows).run) × (run < 2 ^ 24) }
+>(at: &Sessions<'a, 's, N, M, D, K, R, G>, pass: Pass, next: u16, benches: &mut [B]) -> Pass
+    requires lock { pass.lock ≡ at.now.lock.now }
+    requires script { at.now.script.now ≡ N.script }
+    requires run { (at.now.run ≡ (N.origin no_rows).run) × (at.now.run < 2 ^ 24) }
     requires few { length N.script.sessions ≤ 8 }
     requires next { (0 < next) × (next ≤ length N.script.sessions) }
     requires commands { (s : ℕ) → length (commands_of N.script s) ≤ 200000 }
@@ -149,32 +131,31 @@ fn run_rest<
     // What the prologue's bench counted is still enough.
     ensures kept { (before now : ℕ) → HasCounted N.script (N.start no_rows) (history_of pass.seen) 0 before now → HasCounted N.script (N.start no_rows) (history_of result.seen) 0 before now }
 {
-    if next as usize == script.sessions.len() {
+    if next as usize == at.script.sessions.len() {
         return pass;
     }
-    let (rest, mine) = part_next(lock, pass, next, most_turns(script, next));
+    let (rest, mine) = part_next(at.lock, pass, next, most_turns(at.script, next));
     let (head, tail) = benches.split_at_mut(1);
     let bench = &mut head[0];
     let mut left = Some(mine);
     let mut right = Some(rest);
     let behind = next + 1;
-    let other = alloc;
     let (mine, rest) = join_mut(
-        rt,
+        at.rt,
         &mut || -> Option<Pass>
-            requires script { (script.now ≡ N.script) × (run ≡ (N.origin no_rows).run) × (run < 2 ^ 24) × (length N.script.sessions ≤ 8) × (next < length N.script.sessions) × (length (commands_of N.script next) ≤ 200000) }
-            requires mine { IfSome left (λ a. (a.lock ≡ lock.now) × (3 * length (commands_of N.script next) ≤ a.room) × (a.limit ≤ N.room) × (a.names ≡ next ∷ []) × Mine N.script (N.start no_rows) a next (at_stage 1 First) × (answered N.script (N.start no_rows) next a ≡ 0)) }
+            requires script { (at.now.script.now ≡ N.script) × (at.now.run ≡ (N.origin no_rows).run) × (at.now.run < 2 ^ 24) × (length N.script.sessions ≤ 8) × (next < length N.script.sessions) × (length (commands_of N.script next) ≤ 200000) }
+            requires mine { IfSome left (λ a. (a.lock ≡ at.now.lock.now) × (3 * length (commands_of N.script next) ≤ a.room) × (a.limit ≤ N.room) × (a.names ≡ next ∷ []) × Mine N.script (N.start no_rows) a next (at_stage 1 First) × (answered N.script (N.start no_rows) next a ≡ 0)) }
             ensures some { is_some result ≡ is_some left.entry }
             ensures ended { IfSome left.entry (λ a. IfSome result (λ r. (r.lock ≡ a.lock) × (r.names ≡ next ∷ []) × HasEnded N.script (N.start no_rows) r next)) }
             ensures counted { IfSome left.entry (λ a. IfSome result (λ r. HasCounted N.script (N.start no_rows) (history_of r.seen) next (B.faults bench.entry.now) (B.faults bench.exit.now))) }
         {
             let pass = left.take()?;
-            Some(run_one(rt, alloc, lock, pass, script, run, next, bench, gate))
+            Some(run_one(at, pass, next, bench))
         },
         &mut || -> Option<Pass>
             requires own { IsSync R.row }
-            requires script { (script.now ≡ N.script) × (run ≡ (N.origin no_rows).run) × (run < 2 ^ 24) × (length N.script.sessions ≤ 8) × (0 < behind) × (behind ≤ length N.script.sessions) × ((s : ℕ) → length (commands_of N.script s) ≤ 200000) }
-            requires rest { IfSome right (λ b. (b.lock ≡ lock.now) × (turns_of (drop behind N.script.sessions) ≤ b.room) × (b.limit ≤ N.room) × Waits N.script (N.start no_rows) b behind) }
+            requires script { (at.now.script.now ≡ N.script) × (at.now.run ≡ (N.origin no_rows).run) × (at.now.run < 2 ^ 24) × (length N.script.sessions ≤ 8) × (0 < behind) × (behind ≤ length N.script.sessions) × ((s : ℕ) → length (commands_of N.script s) ≤ 200000) }
+            requires rest { IfSome right (λ b. (b.lock ≡ at.now.lock.now) × (turns_of (drop behind N.script.sessions) ≤ b.room) × (b.limit ≤ N.room) × Waits N.script (N.start no_rows) b behind) }
             requires benches { length N.script.sessions ≤ behind + length tail.now }
             ensures some { is_some result ≡ is_some right.entry }
             ensures ended { IfSome right.entry (λ b. IfSome result (λ r. (r.lock ≡ b.lock) × HaveEnded N.script (N.start no_rows) r behind)) }
@@ -182,14 +163,15 @@ fn run_rest<
             ensures kept { IfSome right.entry (λ b. IfSome result (λ r. (before now : ℕ) → HasCounted N.script (N.start no_rows) (history_of b.seen) 0 before now → HasCounted N.script (N.start no_rows) (history_of r.seen) 0 before now)) }
         {
             let pass = right.take()?;
-            Some(run_rest(rt, other, lock, pass, script, run, behind, tail, gate))
+            Some(run_rest(at, pass, behind, tail))
         },
     );
-    join_next(lock, rest.unwrap(), mine.unwrap(), next)
+    join_next(at.lock, rest.unwrap(), mine.unwrap(), next)
 }
 
 /// Runs the prologue, and then the other sessions at once, each in a thread of its own.
 pub fn run_all<
+    'a,
     's,
     N: Naming + Send,
     M: Made,
@@ -199,14 +181,14 @@ pub fn run_all<
     B: Bench<M>,
     G: Gate,
 >(
-    rt: &R,
+    rt: &'a R,
     alloc: Global,
-    lock: &TurnLock<Vault<'s, N, M, D, K>>,
+    lock: &'a TurnLock<Vault<'s, N, M, D, K>>,
     pass: Pass,
-    script: &Script,
+    script: &'a Script,
     run: u32,
     benches: &mut [B],
-    gate: &G,
+    gate: &'a G,
 ) -> Pass
     requires lock { pass.lock ≡ lock.now }
     requires script { script.now ≡ N.script }
@@ -226,7 +208,15 @@ pub fn run_all<
     // Each session's bench counted the faults that the session's entries answer.
     ensures counted { HaveCounted B.faults N.script (N.start no_rows) (history_of result.seen) 0 benches.old benches.new }
 {
+    let at = Sessions {
+        rt,
+        alloc,
+        lock,
+        script,
+        run,
+        gate,
+    };
     let (head, tail) = benches.split_at_mut(1);
-    let pass = run_session(rt, alloc, lock, pass, script, run, 0, &mut head[0], gate);
-    run_rest(rt, alloc, lock, pass, script, run, 1, tail, gate)
+    let pass = run_session(&at, pass, 0, &mut head[0]);
+    run_rest(&at, pass, 1, tail)
 }

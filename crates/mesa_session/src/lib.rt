@@ -13,4 +13,4 @@ mod turns;
 pub use gate::{Gate, OpenGate, Point};
 pub use mesa_core::{Vault, turns_of};
 pub use serving::serve;
-pub use session::run_session;
+pub use session::{Sessions, run_session};

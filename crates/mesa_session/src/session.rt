@@ -5,10 +5,9 @@ ghost use Rattle.mesa_core.specs.mesa_history_spec.Rows.{no_rows};
 ghost use Rattle.mesa_core.specs.Answers.{Answers};
 ghost use Rattle.mesa_core.specs.Passes.{Gains, HasEnded, Mine, Took, at_stage};
 
-use crate::commands::run_command;
 use crate::gate::{Gate, Point};
 use mesa_core::Vault;
-use mesa_disk::{Bench, Made};
+use mesa_disk::{Bench, Disk, Made};
 use mesa_engine::{Naming, Who};
 use mesa_file::Serials;
 use mesa_io::Sink;
@@ -27,10 +26,23 @@ fn commands_of(script: &Script, session: u16) -> &[Command]
     script.sessions.as_slice()[session as usize].as_slice()
 }
 
+/// What the sessions of a script have for their turns, and between them: threads, memory, the lock that the vault is in,
+/// the script, the number of the vault's run, and where they may be held. A session's bench and the ids of its drafts are
+/// handed to each command, which changes them.
+#[derive(Drop)]
+pub struct Sessions<'a, 's, N: Naming + Send, M: Made, D: Disk<M>, K: Sink + Send, R, G> {
+    pub rt: &'a R,
+    pub alloc: Global,
+    pub lock: &'a TurnLock<Vault<'s, N, M, D, K>>,
+    pub script: &'a Script,
+    pub run: u32,
+    pub gate: &'a G,
+}
+
 /// Runs a session's commands, to their end or to a turn that finds that the sink has failed. The pass holds the
-/// session's name and has none of its turns; that of session 0 holds all names. The number is that of the vault's run.
-/// May wait.
+/// session's name and has none of its turns; that of session 0 holds all names. May wait.
 pub fn run_session<
+    'a,
     's,
     N: Naming + Send,
     M: Made,
@@ -39,20 +51,10 @@ pub fn run_session<
     R: Threads + Wait + Sync,
     B: Bench<M>,
     G: Gate,
->(
-    rt: &R,
-    alloc: Global,
-    lock: &TurnLock<Vault<'s, N, M, D, K>>,
-    pass: Pass,
-    script: &Script,
-    run: u32,
-    session: u16,
-    bench: &mut B,
-    gate: &G,
-) -> Pass
-    requires lock { pass.lock ≡ lock.now }
-    requires script { script.now ≡ N.script }
-    requires run { (run ≡ (N.origin no_rows).run) × (run < 2 ^ 24) }
+>(at: &Sessions<'a, 's, N, M, D, K, R, G>, pass: Pass, session: u16, bench: &mut B) -> Pass
+    requires lock { pass.lock ≡ at.now.lock.now }
+    requires script { at.now.script.now ≡ N.script }
+    requires run { (at.now.run ≡ (N.origin no_rows).run) × (at.now.run < 2 ^ 24) }
     requires few { length N.script.sessions ≤ 8 }
     requires there { session < length N.script.sessions }
     requires commands { length (commands_in N.script session) ≤ 200000 }
@@ -69,21 +71,21 @@ pub fn run_session<
     // Of the faults of the session's bench no more were answered than its count rose by.
     ensures answers { Answers N.script (N.start no_rows) session pass result (B.faults bench.old) (B.faults bench.new) 0 }
 {
-    gate.reach(rt, Point::Started, session);
+    at.gate.reach(at.rt, Point::Started, session);
     let mut pass = pass;
-    let mut ids = Serials::new(run, session as u8);
-    let commands = commands_of(script, session);
+    let mut ids = Serials::new(at.run, session as u8);
+    let commands = commands_of(at.script, session);
     'commands: for (i, command) in commands.iter().enumerate() {
         let who = Who {
             session,
             command: i as u32 + 1,
         };
-        let (next, ran) = run_command(rt, alloc, lock, pass, who, command, bench, &mut ids, gate);
+        let (next, ran) = at.run_command(pass, who, command, bench, &mut ids);
         pass = next;
         if !ran {
             return pass;
         }
-        gate.reach(rt, Point::Printed, session);
+        at.gate.reach(at.rt, Point::Printed, session);
     }
     pass
 }

@@ -17,10 +17,10 @@ pub returns-clause-counted : goal.returns-clause-counted
 returns-clause-counted g t c =
     let name : c.unwrap-2.result.names ≡ c.args.next ∷ [] = search rules in
     let ended : HaveEnded g.N.Naming.script (g.N.Naming.start no_rows) c.unwrap.result (c.args.next + 1) = c.join_next.ensures.rest in
-    let one : HasCounted g.N.Naming.script (g.N.Naming.start no_rows) (history_of c.unwrap-2.result.seen) c.args.next (g.B.Bench.faults (get_or c.split_at_mut-head.result.0.now 0 c.index-head-0.result)) (g.B.Bench.faults c.join_mut-mine.new.f.7.now) = search rules in
-    let more : HaveCounted g.B.Bench.faults g.N.Naming.script (g.N.Naming.start no_rows) (history_of c.unwrap.result.seen) (c.args.next + 1) c.split_at_mut-head.result.1.now c.join_mut-mine.new.g.7.now = search rules in
-    let same : c.tail-1.given.0 ≡ c.join_mut-mine.new.g.7.now = search rules in
-    benches_counted g.B.Bench.faults g.N.Naming.script (g.N.Naming.start no_rows) (history_of c.join_next.result.seen) c.args.next _ _ _ c.index-head-0.result c.join_mut-mine.new.f.7.now c.tail-1.given.0 _ c.split_at_mut-head.ensures.value c.split_at_mut-head.ensures.front_len same
+    let one : HasCounted g.N.Naming.script (g.N.Naming.start no_rows) (history_of c.unwrap-2.result.seen) c.args.next (g.B.Bench.faults (get_or c.split_at_mut-head.result.0.now 0 c.index-head-0.result)) (g.B.Bench.faults c.join_mut-mine.new.f.3.now) = search rules in
+    let more : HaveCounted g.B.Bench.faults g.N.Naming.script (g.N.Naming.start no_rows) (history_of c.unwrap.result.seen) (c.args.next + 1) c.split_at_mut-head.result.1.now c.join_mut-mine.new.g.3.now = search rules in
+    let same : c.tail-1.given.0 ≡ c.join_mut-mine.new.g.3.now = search rules in
+    benches_counted g.B.Bench.faults g.N.Naming.script (g.N.Naming.start no_rows) (history_of c.join_next.result.seen) c.args.next _ _ _ c.index-head-0.result c.join_mut-mine.new.f.3.now c.tail-1.given.0 _ c.split_at_mut-head.ensures.value c.split_at_mut-head.ensures.front_len same
     (joined_counted g.N.Naming.script (g.N.Naming.start no_rows) c.unwrap.result c.unwrap-2.result c.join_next.result c.join_next.ensures.joins g.B.Bench.faults c.args.next _ _ _ _ name c.requires.few ended c.join_next.ensures.ended one more)
 
 pub returns-clause-kept : goal.returns-clause-kept

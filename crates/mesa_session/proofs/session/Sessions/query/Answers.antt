@@ -6,7 +6,7 @@ use Rattle.mesa_core.specs.mesa_history_spec.Rows.{no_rows}
 use Rattle.mesa_core.proofs.Answering.{answers_both}
 use Rattle.mesa_core.proofs.Turning.{took_both, took_fewer}
 use Rattle.mesa_core.specs.Pins.{CanBeAnswered, IsOpenQuery, KnownPin, known_pin}
-use Rattle.mesa_session.proofs.commands.query.Goals as goal
+use Rattle.mesa_session.proofs.session.Sessions.query.Goals as goal
 
 pub close_turn-requires-clause-open : goal.close_turn-requires-clause-open
 close_turn-requires-clause-open g c κs within =

@@ -4,7 +4,7 @@ use Rattle.mesa_core.proofs.Answering.{answers_at, answers_owed}
 use Rattle.mesa_core.proofs.Turning.{took_both, took_fewer}
 use Rattle.mesa_core.specs.Drafts.{owed_by_load}
 use Rattle.mesa_session.proofs.Drawing.{drawn_both, go_on, undrawn}
-use Rattle.mesa_session.proofs.commands.load.Goals as goal
+use Rattle.mesa_session.proofs.session.Sessions.load.Goals as goal
 
 pub returns-clause-took : goal.returns-clause-took
 returns-clause-took g c = took_fewer _ _ _ 2 3 (omega arith) (took_both _ _ _ _ 1 1 c.look_turn-pass.ensures.took c.publish_turn.ensures.took)

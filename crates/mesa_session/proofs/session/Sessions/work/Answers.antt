@@ -3,7 +3,7 @@ use Rattle.mesa_core.specs.mesa_history_spec.Rows.{no_rows}
 use Rattle.mesa_core.proofs.Answering.{answers_at, answers_both, answers_owed, answers_within}
 use Rattle.mesa_core.proofs.Turning.{took_both, took_fewer}
 use Rattle.mesa_session.proofs.Drawing.{go_on, undrawn}
-use Rattle.mesa_session.proofs.commands.work.Goals as goal
+use Rattle.mesa_session.proofs.session.Sessions.work.Goals as goal
 
 pub returns-then-is_err-clause-took : goal.returns-then-is_err-clause-took
 returns-then-is_err-clause-took g c = took_fewer _ _ _ 2 3 (omega arith) (took_both _ _ _ _ 1 1 c.grant_turn-pass.ensures.took c.complete_turn.ensures.took)

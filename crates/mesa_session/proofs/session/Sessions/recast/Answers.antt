@@ -3,7 +3,7 @@ use Rattle.mesa_core.specs.mesa_history_spec.Rows.{no_rows}
 use Rattle.mesa_core.proofs.Answering.{answers_at, answers_both, answers_owed, answers_within}
 use Rattle.mesa_core.proofs.Turning.{took_both, took_fewer}
 use Rattle.mesa_session.proofs.Drawing.{drawn_both, go_on, undrawn}
-use Rattle.mesa_session.proofs.commands.recast.Goals as goal
+use Rattle.mesa_session.proofs.session.Sessions.recast.Goals as goal
 
 pub returns-in-Err-clause-took : goal.returns-in-Err-clause-took
 returns-in-Err-clause-took g c = took_fewer _ _ _ 2 3 (omega arith) (took_both _ _ _ _ 1 1 c.grant_recast_turn-pass.ensures.took c.abandon_turn.ensures.took)
