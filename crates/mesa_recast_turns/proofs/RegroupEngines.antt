@@ -37,7 +37,8 @@ use Rattle.mesa_engine.proofs.Turning.{told_engine}
 use Rattle.mesa_work_turns.specs.mesa_file_records.Published.{AllTell}
 use Rattle.mesa_work_turns.specs.mesa_file_records.Recasts.{HasItsRanges, IsRecastIn, meta_of_recast}
 use Rattle.mesa_work_turns.specs.mesa_file_records.declared.swapping.Swapped.{Swapped}
-use Rattle.mesa_work_turns.proofs.mesa_write_turns.Written.{IsWhole, IsWorked, absent_yet}
+use Rattle.mesa_work_turns.specs.mesa_write_turns.Committing.{IsWhole, IsWorked}
+use Rattle.mesa_work_turns.proofs.mesa_write_turns.Written.{absent_yet}
 use Rattle.mesa_recast_turns.proofs.Regroups.{recast_ends, recast_fails, told_of}
 
 module _ {K : Type 0} (held : K → Option (List ℕ)) (faults : K → ℕ) (n : Starts) (turns sinks : ℕ) (m : Memory) (story : Story) (log : Log K) (v : IsEngine held faults n turns sinks m story log)

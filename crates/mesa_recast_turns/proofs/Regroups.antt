@@ -79,7 +79,7 @@ use Rattle.mesa_work_turns.specs.mesa_file_records.Grown.{HasSameColumns}
 use Rattle.mesa_work_turns.specs.mesa_file_records.Recasts.{HasItsRanges, IsRecastIn, meta_of_recast}
 use Rattle.mesa_work_turns.specs.mesa_file_records.declared.swapping.Swapped.{Swapped}
 use Rattle.mesa_work_turns.proofs.Swaps.{all_among, not_among}
-use Rattle.mesa_work_turns.proofs.mesa_write_turns.Written.{IsWhole, IsWorked}
+use Rattle.mesa_work_turns.specs.mesa_write_turns.Committing.{IsWhole, IsWorked}
 
 -- the table of a number as the books have it
 pub table_is : (l : EngineState) (table : ℕ) → table_at (books_of no_rows l).bare.store table ≡ projection_of (meta_at l.catalogue table)

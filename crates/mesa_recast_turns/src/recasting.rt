@@ -39,8 +39,7 @@ use mesa_io::Sink;
 use mesa_lease::TABLES;
 use mesa_model::{Kind, Outcome, RecastWords};
 use mesa_open_files::{CompactError, Recast, Recasted};
-use mesa_store::write_record;
-use mesa_work_turns::{Swapped, give_back_recast};
+use mesa_work_turns::{Drops, Staged, Swapped, commit, give_back_recast};
 use std::alloc::{AllocError, Global};
 
 // Why a table isn't recast. Unless its claim doesn't hold, the lease ends.
@@ -124,20 +123,22 @@ fn regroup<N: Naming, M: Made, D: Disk<M>, K: Sink>(
         made,
         adopted,
     } = recast;
-    let area = engine.metadata.area();
-    let end = engine.metadata.end();
-    match write_record(&mut engine.disk, area, made, end, &framed, &removed) {
-        Ok(end) => {
-            engine.metadata.apply_swap(entry, at, &gone, adopted, end);
-            engine.metadata.end_lease(task.table, task.lease);
-            let turn = who.turn(Kind::Close, Outcome::Stands, engine.disk.clock());
+    let staged = Staged {
+        entry,
+        framed,
+        made,
+        adopted,
+    };
+    let drops = Some(Drops { gone, removed });
+    let committed = commit(&mut engine.disk, &mut engine.metadata, at, staged, drops);
+    engine.metadata.end_lease(task.table, task.lease);
+    let moment = engine.disk.clock();
+    match committed {
+        Ok(()) => {
+            let turn = who.turn(Kind::Close, Outcome::Stands, moment);
             engine.log.tell(turn, at, &reply, b"");
         }
         Err(_) => {
-            drop(entry);
-            engine.metadata.fail(at, adopted);
-            engine.metadata.end_lease(task.table, task.lease);
-            let moment = engine.disk.clock();
             engine
                 .log
                 .fail(who, Kind::Close, moment, Failure::Unwritten);

@@ -44,7 +44,8 @@ use Rattle.mesa_write_turns.specs.mesa_file_records.Finished.{HasRange}
 use Rattle.mesa_write_turns.specs.mesa_file_records.Swapped.{IsSwapped}
 use Rattle.mesa_write_turns.specs.mesa_file_records.declared.swapping.Swapped.{Swapped}
 use Rattle.mesa_open_files.specs.Tasks.{claim_in}
-use Rattle.mesa_write_turns.proofs.Written.{IsWhole, IsWorked, absent_yet}
+use Rattle.mesa_write_turns.specs.Committing.{IsWhole, IsWorked}
+use Rattle.mesa_write_turns.proofs.Written.{absent_yet}
 use Rattle.mesa_work_turns.proofs.Swaps.{swap_ends, swap_fails}
 
 -- a swap is no refusal, and has no lines behind its head line

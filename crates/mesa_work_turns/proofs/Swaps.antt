@@ -69,7 +69,7 @@ use Rattle.mesa_write_turns.specs.mesa_file_records.Finished.{HasRange}
 use Rattle.mesa_write_turns.specs.mesa_file_records.Swapped.{IsSwapped, delta_of, swap_of}
 use Rattle.mesa_write_turns.specs.mesa_file_records.declared.swapping.Swapped.{Swapped}
 use Rattle.mesa_open_files.specs.Tasks.{claim_in}
-use Rattle.mesa_write_turns.proofs.Written.{IsWhole, IsWorked}
+use Rattle.mesa_write_turns.specs.Committing.{IsWhole, IsWorked}
 
 -- a work is that of its range
 work_same : (work : Work) → work_of (is_base work) (first_of work) (last_of work) ≡ work

@@ -32,8 +32,7 @@ use mesa_lease::TABLES;
 use mesa_model::{Kind, Outcome, Refusal, Reply, WorkWords};
 use mesa_open_files::{NewDelta, Task};
 use mesa_span::Work;
-use mesa_store::write_record;
-use mesa_write_turns::Swapped;
+use mesa_write_turns::{Drops, Staged, Swapped, commit};
 use std::alloc::{AllocError, Global};
 
 // Why a range isn't swapped in, before the disk is called.
@@ -130,21 +129,23 @@ fn swap_in<N: Naming, M: Made, D: Disk<M>, K: Sink>(
         made,
         adopted,
     } = swapped;
-    let area = engine.metadata.area();
-    let end = engine.metadata.end();
-    match write_record(&mut engine.disk, area, made, end, &framed, &removed) {
-        Ok(end) => {
-            engine.metadata.apply_swap(entry, at, &gone, adopted, end);
-            engine.metadata.end_lease(task.table, task.lease);
+    let staged = Staged {
+        entry,
+        framed,
+        made,
+        adopted,
+    };
+    let drops = Some(Drops { gone, removed });
+    let committed = commit(&mut engine.disk, &mut engine.metadata, at, staged, drops);
+    engine.metadata.end_lease(task.table, task.lease);
+    let moment = engine.disk.clock();
+    match committed {
+        Ok(()) => {
             let reply = range_of(task.work);
-            let turn = who.turn(Kind::Close, Outcome::Stands, engine.disk.clock());
+            let turn = who.turn(Kind::Close, Outcome::Stands, moment);
             engine.log.tell(turn, at, &reply, b"");
         }
         Err(_) => {
-            drop(entry);
-            engine.metadata.fail(at, adopted);
-            engine.metadata.end_lease(task.table, task.lease);
-            let moment = engine.disk.clock();
             engine
                 .log
                 .fail(who, Kind::Close, moment, Failure::Unwritten);

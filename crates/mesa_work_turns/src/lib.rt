@@ -19,7 +19,9 @@ pub use giving_back::{give_back, give_back_recast};
 pub use granting::{failure_of, grant};
 pub use lease_checking::check;
 pub use mesa_read_turns::{close_query, explain, look, pin, pin_query, release};
-pub use mesa_write_turns::{Swapped, alter, expire, publish, recast, table, tables_become, view};
+pub use mesa_write_turns::{
+    Drops, Staged, Swapped, alter, commit, expire, publish, recast, table, tables_become, view,
+};
 pub use readying::make_room;
 pub use recast_granting::grant_recast;
 pub use renewing::{renew, renew_recast};

@@ -35,7 +35,8 @@ use Rattle.mesa_engine.proofs.Undone.{deciding_unanswered}
 use Rattle.mesa_file_records.specs.Published.{AllTell}
 use Rattle.mesa_write_turns.specs.declared.writing.Change.{Change}
 use Rattle.mesa_write_turns.specs.Writing.{IsToWrite}
-use Rattle.mesa_write_turns.proofs.Written.{IsWhole, IsWorked, absent_yet, write_fails, write_stands}
+use Rattle.mesa_write_turns.specs.Committing.{IsWhole, IsWorked}
+use Rattle.mesa_write_turns.proofs.Written.{absent_yet, write_fails, write_stands}
 
 module _ {K : Type 0} (held : K → Option (List ℕ)) (faults : K → ℕ) (n : Starts) (turns sinks : ℕ) (m : Memory) (story : Story) (log : Log K) (v : IsEngine held faults n turns sinks m story log) where
   -- what an engine that hasn't closed has ready for a record

@@ -47,21 +47,9 @@ use Rattle.mesa_engine.proofs.Writing.{unwritten_vault, written_vault}
 use Rattle.mesa_engine.specs.Failing.{deciding_stage}
 use Rattle.mesa_file_records.specs.Published.{AllTell}
 use Rattle.mesa_write_turns.specs.declared.writing.Change.{Change}
+use Rattle.mesa_write_turns.specs.Committing.{IsWhole, IsWorked}
 use Rattle.mesa_write_turns.specs.Writing.{IsToWrite}
 use Rattle.mesa_write_turns.proofs.Doing.{IsDone, command_done, sound_rows_later}
-
--- What the device work of a turn did that wrote a body, adopted files and removed others.
-pub record IsWorked (story new : Story) (area : Area) (end : ℕ) (body : List ℕ) (made : List (ℕ × Option (List ℕ))) (dropped : List ℕ) : Type 0 where
-  pub images : (bodies : List (List ℕ)) (c : Catalog) (rows : Rows) (r : Record) → IsWritten story area bodies end c rows r body made dropped → Spans (EitherOf (kept_of rows c) (kept_of rows (applied c r))) story new
-  pub only : Steps (MovesOnly made dropped) story.told new.told
-  pub passes : Passes story new
-
--- It was done.
-pub record IsWhole (story new : Story) (area : Area) (end : ℕ) (body : List ℕ) (made : List (ℕ × Option (List ℕ))) (dropped : List ℕ) (later : ℕ) : Type 0 where
-  pub holds : (bodies : List (List ℕ)) (c : Catalog) (rows : Rows) (r : Record) → IsWritten story area bodies end c rows r body made dropped → IsHeld new area (bodies ++ body ∷ []) (end + length body + 5) (applied c r) rows
-  pub gone : (i : Image) → new.told ≡ Some i → AreGone dropped i
-  pub ends : later ≡ end + length body + 5
-  pub long : later < new.len area
 
 -- ---- ids
 

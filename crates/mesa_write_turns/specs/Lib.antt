@@ -9,5 +9,6 @@ pub use Rattle.mesa_file_records.specs.mesa_list as mesa_list
 pub use Rattle.mesa_file_records.specs.mesa_schema as mesa_schema
 pub use Rattle.mesa_engine.specs.mesa_script as mesa_script
 pub mod Writing
+pub mod Committing
 pub mod Ruling
 pub mod Loading

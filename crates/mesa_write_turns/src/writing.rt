@@ -1,5 +1,5 @@
 // A turn that writes.
-ghost use Rattle.std.specs.Prelude.{◌≡◌, ◌<◌, [], true, length, Some, Ok, IsTrue, IfOk, OnErr, OnOk};
+ghost use Rattle.std.specs.Prelude.{◌≡◌, ◌<◌, true, length, Some, Ok, IsTrue, IfOk, OnErr, OnOk};
 ghost use Rattle.mesa_disk.specs.Story.{Steps};
 ghost use Rattle.mesa_file_records.specs.mesa_history_spec.Run.{Finished};
 ghost use Rattle.mesa_engine.specs.mesa_store_spec.Fitting.{fits};
@@ -13,6 +13,7 @@ ghost use Rattle.mesa_engine.specs.mesa_invariant_spec.Turns.{AnswersDisk, Answe
 ghost use Rattle.mesa_engine.specs.mesa_invariant_spec.Invariant.{run_at};
 ghost use Rattle.mesa_write_turns.specs.Writing.{IsToWrite, KeepsFiles};
 
+use crate::committing::{Staged, commit};
 use mesa_disk::{Adoption, Disk, Made};
 use mesa_engine::{Engine, Failure, Metadata, Naming, Who};
 use mesa_io::Sink;
@@ -20,7 +21,6 @@ use mesa_journal::Framed;
 use mesa_model::{Kind, Outcome, Reply};
 use mesa_record::Record;
 use mesa_recover::frame;
-use mesa_store::write_record;
 use std::alloc::{AllocError, Global};
 
 /// What a turn writes: its record, the files that it adopts, how many the run has adopted with them,
@@ -78,19 +78,18 @@ pub fn write<N: Naming, M: Made, D: Disk<M>, K: Sink>(
         adopted,
         tells,
     } = change;
-    let area = engine.metadata.area();
-    let end = engine.metadata.end();
-    match write_record(&mut engine.disk, area, made, end, &framed, &[]) {
-        Ok(end) => {
-            engine.metadata.apply(writes, adopted, end);
+    let staged = Staged {
+        entry: writes,
+        framed,
+        made,
+        adopted,
+    };
+    match commit(&mut engine.disk, &mut engine.metadata, at, staged, None) {
+        Ok(()) => {
             let turn = who.turn(Kind::Decide, Outcome::Stands, engine.disk.clock());
             engine.log.tell(turn, at, &tells, b"");
-            drop(tells);
         }
         Err(_) => {
-            drop(writes);
-            drop(tells);
-            engine.metadata.fail(at, adopted);
             let moment = engine.disk.clock();
             engine
                 .log

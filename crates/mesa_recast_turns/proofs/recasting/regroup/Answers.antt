@@ -1,4 +1,4 @@
-use Rattle.std.proofs.Common.{◌≡◌, inl, ◌+◌, ◌<◌, [], ◌∷◌, ◌++◌, length, true, false, ◌||◌, ◌^◌, not, refl, sym, ◌∙◌, ap, subst, arith, Ok}
+use Rattle.std.proofs.Common.{◌≡◌, ◌+◌, ◌<◌, [], ◌∷◌, ◌++◌, length, true, false, ◌||◌, ◌^◌, not, refl, sym, ◌∙◌, ap, subst, arith, Ok}
 use Rattle.mesa_io.specs.Causes.{Rose}
 use Rattle.mesa_disk.specs.Files.{files_of}
 use Rattle.mesa_work_turns.specs.mesa_history_spec.Machine.{claim_checked, still_checked}
@@ -22,7 +22,7 @@ use Rattle.mesa_work_turns.specs.mesa_file_records.Recasts.{HasItsRanges, IsReca
 use Rattle.mesa_work_turns.proofs.mesa_file_records.Becoming.{same_columns}
 use Rattle.mesa_work_turns.specs.mesa_invariant_spec.Causes.{Replies, Unwritten, told_at}
 use Rattle.mesa_work_turns.specs.mesa_invariant_spec.Turns.{AnswersDisk, AnswersDraft, Shown, SomeRose, Takes, entry, faults_of}
-use Rattle.mesa_work_turns.specs.mesa_invariant_spec.Invariant.{Counts, run_at}
+use Rattle.mesa_work_turns.specs.mesa_invariant_spec.Invariant.{run_at}
 use Rattle.mesa_work_turns.proofs.mesa_invariant_spec.Alike.{due_alike}
 use Rattle.mesa_work_turns.proofs.mesa_invariant_spec.Clock.{closing}
 use Rattle.mesa_work_turns.proofs.mesa_invariant_spec.Faulting.{disk_counted, disk_where}
@@ -33,13 +33,13 @@ use Rattle.mesa_engine.specs.Turned.{leased_state}
 use Rattle.mesa_engine.specs.Vault.{Starts, outset_of, written_by}
 use Rattle.mesa_engine.proofs.BeforeTurns.{vault_at_seen}
 use Rattle.mesa_engine.specs.Printing.{PrintsBlock}
-use Rattle.mesa_engine.specs.Memory.{Memory}
+use Rattle.mesa_engine.specs.Memory.{HasRoomFor, Memory}
 use Rattle.mesa_engine.specs.Engine.{IsEngine, Standing, starts_of}
 use Rattle.mesa_engine.proofs.Drafting.{answers_none}
 use Rattle.mesa_open_files.specs.Recasts.{claim_of_recast, recast_in, recast_table}
 use Rattle.mesa_engine.specs.mesa_commit.Holding.{kept}
 use Rattle.mesa_work_turns.proofs.mesa_write_turns.Loads.{all_tell}
-use Rattle.mesa_work_turns.proofs.mesa_write_turns.Written.{IsWhole, IsWorked}
+use Rattle.mesa_work_turns.specs.mesa_write_turns.Committing.{IsWhole, IsWorked}
 use Rattle.mesa_engine.specs.Written.{written_at}
 use Rattle.mesa_work_turns.specs.Swept.{HasStood, IsSwept}
 use Rattle.mesa_work_turns.proofs.Sweeping.{stood_as, swept}
@@ -146,10 +146,40 @@ returns-in-Err-clause-draft g c =
     let N = g.N.Naming in
     subst (λ (x : Standing). AnswersDraft N.script (N.start no_rows) x.shown c.refuse.new.engine.shown c.args.who.session ⊥) c.engine.view_is c.refuse.ensures.draft
 
--- ---- the device work
+-- ---- what is asked of the commit
 
-pub write_record-requires-clause-new : goal.write_record-requires-clause-new
-write_record-requires-clause-new g c κs within =
+pub commit-committed-requires-clause-reserved : goal.commit-committed-requires-clause-reserved
+commit-committed-requires-clause-reserved g c κs within = subst (λ (m : Memory). HasRoomFor c.in-Ok.ready.recast.entry (length c.in-Ok.ready.gone.items) m.reserved) (sym c.in-Ok.ensures.reserved) (refl, omega arith)
+
+pub commit-committed-requires-clause-few : goal.commit-committed-requires-clause-few
+commit-committed-requires-clause-few g c κs within =
+    let N = g.N.Naming in
+    let n : Starts = starts_of N.script N.start N.sound N.origin N.since N.counted N.at_start in
+    let i = c.engine.inside in
+    let t = c.args.task.now in
+    let l = i.metadata.state in
+    let h = i.log.history.items in
+    let story = g.D.Disk.story i.disk in
+    let bytes = g.M.Made.bytes in
+    let read = g.D.Reader.FileReader.bytes in
+    let s = c.in-Ok.ready.recast in
+    let holds : claim_checked (books_of no_rows l).bare (books_of no_rows l).machine (length h) (claim_of_recast t) ≡ Ok tt =
+    subst (λ (x : Standing). claim_checked (books_of no_rows x.state).bare (books_of no_rows x.state).machine (length x.shown.history) (claim_of_recast t) ≡ Ok tt) (sym c.engine.view_is) c.requires.holds in
+    let is : IsRecastIn bytes read l t s = c.in-Ok.ensures.recast in
+    let v = c.engine.invariant.vault no_rows false (λ is. absurd cc) in
+    let most = v.counts.adopted in
+    let room = c.requires.room in
+    let same : length h ≡ length c.args.engine.now.shown.history = ap (λ (x : Standing). length x.shown.history) c.engine.view_is in
+    let turns = c.engine.invariant.few in
+    let more = is.adopts.few in
+    let few : s.adopted < 2 ^ 40 = omega (arith, most, room, same, turns, more) in
+    few
+
+pub commit-committed-requires-clause-distinct : goal.commit-committed-requires-clause-distinct
+commit-committed-requires-clause-distinct g c κs within = c.in-Ok.ensures.recast.distinct
+
+pub commit-committed-requires-clause-new : goal.commit-committed-requires-clause-new
+commit-committed-requires-clause-new g c κs within =
     let N = g.N.Naming in
     let n : Starts = starts_of N.script N.start N.sound N.origin N.since N.counted N.at_start in
     let i = c.engine.inside in
@@ -172,8 +202,8 @@ write_record-requires-clause-new g c κs within =
     let few : s.adopted < 2 ^ 40 = omega (arith, most, room, same, turns, more) in
     λ image told. absent_still g.K.Sink.held g.K.Sink.faults n N.room N.sink_faults i.metadata story i.log c.engine.invariant bytes read t s is holds few image told
 
-pub write_record-requires-clause-room : goal.write_record-requires-clause-room
-write_record-requires-clause-room g c κs within =
+pub commit-committed-requires-clause-room : goal.commit-committed-requires-clause-room
+commit-committed-requires-clause-room g c κs within =
     let N = g.N.Naming in
     let n : Starts = starts_of N.script N.start N.sound N.origin N.since N.counted N.at_start in
     let i = c.engine.inside in
@@ -187,84 +217,33 @@ write_record-requires-clause-room g c κs within =
     let holds : claim_checked (books_of no_rows l).bare (books_of no_rows l).machine (length h) (claim_of_recast t) ≡ Ok tt =
     subst (λ (x : Standing). claim_checked (books_of no_rows x.state).bare (books_of no_rows x.state).machine (length x.shown.history) (claim_of_recast t) ≡ Ok tt) (sym c.engine.view_is) c.requires.holds in
     let is : IsRecastIn bytes read l t s = c.in-Ok.ensures.recast in
-    let end_is : c.end-end.result ≡ l.end = c.end-end.ensures ∙ ap (λ (m : Memory). m.state.end) c.in-Ok.ensures.reserved in
-    let area_is : c.area-area.result ≡ l.area = c.area-area.ensures ∙ ap (λ (m : Memory). m.state.area) c.in-Ok.ensures.reserved in
     let ready = ready_still g.K.Sink.held g.K.Sink.faults n N.room N.sink_faults i.metadata story i.log c.engine.invariant bytes read t s is holds in
-    subst (λ a. c.end-end.result < story.len a) (sym area_is) (subst (λ e. e < story.len l.area) (sym end_is) ready.long)
+    subst (λ (m : Memory). m.state.end < story.len m.state.area) (sym c.in-Ok.ensures.reserved) ready.long
 
-pub apply_swap-requires-clause-few : goal.apply_swap-requires-clause-few
-apply_swap-requires-clause-few g c =
-    let N = g.N.Naming in
-    let n : Starts = starts_of N.script N.start N.sound N.origin N.since N.counted N.at_start in
-    let i = c.engine.inside in
-    let t = c.args.task.now in
-    let l = i.metadata.state in
-    let h = i.log.history.items in
-    let story = g.D.Disk.story i.disk in
-    let bytes = g.M.Made.bytes in
-    let read = g.D.Reader.FileReader.bytes in
-    let s = c.in-Ok.ready.recast in
-    let holds : claim_checked (books_of no_rows l).bare (books_of no_rows l).machine (length h) (claim_of_recast t) ≡ Ok tt =
-    subst (λ (x : Standing). claim_checked (books_of no_rows x.state).bare (books_of no_rows x.state).machine (length x.shown.history) (claim_of_recast t) ≡ Ok tt) (sym c.engine.view_is) c.requires.holds in
-    let is : IsRecastIn bytes read l t s = c.in-Ok.ensures.recast in
-    let v = c.engine.invariant.vault no_rows false (λ is. absurd cc) in
-    let most = v.counts.adopted in
-    let room = c.requires.room in
-    let same : length h ≡ length c.args.engine.now.shown.history = ap (λ (x : Standing). length x.shown.history) c.engine.view_is in
-    let turns = c.engine.invariant.few in
-    let more = is.adopts.few in
-    let few : s.adopted < 2 ^ 40 = omega (arith, most, room, same, turns, more) in
-    few
-
-pub fail-requires : goal.fail-requires
-fail-requires g c =
-    let N = g.N.Naming in
-    let n : Starts = starts_of N.script N.start N.sound N.origin N.since N.counted N.at_start in
-    let i = c.engine.inside in
-    let t = c.args.task.now in
-    let l = i.metadata.state in
-    let h = i.log.history.items in
-    let story = g.D.Disk.story i.disk in
-    let bytes = g.M.Made.bytes in
-    let read = g.D.Reader.FileReader.bytes in
-    let s = c.in-Ok.ready.recast in
-    let holds : claim_checked (books_of no_rows l).bare (books_of no_rows l).machine (length h) (claim_of_recast t) ≡ Ok tt =
-    subst (λ (x : Standing). claim_checked (books_of no_rows x.state).bare (books_of no_rows x.state).machine (length x.shown.history) (claim_of_recast t) ≡ Ok tt) (sym c.engine.view_is) c.requires.holds in
-    let is : IsRecastIn bytes read l t s = c.in-Ok.ensures.recast in
-    let v = c.engine.invariant.vault no_rows false (λ is. absurd cc) in
-    let most = v.counts.adopted in
-    let room = c.requires.room in
-    let same : length h ≡ length c.args.engine.now.shown.history = ap (λ (x : Standing). length x.shown.history) c.engine.view_is in
-    let turns = c.engine.invariant.few in
-    let more = is.adopts.few in
-    let few : s.adopted < 2 ^ 40 = omega (arith, most, room, same, turns, more) in
-    few
-
--- ---- its device work is done
+-- ---- it is written
 
 -- the state behind it, its lease not ended yet
-applied_done : (g : _) (c : goal.After-drop-gone g)
-    → c.apply_swap.new.self.state ≡ recorded_state c.engine.inside.metadata.state (applied c.engine.inside.metadata.state.catalogue c.in-Ok.ready.recast.entry) (generation_of (applied c.engine.inside.metadata.state.catalogue c.in-Ok.ready.recast.entry))
-    (left_by c.engine.inside.metadata.state (length c.engine.inside.log.history.items) (dropped_ids c.engine.inside.metadata.state.catalogue c.in-Ok.ready.recast.entry)) c.engine.inside.metadata.state.leases c.in-Ok.ready.recast.adopted c.in-Ok-write_record.end
+applied_done : (g : _) (c : goal.After-drop-reply g)
+    → c.commit-committed.new.metadata.state ≡ recorded_state c.engine.inside.metadata.state (applied c.engine.inside.metadata.state.catalogue c.in-Ok.ready.recast.entry) (generation_of (applied c.engine.inside.metadata.state.catalogue c.in-Ok.ready.recast.entry))
+    (left_by c.engine.inside.metadata.state (length c.engine.inside.log.history.items) (dropped_ids c.engine.inside.metadata.state.catalogue c.in-Ok.ready.recast.entry)) c.engine.inside.metadata.state.leases c.in-Ok.ready.recast.adopted c.commit-committed.new.metadata.state.end
 applied_done g c =
     let s = c.in-Ok.ready.recast in
     let place = c.position-at.ensures in
     let reserved = c.in-Ok.ensures.reserved in
-    let end = c.in-Ok-write_record.end in
-    let gone_is : c.deref-in-Ok-write_record.result.now ≡ dropped_ids c.engine.inside.metadata.state.catalogue s.entry = c.deref-in-Ok-write_record.ensures.value ∙ c.in-Ok.ensures.gone in
-    ap (λ (m : Memory). m.state) c.apply_swap.ensures.applied
-    ∙ (λ j. recorded_state (reserved j).state (applied (reserved j).state.catalogue s.entry) (generation_of (applied (reserved j).state.catalogue s.entry)) (left_by (reserved j).state (place j) (gone_is j)) (reserved j).state.leases s.adopted end)
+    let end = c.commit-committed.new.metadata.state.end in
+    ap (λ (m : Memory). m.state) c.in-Ok-committed.ensures.applied
+    ∙ (λ j. recorded_state (reserved j).state (applied (reserved j).state.catalogue s.entry) (generation_of (applied (reserved j).state.catalogue s.entry)) (left_by (reserved j).state (place j) (c.in-Ok.ensures.gone j)) (reserved j).state.leases s.adopted end)
 
 -- the state behind it
-state_done : (g : _) (c : goal.After-drop-gone g)
+state_done : (g : _) (c : goal.After-drop-reply g)
     → c.end_lease.new.self.state ≡ recorded_state c.engine.inside.metadata.state (applied c.engine.inside.metadata.state.catalogue c.in-Ok.ready.recast.entry) (generation_of (applied c.engine.inside.metadata.state.catalogue c.in-Ok.ready.recast.entry))
-    (left_by c.engine.inside.metadata.state (length c.engine.inside.log.history.items) (dropped_ids c.engine.inside.metadata.state.catalogue c.in-Ok.ready.recast.entry)) (ended c.args.task.now.table c.args.task.now.lease c.engine.inside.metadata.state.leases) c.in-Ok.ready.recast.adopted c.in-Ok-write_record.end
+    (left_by c.engine.inside.metadata.state (length c.engine.inside.log.history.items) (dropped_ids c.engine.inside.metadata.state.catalogue c.in-Ok.ready.recast.entry)) (ended c.args.task.now.table c.args.task.now.lease c.engine.inside.metadata.state.leases) c.in-Ok.ready.recast.adopted c.commit-committed.new.metadata.state.end
 state_done g c =
     let t = c.args.task.now in
     ap (λ (m : Memory). m.state) c.end_lease.ensures ∙ ap (λ (k : EngineState). leased_state k (ended t.table t.lease k.leases)) (applied_done g c)
 
-kept_done : (g : _) (c : goal.After-drop-gone g)
-    → IsEngine g.K.Sink.held g.K.Sink.faults (starts_of g.N.Naming.script g.N.Naming.start g.N.Naming.sound g.N.Naming.origin g.N.Naming.since g.N.Naming.counted g.N.Naming.at_start) g.N.Naming.room g.N.Naming.sink_faults c.end_lease.new.self (g.D.Disk.story c.write_record.new.disk) c.tell.new.self
+kept_done : (g : _) (c : goal.After-drop-reply g)
+    → IsEngine g.K.Sink.held g.K.Sink.faults (starts_of g.N.Naming.script g.N.Naming.start g.N.Naming.sound g.N.Naming.origin g.N.Naming.since g.N.Naming.counted g.N.Naming.at_start) g.N.Naming.room g.N.Naming.sink_faults c.end_lease.new.self (g.D.Disk.story c.commit-committed.new.disk) c.tell.new.self
 kept_done g c =
     let N = g.N.Naming in
     let n : Starts = starts_of N.script N.start N.sound N.origin N.since N.counted N.at_start in
@@ -290,63 +269,42 @@ kept_done g c =
     λ w sound. subst (λ (x : Standing). HasItsRanges read t (written_at N.script (N.start w) (N.origin w) x.shown.history t.table)) (sym c.engine.view_is)
     (c.requires.ranges w sound (subst (λ (x : Standing). epoch_of (meta_of_recast x.state t).lineage ≡ t.epoch) c.engine.view_is (epoch_still (meta_of_recast l t).lineage t.epoch (recast_in t) still))) in
     let tell = λ (w : Rows) (sound : n.sound w). all_tell bytes (c.requires.told w sound) s.made.items in
-    let new = g.D.Disk.story c.write_record.new.disk in
+    let new = g.D.Disk.story c.commit-committed.new.disk in
     let body = c.in-Ok.ready.framed in
+    let made = files_of bytes s.made.items in
     let gone = dropped_ids l.catalogue s.entry in
     let place = c.position-at.ensures in
     let reserved = c.in-Ok.ensures.reserved in
-    let does = c.write_record.ensures in
+    let after = c.end_lease.new.self in
     let ran : not i.log.printer.broken ≡ true = ap (λ (x : Standing). x.shown.running) c.engine.view_is ∙ c.requires.runs in
-    let end_is : c.end-end.result ≡ l.end = c.end-end.ensures ∙ ap (λ (m : Memory). m.state.end) reserved in
-    let area_is : c.area-area.result ≡ l.area = c.area-area.ensures ∙ ap (λ (m : Memory). m.state.area) reserved in
-    let removed_is : c.deref.result.now ≡ removed_by l (length h) gone = c.deref.ensures.value ∙ c.in-Ok.ensures.removes ∙ ap (λ p. removed_by l p gone) place in
-    let laws = g.met.D.Disk g.world.𝓛 g.world.𝓜 g.world.𝓡 ((λ s x. x), (λ x. x), (λ x. x), λ x. x) in
-    let worked : IsWorked story new l.area l.end body (files_of bytes s.made.items) (removed_by l (length h) gone) =
-    subst (λ a. IsWorked story new a l.end body (files_of bytes s.made.items) (removed_by l (length h) gone)) area_is
-    (subst (λ e. IsWorked story new c.area-area.result e body (files_of bytes s.made.items) (removed_by l (length h) gone)) end_is
-    (subst (λ d. IsWorked story new c.area-area.result c.end-end.result body (files_of bytes s.made.items) d) removed_is
-    (record {
-      images = does.images;
-      only = does.only;
-      passes = record {
-        rose = does.risen;
-        later = does.clock;
-        laws = record {
-          only_old = λ x low had. laws.only_now i.disk x low had;
-          only_new = λ x low had. laws.only_now c.write_record.new.disk x low had;
-          earlier = λ a t x le had. laws.earlier c.write_record.new.disk a t x le had;
-        };
-      };
-    }))) in
+    let removed_is : c.in-Ok.ready.removed.items ≡ removed_by l (length h) gone = c.in-Ok.ensures.removes ∙ ap (λ p. removed_by l p gone) place in
+    let worked : IsWorked story new l.area l.end body made (removed_by l (length h) gone) =
+    subst (λ d. IsWorked story new l.area l.end body made d) removed_is (subst (λ (m : Memory). IsWorked story new m.state.area m.state.end body made c.in-Ok.ready.removed.items) reserved c.commit-committed.ensures.worked) in
     let typed = (record_found body s.entry c.in-Ok.ensures.bytes c.in-Ok.ensures.reads).0.typed in
-    let calls = does.read_cause in
     let due_for = λ (w : Rows). due_alike N.script (N.start no_rows) (N.start w) h session number (command.Recast words) (Renewed (claim_of_recast t)) (N.alike w) refl due in
-    let end = c.in-Ok-write_record.end in
+    let done = c.in-Ok-committed.ensures in
+    let end = c.commit-committed.new.metadata.state.end in
     let later = c.tell.new.self in
-    let short : IsShort (entry session number kind.Close outcome.Stands c.clock.result) = subst IsShort c.turn-turn.ensures.same c.turn-turn.ensures.short in
-    let done = c.in-Ok-write_record.ensures in
-    let whole : IsWhole story new l.area l.end body (files_of bytes s.made.items) (removed_by l (length h) gone) end =
-    subst (λ a. IsWhole story new a l.end body (files_of bytes s.made.items) (removed_by l (length h) gone) end) area_is
-    (subst (λ e. IsWhole story new c.area-area.result e body (files_of bytes s.made.items) (removed_by l (length h) gone) end) end_is
-    (subst (λ d. IsWhole story new c.area-area.result c.end-end.result body (files_of bytes s.made.items) d end) removed_is (record { holds = done.done; gone = done.gone; ends = done.end; long = done.longer }))) in
-    let counts : Counts story new false = record { faults = does.cause.later; reads = omega (arith, calls); rose = λ low is. absurd cc } in
+    let short : IsShort (entry session number kind.Close outcome.Stands c.clock-moment.result) = subst IsShort c.turn-turn.ensures.same c.turn-turn.ensures.short in
+    let whole : IsWhole story new l.area l.end body made (removed_by l (length h) gone) end =
+    subst (λ d. IsWhole story new l.area l.end body made d end) removed_is (subst (λ (m : Memory). IsWhole story new m.state.area m.state.end body made c.in-Ok.ready.removed.items end) reserved done.whole) in
     let applied_is = applied_done g c in
     let state_is = state_done g c in
     let rises : generation_of (applied l.catalogue s.entry) ≡ l.generation + turns_generation s.entry =
-    sym (ap (λ (k : EngineState). k.generation) applied_is) ∙ c.apply_swap.ensures.generation ∙ ap (λ (m : Memory). m.state.generation + turns_generation s.entry) reserved in
-    let leased : c.end_lease.new.self.leased ≡ i.metadata.leased = ap (λ (m : Memory). m.leased) c.end_lease.ensures ∙ ap (λ (m : Memory). m.leased) c.apply_swap.ensures.applied ∙ ap (λ (m : Memory). m.leased) reserved in
+    sym (ap (λ (k : EngineState). k.generation) applied_is) ∙ done.generation ∙ ap (λ (m : Memory). m.state.generation + turns_generation s.entry) reserved in
+    let leased : after.leased ≡ i.metadata.leased = ap (λ (m : Memory). m.leased) c.end_lease.ensures ∙ ap (λ (m : Memory). m.leased) done.applied ∙ ap (λ (m : Memory). m.leased) reserved in
     let grew = c.tell.ensures.items ∙ ap (λ x. h ++ x ∷ []) c.turn-turn.ensures.same in
     let told = c.tell.ensures.told no_lines (ap (body_of no_lines) (sym c.in-Ok.ensures.reply)) in
-    let prints = subst (λ p. PrintsBlock g.K.Sink.held g.K.Sink.faults i.log.printer later.printer (entry session number kind.Close outcome.Stands c.clock.result) (told_at p (told_of l t))) place
+    let prints = subst (λ p. PrintsBlock g.K.Sink.held g.K.Sink.faults i.log.printer later.printer (entry session number kind.Close outcome.Stands c.clock-moment.result) (told_at p (told_of l t))) place
     (subst (λ x. PrintsBlock g.K.Sink.held g.K.Sink.faults i.log.printer later.printer x (told_at c.position-at.result (told_of l t))) c.turn-turn.ensures.same
     (subst (λ x. PrintsBlock g.K.Sink.held g.K.Sink.faults i.log.printer later.printer c.turn-turn.result (told_at c.position-at.result x)) c.in-Ok.ensures.reply told)) in
     recast_engine g.K.Sink.held g.K.Sink.faults n N.room N.sink_faults i.metadata story i.log c.engine.invariant bytes read t s is holds session number short.session short.command ran typed words due_for still has tell body c.in-Ok.ensures.bytes c.in-Ok.ensures.reads new worked
-    c.clock.result c.clock.ensures c.end_lease.new.self later end whole counts state_is rises leased grew c.tell.ensures.room prints (c.tell.ensures.refused ∙ ap (λ x. i.log.refused || is_refusal x) c.in-Ok.ensures.reply)
+    c.clock-moment.result c.clock-moment.ensures after later end whole done.quiet state_is rises leased grew c.tell.ensures.room prints (c.tell.ensures.refused ∙ ap (λ x. i.log.refused || is_refusal x) c.in-Ok.ensures.reply)
 
-pub invariant_of-engine-in-Ok-write_record : goal.invariant_of-engine-in-Ok-write_record
-invariant_of-engine-in-Ok-write_record g c = kept_done g c
+pub invariant_of-engine-in-Ok-committed : goal.invariant_of-engine-in-Ok-committed
+invariant_of-engine-in-Ok-committed g c = kept_done g c
 
-swept_done : (g : _) (c : goal.After-drop-gone g) → IsSwept (g.D.Disk.story c.write_record.new.disk).told c.end_lease.new.self.state c.tell.new.self.history.items
+swept_done : (g : _) (c : goal.After-drop-reply g) → IsSwept (g.D.Disk.story c.commit-committed.new.disk).told c.end_lease.new.self.state c.tell.new.self.history.items
 swept_done g c =
     let N = g.N.Naming in
     let n : Starts = starts_of N.script N.start N.sound N.origin N.since N.counted N.at_start in
@@ -355,13 +313,13 @@ swept_done g c =
     let later = c.tell.new.self in
     let holds : claim_checked (books_of no_rows l).bare (books_of no_rows l).machine (length h) (claim_of_recast c.args.task.now) ≡ Ok tt =
     subst (λ (x : Standing). claim_checked (books_of no_rows x.state).bare (books_of no_rows x.state).machine (length x.shown.history) (claim_of_recast c.args.task.now) ≡ Ok tt) (sym c.engine.view_is) c.requires.holds in
-    swept (outset_of n no_rows) (n.origin no_rows) false c.end_lease.new.self.state (g.D.Disk.story c.write_record.new.disk) (g.K.Sink.held later.printer.sink) later.history.items (not later.printer.broken) later.refused ((kept_done g c).vault no_rows false (λ is. absurd cc))
+    swept (outset_of n no_rows) (n.origin no_rows) false c.end_lease.new.self.state (g.D.Disk.story c.commit-committed.new.disk) (g.K.Sink.held later.printer.sink) later.history.items (not later.printer.broken) later.refused ((kept_done g c).vault no_rows false (λ is. absurd cc))
     (ap (λ (k : EngineState). k.closed) (state_done g c) ∙ checked_open (books_of no_rows l).bare (books_of no_rows l).machine (length h) (claim_of_recast c.args.task.now) holds)
     (waiting l (length h) (dropped_ids l.catalogue c.in-Ok.ready.recast.entry))
     (subst (λ (k : EngineState). k.trash ≡ kept (holds_in k) (waiting l (length h) (dropped_ids l.catalogue c.in-Ok.ready.recast.entry))) (sym (state_done g c)) refl)
 
-pub returns-in-Ok-write_record : goal.returns-in-Ok-write_record
-returns-in-Ok-write_record g c =
+pub returns-in-Ok-committed : goal.returns-in-Ok-committed
+returns-in-Ok-committed g c =
     let N = g.N.Naming in
     let n : Starts = starts_of N.script N.start N.sound N.origin N.since N.counted N.at_start in
     let i = c.engine.inside in
@@ -370,7 +328,7 @@ returns-in-Ok-write_record g c =
     let session = c.args.who.session in
     let number = c.args.who.command in
     let words = c.requires.due.0 in
-    let new = g.D.Disk.story c.write_record.new.disk in
+    let new = g.D.Disk.story c.commit-committed.new.disk in
     let later = c.tell.new.self in
     let due : IsDue N.script (run_at N.script (N.start no_rows) h) session number (command.Recast words) (Renewed (claim_of_recast t)) =
     subst (λ (x : Standing). IsDue N.script (run_at N.script (N.start no_rows) x.shown.history) session number (command.Recast words) (Renewed (claim_of_recast t))) (sym c.engine.view_is) c.requires.due.1 in
@@ -380,24 +338,19 @@ returns-in-Ok-write_record g c =
     record {
       turn = subst (λ (x : Standing). Takes N.script (N.start no_rows) x.shown seen session number kind.Close Finished) c.engine.view_is
           (closed_takes n no_rows (record { history = h; running = not i.log.printer.broken; clock = (g.D.Disk.story i.disk).moment }) seen session number words (claim_of_recast t) due (Replies (told_of i.metadata.state t))
-          (grew ∙ ap (λ x. h ++ entry session number kind.Close outcome.Stands x ∷ []) c.clock.ensures) ran
+          (grew ∙ ap (λ x. h ++ entry session number kind.Close outcome.Stands x ∷ []) c.clock-moment.ensures) ran
           (vault_at_seen n c.end_lease.new.self.state new (g.K.Sink.held later.printer.sink) later.history.items (not later.printer.broken) later.refused new.moment (kept_done g c).vault));
       draft = subst (λ (x : Standing). AnswersDraft N.script (N.start no_rows) x.shown seen session ⊥) c.engine.view_is
-          (answers_none N.script (N.start no_rows) (record { history = h; running = not i.log.printer.broken; clock = (g.D.Disk.story i.disk).moment }) seen session (entry session number kind.Close outcome.Stands c.clock.result) grew refl);
-      disk =
-          let does = c.write_record.ensures in
-          let calls = does.read_cause in
-          let counts : Counts (g.D.Disk.story i.disk) new false = record { faults = does.cause.later; reads = omega (arith, calls); rose = λ low is. absurd cc } in
-          subst (λ (x : Standing). AnswersDisk N.script (N.start no_rows) x.shown seen (SomeRose x.faults (faults_of new))) c.engine.view_is
-          (disk_counted N.script (N.start no_rows) (record { history = h; running = not i.log.printer.broken; clock = (g.D.Disk.story i.disk).moment }) seen (entry session number kind.Close outcome.Stands c.clock.result) grew (g.D.Disk.story i.disk) new refl counts);
+          (answers_none N.script (N.start no_rows) (record { history = h; running = not i.log.printer.broken; clock = (g.D.Disk.story i.disk).moment }) seen session (entry session number kind.Close outcome.Stands c.clock-moment.result) grew refl);
+      disk = subst (λ (x : Standing). AnswersDisk N.script (N.start no_rows) x.shown seen (SomeRose x.faults (faults_of new))) c.engine.view_is
+          (disk_counted N.script (N.start no_rows) (record { history = h; running = not i.log.printer.broken; clock = (g.D.Disk.story i.disk).moment }) seen (entry session number kind.Close outcome.Stands c.clock-moment.result) grew (g.D.Disk.story i.disk) new refl c.in-Ok-committed.ensures.quiet);
       swept = λ stood. swept_done g c;
     }
 
 -- ---- it has failed
 
-kept_failed : (g : _) (c : goal.After-fail-in-Err-write_record g)
-    → IsEngine g.K.Sink.held g.K.Sink.faults (starts_of g.N.Naming.script g.N.Naming.start g.N.Naming.sound g.N.Naming.origin g.N.Naming.since g.N.Naming.counted g.N.Naming.at_start) g.N.Naming.room g.N.Naming.sink_faults c.end_lease-in-Err-write_record.new.self (g.D.Disk.story c.write_record.new.disk) c.fail-in-Err-write_record.new.self
-kept_failed g c =
+pub invariant_of-engine-in-Err-committed : goal.invariant_of-engine-in-Err-committed
+invariant_of-engine-in-Err-committed g c =
     let N = g.N.Naming in
     let n : Starts = starts_of N.script N.start N.sound N.origin N.since N.counted N.at_start in
     let i = c.engine.inside in
@@ -422,50 +375,27 @@ kept_failed g c =
     λ w sound. subst (λ (x : Standing). HasItsRanges read t (written_at N.script (N.start w) (N.origin w) x.shown.history t.table)) (sym c.engine.view_is)
     (c.requires.ranges w sound (subst (λ (x : Standing). epoch_of (meta_of_recast x.state t).lineage ≡ t.epoch) c.engine.view_is (epoch_still (meta_of_recast l t).lineage t.epoch (recast_in t) still))) in
     let tell = λ (w : Rows) (sound : n.sound w). all_tell bytes (c.requires.told w sound) s.made.items in
-    let new = g.D.Disk.story c.write_record.new.disk in
+    let new = g.D.Disk.story c.commit-committed.new.disk in
     let body = c.in-Ok.ready.framed in
+    let made = files_of bytes s.made.items in
     let gone = dropped_ids l.catalogue s.entry in
     let place = c.position-at.ensures in
     let reserved = c.in-Ok.ensures.reserved in
-    let does = c.write_record.ensures in
+    let after = c.end_lease.new.self in
     let ran : not i.log.printer.broken ≡ true = ap (λ (x : Standing). x.shown.running) c.engine.view_is ∙ c.requires.runs in
-    let end_is : c.end-end.result ≡ l.end = c.end-end.ensures ∙ ap (λ (m : Memory). m.state.end) reserved in
-    let area_is : c.area-area.result ≡ l.area = c.area-area.ensures ∙ ap (λ (m : Memory). m.state.area) reserved in
-    let removed_is : c.deref.result.now ≡ removed_by l (length h) gone = c.deref.ensures.value ∙ c.in-Ok.ensures.removes ∙ ap (λ p. removed_by l p gone) place in
-    let laws = g.met.D.Disk g.world.𝓛 g.world.𝓜 g.world.𝓡 ((λ s x. x), (λ x. x), (λ x. x), λ x. x) in
-    let worked : IsWorked story new l.area l.end body (files_of bytes s.made.items) (removed_by l (length h) gone) =
-    subst (λ a. IsWorked story new a l.end body (files_of bytes s.made.items) (removed_by l (length h) gone)) area_is
-    (subst (λ e. IsWorked story new c.area-area.result e body (files_of bytes s.made.items) (removed_by l (length h) gone)) end_is
-    (subst (λ d. IsWorked story new c.area-area.result c.end-end.result body (files_of bytes s.made.items) d) removed_is
-    (record {
-      images = does.images;
-      only = does.only;
-      passes = record {
-        rose = does.risen;
-        later = does.clock;
-        laws = record {
-          only_old = λ x low had. laws.only_now i.disk x low had;
-          only_new = λ x low had. laws.only_now c.write_record.new.disk x low had;
-          earlier = λ a t x le had. laws.earlier c.write_record.new.disk a t x le had;
-        };
-      };
-    }))) in
+    let removed_is : c.in-Ok.ready.removed.items ≡ removed_by l (length h) gone = c.in-Ok.ensures.removes ∙ ap (λ p. removed_by l p gone) place in
+    let worked : IsWorked story new l.area l.end body made (removed_by l (length h) gone) =
+    subst (λ d. IsWorked story new l.area l.end body made d) removed_is (subst (λ (m : Memory). IsWorked story new m.state.area m.state.end body made c.in-Ok.ready.removed.items) reserved c.commit-committed.ensures.worked) in
     let typed = (record_found body s.entry c.in-Ok.ensures.bytes c.in-Ok.ensures.reads).0.typed in
-    let calls = does.read_cause in
     let due_for = λ (w : Rows). due_alike N.script (N.start no_rows) (N.start w) h session number (command.Recast words) (Renewed (claim_of_recast t)) (N.alike w) refl due in
-    let later = c.fail-in-Err-write_record.new.self in
-    let told = c.fail-in-Err-write_record.ensures in
-    let after = c.end_lease-in-Err-write_record.new.self in
-    let counts : Counts story new true = record { faults = does.cause.later; reads = omega (arith, calls); rose = λ low is. inl c.in-Err-write_record.ensures.cause.failed } in
-    let failed_is : c.fail.new.self.state ≡ failed_state l (length h) l.leases s.adopted = ap (λ (m : Memory). m.state) c.fail.ensures ∙ (λ j. failed_state (reserved j).state (place j) (reserved j).state.leases s.adopted) in
-    let state_is : after.state ≡ failed_state l (length h) (ended t.table t.lease l.leases) s.adopted =
-    ap (λ (m : Memory). m.state) c.end_lease-in-Err-write_record.ensures ∙ ap (λ (k : EngineState). leased_state k (ended t.table t.lease k.leases)) failed_is in
-    let leased : after.leased ≡ i.metadata.leased = ap (λ (m : Memory). m.leased) c.end_lease-in-Err-write_record.ensures ∙ ap (λ (m : Memory). m.leased) c.fail.ensures ∙ ap (λ (m : Memory). m.leased) reserved in
+    let failed = c.in-Err-committed.ensures in
+    let later = c.fail.new.self in
+    let told = c.fail.ensures in
+    let failed_is : c.commit-committed.new.metadata.state ≡ failed_state l (length h) l.leases s.adopted = ap (λ (m : Memory). m.state) failed.closed ∙ (λ j. failed_state (reserved j).state (place j) (reserved j).state.leases s.adopted) in
+    let state_is : after.state ≡ failed_state l (length h) (ended t.table t.lease l.leases) s.adopted = ap (λ (m : Memory). m.state) c.end_lease.ensures ∙ ap (λ (k : EngineState). leased_state k (ended t.table t.lease k.leases)) failed_is in
+    let leased : after.leased ≡ i.metadata.leased = ap (λ (m : Memory). m.leased) c.end_lease.ensures ∙ ap (λ (m : Memory). m.leased) failed.closed ∙ ap (λ (m : Memory). m.leased) reserved in
     unrecast_engine g.K.Sink.held g.K.Sink.faults n N.room N.sink_faults i.metadata story i.log c.engine.invariant bytes read t s is holds session number told.short.session told.short.command ran typed words due_for still has tell body c.in-Ok.ensures.bytes c.in-Ok.ensures.reads new worked
-    c.clock-moment.result c.clock-moment.ensures after later counts state_is leased told.items told.room told.told told.refused
-
-pub invariant_of-engine-in-Err-write_record : goal.invariant_of-engine-in-Err-write_record
-invariant_of-engine-in-Err-write_record g c = kept_failed g c
+    c.clock-moment.result c.clock-moment.ensures after later failed.counted state_is leased told.items told.room told.told told.refused
 
 pub returns : goal.returns
 returns g c =
@@ -493,48 +423,28 @@ returns g c =
     λ w sound. subst (λ (x : Standing). HasItsRanges read t (written_at N.script (N.start w) (N.origin w) x.shown.history t.table)) (sym c.engine.view_is)
     (c.requires.ranges w sound (subst (λ (x : Standing). epoch_of (meta_of_recast x.state t).lineage ≡ t.epoch) c.engine.view_is (epoch_still (meta_of_recast l t).lineage t.epoch (recast_in t) still))) in
     let tell = λ (w : Rows) (sound : n.sound w). all_tell bytes (c.requires.told w sound) s.made.items in
-    let new = g.D.Disk.story c.write_record.new.disk in
+    let new = g.D.Disk.story c.commit-committed.new.disk in
     let body = c.in-Ok.ready.framed in
+    let made = files_of bytes s.made.items in
     let gone = dropped_ids l.catalogue s.entry in
     let place = c.position-at.ensures in
     let reserved = c.in-Ok.ensures.reserved in
-    let does = c.write_record.ensures in
+    let after = c.end_lease.new.self in
     let ran : not i.log.printer.broken ≡ true = ap (λ (x : Standing). x.shown.running) c.engine.view_is ∙ c.requires.runs in
-    let end_is : c.end-end.result ≡ l.end = c.end-end.ensures ∙ ap (λ (m : Memory). m.state.end) reserved in
-    let area_is : c.area-area.result ≡ l.area = c.area-area.ensures ∙ ap (λ (m : Memory). m.state.area) reserved in
-    let removed_is : c.deref.result.now ≡ removed_by l (length h) gone = c.deref.ensures.value ∙ c.in-Ok.ensures.removes ∙ ap (λ p. removed_by l p gone) place in
-    let laws = g.met.D.Disk g.world.𝓛 g.world.𝓜 g.world.𝓡 ((λ s x. x), (λ x. x), (λ x. x), λ x. x) in
-    let worked : IsWorked story new l.area l.end body (files_of bytes s.made.items) (removed_by l (length h) gone) =
-    subst (λ a. IsWorked story new a l.end body (files_of bytes s.made.items) (removed_by l (length h) gone)) area_is
-    (subst (λ e. IsWorked story new c.area-area.result e body (files_of bytes s.made.items) (removed_by l (length h) gone)) end_is
-    (subst (λ d. IsWorked story new c.area-area.result c.end-end.result body (files_of bytes s.made.items) d) removed_is
-    (record {
-      images = does.images;
-      only = does.only;
-      passes = record {
-        rose = does.risen;
-        later = does.clock;
-        laws = record {
-          only_old = λ x low had. laws.only_now i.disk x low had;
-          only_new = λ x low had. laws.only_now c.write_record.new.disk x low had;
-          earlier = λ a t x le had. laws.earlier c.write_record.new.disk a t x le had;
-        };
-      };
-    }))) in
+    let removed_is : c.in-Ok.ready.removed.items ≡ removed_by l (length h) gone = c.in-Ok.ensures.removes ∙ ap (λ p. removed_by l p gone) place in
+    let worked : IsWorked story new l.area l.end body made (removed_by l (length h) gone) =
+    subst (λ d. IsWorked story new l.area l.end body made d) removed_is (subst (λ (m : Memory). IsWorked story new m.state.area m.state.end body made c.in-Ok.ready.removed.items) reserved c.commit-committed.ensures.worked) in
     let typed = (record_found body s.entry c.in-Ok.ensures.bytes c.in-Ok.ensures.reads).0.typed in
-    let calls = does.read_cause in
     let due_for = λ (w : Rows). due_alike N.script (N.start no_rows) (N.start w) h session number (command.Recast words) (Renewed (claim_of_recast t)) (N.alike w) refl due in
-    let later = c.fail-in-Err-write_record.new.self in
-    let told = c.fail-in-Err-write_record.ensures in
-    let after = c.end_lease-in-Err-write_record.new.self in
-    let counts : Counts story new true = record { faults = does.cause.later; reads = omega (arith, calls); rose = λ low is. inl c.in-Err-write_record.ensures.cause.failed } in
-    let failed_is : c.fail.new.self.state ≡ failed_state l (length h) l.leases s.adopted = ap (λ (m : Memory). m.state) c.fail.ensures ∙ (λ j. failed_state (reserved j).state (place j) (reserved j).state.leases s.adopted) in
-    let state_is : after.state ≡ failed_state l (length h) (ended t.table t.lease l.leases) s.adopted =
-    ap (λ (m : Memory). m.state) c.end_lease-in-Err-write_record.ensures ∙ ap (λ (k : EngineState). leased_state k (ended t.table t.lease k.leases)) failed_is in
-    let leased : after.leased ≡ i.metadata.leased = ap (λ (m : Memory). m.leased) c.end_lease-in-Err-write_record.ensures ∙ ap (λ (m : Memory). m.leased) c.fail.ensures ∙ ap (λ (m : Memory). m.leased) reserved in
+    let failed = c.in-Err-committed.ensures in
+    let later = c.fail.new.self in
+    let told = c.fail.ensures in
+    let failed_is : c.commit-committed.new.metadata.state ≡ failed_state l (length h) l.leases s.adopted = ap (λ (m : Memory). m.state) failed.closed ∙ (λ j. failed_state (reserved j).state (place j) (reserved j).state.leases s.adopted) in
+    let state_is : after.state ≡ failed_state l (length h) (ended t.table t.lease l.leases) s.adopted = ap (λ (m : Memory). m.state) c.end_lease.ensures ∙ ap (λ (k : EngineState). leased_state k (ended t.table t.lease k.leases)) failed_is in
+    let leased : after.leased ≡ i.metadata.leased = ap (λ (m : Memory). m.leased) c.end_lease.ensures ∙ ap (λ (m : Memory). m.leased) failed.closed ∙ ap (λ (m : Memory). m.leased) reserved in
     let kept =
     unrecast_engine g.K.Sink.held g.K.Sink.faults n N.room N.sink_faults i.metadata story i.log c.engine.invariant bytes read t s is holds session number told.short.session told.short.command ran typed words due_for still has tell body c.in-Ok.ensures.bytes c.in-Ok.ensures.reads new worked
-    c.clock-moment.result c.clock-moment.ensures after later counts state_is leased told.items told.room told.told told.refused in
+    c.clock-moment.result c.clock-moment.ensures after later failed.counted state_is leased told.items told.room told.told told.refused in
     let seen : Shown = record { history = later.history.items; running = not later.printer.broken; clock = new.moment } in
     record {
       turn = subst (λ (x : Standing). Takes N.script (N.start no_rows) x.shown seen session number kind.Close Finished) c.engine.view_is
@@ -543,13 +453,13 @@ returns g c =
           (vault_at_seen n after.state new (g.K.Sink.held later.printer.sink) later.history.items (not later.printer.broken) later.refused new.moment kept.vault));
       draft =
           let e = entry session number kind.Close outcome.WriteFault c.clock-moment.result in
-          let rose : Rose story.moment c.clock-moment.result = subst (λ x. Rose story.moment x) (sym c.clock-moment.ensures) does.risen in
+          let rose : Rose story.moment c.clock-moment.result = subst (λ x. Rose story.moment x) (sym c.clock-moment.ensures) worked.passes.rose in
           subst (λ (x : Standing). AnswersDraft N.script (N.start no_rows) x.shown seen session ⊥) c.engine.view_is
           (answers_none N.script (N.start no_rows) (record { history = h; running = not i.log.printer.broken; clock = story.moment }) seen session e told.items
           (ap not (closing (run_at N.script (N.start no_rows) h).moment story.moment e (c.engine.invariant.vault no_rows false (λ z. absurd cc)).invariant.at rose refl)));
       disk = subst (λ (x : Standing). AnswersDisk N.script (N.start no_rows) x.shown seen (SomeRose x.faults (faults_of new))) c.engine.view_is
           (disk_where N.script (N.start no_rows) (record { history = h; running = not i.log.printer.broken; clock = story.moment }) seen (entry session number kind.Close outcome.WriteFault c.clock-moment.result) told.items
-          (SomeRose (faults_of story) (faults_of new)) (λ below is. inl c.in-Err-write_record.ensures.cause.failed));
+          (SomeRose (faults_of story) (faults_of new)) (λ below is. failed.counted.rose below refl));
       swept = λ stood.
           let stands : outcome.WriteFault ≡ outcome.Stands =
           stood_as (record { history = h; running = not i.log.printer.broken; clock = story.moment }) seen session number outcome.WriteFault c.clock-moment.result told.items
