@@ -6,11 +6,11 @@ use Rattle.mesa_turn.specs.Passes.{Joins, Known}
 use Rattle.mesa_turn.proofs.Names.{has_itself}
 use Rattle.mesa_model.specs.declared.commands.Script.{Script}
 use Rattle.mesa_model.specs.Entry.{history_of}
-use Rattle.mesa_core.specs.mesa_history_spec.Run.{State}
-use Rattle.mesa_core.specs.Answers.{HasCounted, HaveCounted}
-use Rattle.mesa_core.specs.Passes.{HaveEnded}
-use Rattle.mesa_core.proofs.Answering.{answered_first, timely_before}
-use Rattle.mesa_core.proofs.Counting.{counted_all, counted_rest, counted_second}
+use Rattle.mesa_session_turns.specs.mesa_history_spec.Run.{State}
+use Rattle.mesa_session_turns.specs.mesa_core.Answers.{HasCounted, HaveCounted}
+use Rattle.mesa_session_turns.specs.mesa_core.Passes.{HaveEnded}
+use Rattle.mesa_session_turns.proofs.mesa_core.Answering.{answered_first, timely_before}
+use Rattle.mesa_session_turns.proofs.mesa_core.Counting.{counted_all, counted_rest, counted_second}
 
 module _ (script : Script) (start : State) (a b p : Known) (joins : Joins a b p) where
   -- what the prologue's bench counted is still enough

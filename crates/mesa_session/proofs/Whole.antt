@@ -4,13 +4,13 @@ use Rattle.mesa_model.specs.declared.commands.Script.{Script}
 use Rattle.mesa_model.specs.declared.entries.Entry.{Entry}
 use Rattle.mesa_model.specs.Entry.{history_of, numbers_of}
 use Rattle.mesa_model.proofs.Numbers.{history_told}
-use Rattle.mesa_core.specs.mesa_history_spec.Legal.{IsLegal, has_ended}
-use Rattle.mesa_core.specs.mesa_history_spec.Run.{State}
-use Rattle.mesa_core.proofs.mesa_history_spec.Ending.{legal_ended}
+use Rattle.mesa_session_turns.specs.mesa_history_spec.Legal.{IsLegal, has_ended}
+use Rattle.mesa_session_turns.specs.mesa_history_spec.Run.{State}
+use Rattle.mesa_session_turns.proofs.mesa_history_spec.Ending.{legal_ended}
 use Rattle.mesa_turn.specs.Passes.{Known}
-use Rattle.mesa_core.specs.mesa_invariant_spec.Turns.{IsSeen, Shown}
-use Rattle.mesa_core.specs.mesa_invariant_spec.Invariant.{run_at}
-use Rattle.mesa_core.specs.Passes.{HasEnded}
+use Rattle.mesa_session_turns.specs.mesa_invariant_spec.Turns.{IsSeen, Shown}
+use Rattle.mesa_session_turns.specs.mesa_invariant_spec.Invariant.{run_at}
+use Rattle.mesa_session_turns.specs.mesa_core.Passes.{HasEnded}
 
 -- the last pass has seen the whole history
 pub seen_whole : (script : Script) (start : State) (v : Shown) (p : Known) → IsSeen script start v → p.seen ≡ numbers_of v.history → history_of p.seen ≡ v.history

@@ -1,20 +1,19 @@
 // All sessions of a script: the prologue alone, and then the others at once.
 ghost use Rattle.std.specs.Prelude.{◌≡◌, ◌<◌, ◌≤◌, ◌+◌, ◌-◌, ◌*◌, ◌^◌, ℕ, [], ◌∷◌, IsTrue, IfSome, is_some, length, drop};
 ghost use Rattle.std.specs.Thread.{IsSync};
-ghost use Rattle.mesa_core.specs.mesa_history_spec.Run.{First, commands_of};
+ghost use Rattle.mesa_session_turns.specs.mesa_history_spec.Run.{First, commands_of};
 ghost use Rattle.mesa_model.specs.Entry.{history_of};
-ghost use Rattle.mesa_core.specs.mesa_history_spec.Rows.{no_rows};
+ghost use Rattle.mesa_session_turns.specs.mesa_history_spec.Rows.{no_rows};
 ghost use Rattle.mesa_turn.specs.History.{has};
 ghost use Rattle.mesa_turn.specs.Passes.{IsExact, Joins};
-ghost use Rattle.mesa_core.specs.Answers.{HasCounted, HaveCounted, answered};
-ghost use Rattle.mesa_core.specs.Passes.{HasEnded, HaveEnded, Mine, Waits, at_stage, turns_of};
+ghost use Rattle.mesa_session_turns.specs.mesa_core.Answers.{HasCounted, HaveCounted, answered};
+ghost use Rattle.mesa_session_turns.specs.mesa_core.Passes.{HasEnded, HaveEnded, Mine, Waits, at_stage, turns_of};
 
 use crate::{Gate, Sessions, Vault, run_session};
 use mesa_disk::{Bench, Disk, Made};
-use mesa_engine::Naming;
 use mesa_io::Sink;
 use mesa_model::Script;
-use mesa_open_files::DeltaDisk;
+use mesa_session_turns::{DeltaDisk, Naming};
 use mesa_turn::{Pass, TurnLock};
 use std::alloc::Global;
 use std::sync::Wait;

@@ -1,30 +1,27 @@
 // The turns of each command.
 ghost use Rattle.std.specs.Prelude.{◌≡◌, ◌<◌, ◌≤◌, not, Some, length};
-ghost use Rattle.mesa_core.specs.mesa_history_spec.Legal.{is_query};
-ghost use Rattle.mesa_core.specs.mesa_history_spec.Run.{First, Finished, command_at};
-ghost use Rattle.mesa_core.specs.mesa_history_spec.Turns.{place_then};
+ghost use Rattle.mesa_session_turns.specs.mesa_history_spec.Legal.{is_query};
+ghost use Rattle.mesa_session_turns.specs.mesa_history_spec.Run.{First, Finished, command_at};
+ghost use Rattle.mesa_session_turns.specs.mesa_history_spec.Turns.{place_then};
 ghost use Rattle.mesa_model.specs.declared.commands.Command.TheVariants as command;
-ghost use Rattle.mesa_core.specs.mesa_history_spec.Rows.{no_rows};
-ghost use Rattle.mesa_core.specs.mesa_invariant_spec.Turns.{is_merge, is_recast};
-ghost use Rattle.mesa_core.specs.Answers.{Answers};
-ghost use Rattle.mesa_core.specs.Passes.{HasSort, Mine, Took, at_stage};
+ghost use Rattle.mesa_session_turns.specs.mesa_history_spec.Rows.{no_rows};
+ghost use Rattle.mesa_session_turns.specs.mesa_invariant_spec.Turns.{is_merge, is_recast};
+ghost use Rattle.mesa_session_turns.specs.mesa_core.Answers.{Answers};
+ghost use Rattle.mesa_session_turns.specs.mesa_core.Passes.{HasSort, Mine, Took, at_stage};
 ghost use Rattle.mesa_session.specs.Drafts.{AreOf, GoOn};
 
 use crate::gate::{Gate, Point};
-use crate::outside::{answered, merged, regrouped};
-use crate::preparing::prepared_first;
 use crate::session::Sessions;
-use crate::turns::{
-    abandon_turn, close_turn, complete_turn, grant_recast_turn, grant_turn, look_turn, pin_turn,
-    publish_turn, recast_turn, renew_recast_turn, renew_turn, simple_turn,
-};
 use mesa_batch::LoadRows;
 use mesa_disk::{Bench, Made};
-use mesa_engine::{Naming, Who};
 use mesa_file::Serials;
 use mesa_io::Sink;
 use mesa_model::Command;
-use mesa_open_files::DeltaDisk;
+use mesa_session_turns::{
+    DeltaDisk, Naming, Who, abandon_turn, answered, close_turn, complete_turn, grant_recast_turn,
+    grant_turn, look_turn, merged, pin_turn, prepared_first, publish_turn, recast_turn, regrouped,
+    renew_recast_turn, renew_turn, simple_turn,
+};
 use mesa_turn::Pass;
 use std::sync::Wait;
 use std::thread::Threads;

@@ -4,13 +4,10 @@
 mod all;
 mod commands;
 mod gate;
-mod outside;
-mod preparing;
 mod serving;
 mod session;
-mod turns;
 
 pub use gate::{Gate, OpenGate, Point};
-pub use mesa_core::{Vault, turns_of};
+pub use mesa_session_turns::{Vault, turns_of};
 pub use serving::serve;
 pub use session::{Sessions, run_session};

@@ -1,18 +1,17 @@
 // All turns of a script.
 ghost use Rattle.std.specs.Prelude.{◌≡◌, ◌<◌, ◌≤◌, ◌^◌, ℕ, [], not, IfErr, IfOk, length};
-ghost use Rattle.mesa_core.specs.mesa_history_spec.Legal.{IsLegal};
-ghost use Rattle.mesa_core.specs.mesa_history_spec.Run.{commands_of};
-ghost use Rattle.mesa_core.specs.mesa_history_spec.Rows.{no_rows};
-ghost use Rattle.mesa_core.specs.Answers.{HaveCounted};
-ghost use Rattle.mesa_core.specs.Passes.{turns_of};
+ghost use Rattle.mesa_session_turns.specs.mesa_history_spec.Legal.{IsLegal};
+ghost use Rattle.mesa_session_turns.specs.mesa_history_spec.Run.{commands_of};
+ghost use Rattle.mesa_session_turns.specs.mesa_history_spec.Rows.{no_rows};
+ghost use Rattle.mesa_session_turns.specs.mesa_core.Answers.{HaveCounted};
+ghost use Rattle.mesa_session_turns.specs.mesa_core.Passes.{turns_of};
 
 use crate::all::run_all;
 use crate::{Gate, Vault};
 use mesa_disk::{Bench, Made};
-use mesa_engine::Naming;
 use mesa_io::Sink;
 use mesa_model::Script;
-use mesa_open_files::DeltaDisk;
+use mesa_session_turns::{DeltaDisk, Naming};
 use mesa_turn::TurnLock;
 use std::alloc::Global;
 use std::sync::Wait;

@@ -1,18 +1,16 @@
 // A session's run.
 ghost use Rattle.std.specs.Prelude.{◌≡◌, ◌<◌, ◌≤◌, ◌*◌, ◌^◌, length};
-ghost use Rattle.mesa_core.specs.mesa_history_spec.Run.{First, commands_of as commands_in};
-ghost use Rattle.mesa_core.specs.mesa_history_spec.Rows.{no_rows};
-ghost use Rattle.mesa_core.specs.Answers.{Answers};
-ghost use Rattle.mesa_core.specs.Passes.{Gains, HasEnded, Mine, Took, at_stage};
+ghost use Rattle.mesa_session_turns.specs.mesa_history_spec.Run.{First, commands_of as commands_in};
+ghost use Rattle.mesa_session_turns.specs.mesa_history_spec.Rows.{no_rows};
+ghost use Rattle.mesa_session_turns.specs.mesa_core.Answers.{Answers};
+ghost use Rattle.mesa_session_turns.specs.mesa_core.Passes.{Gains, HasEnded, Mine, Took, at_stage};
 
 use crate::gate::{Gate, Point};
-use mesa_core::Vault;
 use mesa_disk::{Bench, Disk, Made};
-use mesa_engine::{Naming, Who};
 use mesa_file::Serials;
 use mesa_io::Sink;
 use mesa_model::{Command, Script};
-use mesa_open_files::DeltaDisk;
+use mesa_session_turns::{DeltaDisk, Naming, Vault, Who};
 use mesa_turn::{Pass, TurnLock};
 use std::alloc::Global;
 use std::sync::Wait;

@@ -1,9 +1,9 @@
 use Rattle.std.proofs.Common.{rules, ◌≡◌, ℕ, ◌+◌, ◌≤◌, List, [], ◌∷◌, length, get_or, sym, subst}
 use Rattle.mesa_model.specs.Entry.{history_of}
-use Rattle.mesa_core.specs.mesa_history_spec.Rows.{no_rows}
-use Rattle.mesa_core.specs.Answers.{HasCounted, HaveCounted}
-use Rattle.mesa_core.specs.Passes.{HaveEnded}
-use Rattle.mesa_core.proofs.Counting.{counted_none}
+use Rattle.mesa_session_turns.specs.mesa_history_spec.Rows.{no_rows}
+use Rattle.mesa_session_turns.specs.mesa_core.Answers.{HasCounted, HaveCounted}
+use Rattle.mesa_session_turns.specs.mesa_core.Passes.{HaveEnded}
+use Rattle.mesa_session_turns.proofs.mesa_core.Counting.{counted_none}
 use Rattle.mesa_session.proofs.Counts.{benches_counted, joined_counted, prologue_kept}
 use Rattle.mesa_session.proofs.all.+fn-run_rest-join_mut+arg3+run_rest.Goals as goal
 

@@ -1,5 +1,5 @@
-use Rattle.mesa_core.specs.mesa_history_spec.Rows.{no_rows}
-use Rattle.mesa_core.proofs.Dividing.{have_ended}
+use Rattle.mesa_session_turns.specs.mesa_history_spec.Rows.{no_rows}
+use Rattle.mesa_session_turns.proofs.mesa_core.Dividing.{have_ended}
 use Rattle.mesa_session.proofs.all.join_next.Goals as goal
 
 pub returns-clause-ended : goal.returns-clause-ended

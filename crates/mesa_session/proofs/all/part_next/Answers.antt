@@ -1,11 +1,11 @@
-use Rattle.mesa_core.specs.mesa_history_spec.Rows.{no_rows}
+use Rattle.mesa_session_turns.specs.mesa_history_spec.Rows.{no_rows}
 use Rattle.std.proofs.Common.{◌<◌, ◌+◌, ◌∙◌, subst, sym, ap, arith}
 use Rattle.mesa_turn.specs.Passes.{Known, IsExact, left_of, part_of}
-use Rattle.mesa_core.specs.Answers.{answered}
-use Rattle.mesa_core.specs.Passes.{Mine, Waits, at_stage}
-use Rattle.mesa_core.specs.mesa_history_spec.Run.{First}
-use Rattle.mesa_core.proofs.Counting.{answered_fresh}
-use Rattle.mesa_core.proofs.Dividing.{none_own, mine_part, waits_left, turns_next}
+use Rattle.mesa_session_turns.specs.mesa_core.Answers.{answered}
+use Rattle.mesa_session_turns.specs.mesa_core.Passes.{Mine, Waits, at_stage}
+use Rattle.mesa_session_turns.specs.mesa_history_spec.Run.{First}
+use Rattle.mesa_session_turns.proofs.mesa_core.Counting.{answered_fresh}
+use Rattle.mesa_session_turns.proofs.mesa_core.Dividing.{none_own, mine_part, waits_left, turns_next}
 use Rattle.mesa_session.proofs.all.part_next.Goals as goal
 
 small : (g : _) (c : goal.After-split g) → c.args.next < 8

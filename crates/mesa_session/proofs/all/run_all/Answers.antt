@@ -1,9 +1,9 @@
 use Rattle.std.proofs.Common.{[], ◌∷◌, ap, refl}
 use Rattle.mesa_model.specs.Entry.{history_of}
-use Rattle.mesa_core.specs.mesa_history_spec.Rows.{no_rows}
+use Rattle.mesa_session_turns.specs.mesa_history_spec.Rows.{no_rows}
 use Rattle.mesa_turn.specs.History.{entries_of}
-use Rattle.mesa_core.proofs.Counting.{answered_fresh, counted_all, counted_whole}
-use Rattle.mesa_core.proofs.Dividing.{mine_whole, all_own}
+use Rattle.mesa_session_turns.proofs.mesa_core.Counting.{answered_fresh, counted_all, counted_whole}
+use Rattle.mesa_session_turns.proofs.mesa_core.Dividing.{mine_whole, all_own}
 use Rattle.mesa_session.proofs.Counts.{benches_counted}
 use Rattle.mesa_session.proofs.all.run_all.Goals as goal
 

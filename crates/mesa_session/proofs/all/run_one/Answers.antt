@@ -1,5 +1,5 @@
-use Rattle.mesa_core.specs.mesa_history_spec.Rows.{no_rows}
-use Rattle.mesa_core.proofs.Counting.{counted_whole}
+use Rattle.mesa_session_turns.specs.mesa_history_spec.Rows.{no_rows}
+use Rattle.mesa_session_turns.proofs.mesa_core.Counting.{counted_whole}
 use Rattle.mesa_session.proofs.all.run_one.Goals as goal
 
 pub returns-clause-counted : goal.returns-clause-counted

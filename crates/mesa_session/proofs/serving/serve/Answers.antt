@@ -1,8 +1,8 @@
 use Rattle.std.proofs.Common.{ℕ, zero, suc, ◌<◌, List, refl, subst, sym, arith}
 use Rattle.std.specs.Prelude.{IsTrue}
-use Rattle.mesa_core.specs.mesa_history_spec.Rows.{no_rows}
+use Rattle.mesa_session_turns.specs.mesa_history_spec.Rows.{no_rows}
 use Rattle.mesa_model.specs.declared.entries.Entry.{Entry}
-use Rattle.mesa_core.specs.Answers.{HaveCounted}
+use Rattle.mesa_session_turns.specs.mesa_core.Answers.{HaveCounted}
 use Rattle.mesa_turn.specs.History.{has}
 use Rattle.mesa_turn.specs.Passes.{Known}
 use Rattle.mesa_turn.specs.Rule.{all_names}

@@ -1,14 +1,14 @@
 use Rattle.std.proofs.Common.{rules, ◌≡◌, ◌<◌, ◌+◌, ◌*◌, true, false, not, List, length, get_or, arith, subst}
-use Rattle.mesa_core.specs.mesa_history_spec.Run.{Finished, commands_of}
-use Rattle.mesa_core.specs.mesa_history_spec.Turns.{place_then}
-use Rattle.mesa_core.proofs.mesa_history_spec.Due.{command_there}
+use Rattle.mesa_session_turns.specs.mesa_history_spec.Run.{Finished, commands_of}
+use Rattle.mesa_session_turns.specs.mesa_history_spec.Turns.{place_then}
+use Rattle.mesa_session_turns.proofs.mesa_history_spec.Due.{command_there}
 use Rattle.mesa_model.specs.declared.commands.Command.{Command}
-use Rattle.mesa_core.specs.mesa_history_spec.Rows.{no_rows}
-use Rattle.mesa_core.specs.Passes.{Mine}
-use Rattle.mesa_core.proofs.Answering.{answers_both}
-use Rattle.mesa_core.proofs.Dividing.{gains}
-use Rattle.mesa_core.proofs.SessionEnds.{ended_cut, ended_whole}
-use Rattle.mesa_core.proofs.Turning.{took_both, took_fewer}
+use Rattle.mesa_session_turns.specs.mesa_history_spec.Rows.{no_rows}
+use Rattle.mesa_session_turns.specs.mesa_core.Passes.{Mine}
+use Rattle.mesa_session_turns.proofs.mesa_core.Answering.{answers_both}
+use Rattle.mesa_session_turns.proofs.mesa_core.Dividing.{gains}
+use Rattle.mesa_session_turns.proofs.mesa_core.SessionEnds.{ended_cut, ended_whole}
+use Rattle.mesa_session_turns.proofs.mesa_core.Turning.{took_both, took_fewer}
 use Rattle.mesa_session.proofs.session.run_session.Goals as goal
 
 pub run_command-next-requires-clause-known : goal.run_command-next-requires-clause-known

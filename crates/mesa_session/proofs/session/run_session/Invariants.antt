@@ -1,8 +1,8 @@
 use Rattle.std.proofs.Common.{◌+◌, ◌*◌}
-use Rattle.mesa_core.specs.mesa_history_spec.Run.{First}
-use Rattle.mesa_core.specs.mesa_history_spec.Rows.{no_rows}
-use Rattle.mesa_core.specs.Answers.{Answers}
-use Rattle.mesa_core.specs.Passes.{Mine, Took, at_stage}
+use Rattle.mesa_session_turns.specs.mesa_history_spec.Run.{First}
+use Rattle.mesa_session_turns.specs.mesa_history_spec.Rows.{no_rows}
+use Rattle.mesa_session_turns.specs.mesa_core.Answers.{Answers}
+use Rattle.mesa_session_turns.specs.mesa_core.Passes.{Mine, Took, at_stage}
 use Rattle.mesa_session.specs.Drafts.{AreOf}
 use Rattle.mesa_session.proofs.session.run_session.Given as goal
 

@@ -1,8 +1,8 @@
 use Rattle.std.proofs.Common.{arith}
-use Rattle.mesa_core.specs.mesa_history_spec.Rows.{no_rows}
-use Rattle.mesa_core.proofs.Answering.{answers_at, answers_owed}
-use Rattle.mesa_core.proofs.Turning.{took_both, took_fewer}
-use Rattle.mesa_core.specs.Drafts.{owed_by_load}
+use Rattle.mesa_session_turns.specs.mesa_history_spec.Rows.{no_rows}
+use Rattle.mesa_session_turns.proofs.mesa_core.Answering.{answers_at, answers_owed}
+use Rattle.mesa_session_turns.proofs.mesa_core.Turning.{took_both, took_fewer}
+use Rattle.mesa_session_turns.specs.mesa_core.Drafts.{owed_by_load}
 use Rattle.mesa_session.proofs.Drawing.{drawn_both, go_on, undrawn}
 use Rattle.mesa_session.proofs.session.Sessions.load.Goals as goal
 

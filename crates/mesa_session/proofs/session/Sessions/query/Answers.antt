@@ -1,11 +1,11 @@
 use Rattle.std.proofs.Common.{arith, sym, subst}
 use Rattle.std.specs.Prelude.{IfSome}
-use Rattle.mesa_core.specs.Handing.{Tells}
+use Rattle.mesa_session_turns.specs.mesa_core.Handing.{Tells}
 use Rattle.mesa_model.specs.Entry.{history_of}
-use Rattle.mesa_core.specs.mesa_history_spec.Rows.{no_rows}
-use Rattle.mesa_core.proofs.Answering.{answers_both}
-use Rattle.mesa_core.proofs.Turning.{took_both, took_fewer}
-use Rattle.mesa_core.specs.Pins.{CanBeAnswered, IsOpenQuery, KnownPin, known_pin}
+use Rattle.mesa_session_turns.specs.mesa_history_spec.Rows.{no_rows}
+use Rattle.mesa_session_turns.proofs.mesa_core.Answering.{answers_both}
+use Rattle.mesa_session_turns.proofs.mesa_core.Turning.{took_both, took_fewer}
+use Rattle.mesa_session_turns.specs.mesa_core.Pins.{CanBeAnswered, IsOpenQuery, KnownPin, known_pin}
 use Rattle.mesa_session.proofs.session.Sessions.query.Goals as goal
 
 pub close_turn-requires-clause-open : goal.close_turn-requires-clause-open

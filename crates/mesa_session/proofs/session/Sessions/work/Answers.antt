@@ -1,7 +1,7 @@
 use Rattle.std.proofs.Common.{arith}
-use Rattle.mesa_core.specs.mesa_history_spec.Rows.{no_rows}
-use Rattle.mesa_core.proofs.Answering.{answers_at, answers_both, answers_owed, answers_within}
-use Rattle.mesa_core.proofs.Turning.{took_both, took_fewer}
+use Rattle.mesa_session_turns.specs.mesa_history_spec.Rows.{no_rows}
+use Rattle.mesa_session_turns.proofs.mesa_core.Answering.{answers_at, answers_both, answers_owed, answers_within}
+use Rattle.mesa_session_turns.proofs.mesa_core.Turning.{took_both, took_fewer}
 use Rattle.mesa_session.proofs.Drawing.{go_on, undrawn}
 use Rattle.mesa_session.proofs.session.Sessions.work.Goals as goal
 
