@@ -1,5 +1,5 @@
 -- What the rules decide, told of a vault's books; and where a turn that decides takes its session.
-use Rattle.std.proofs.Common.{◌≡◌, ℕ, ◌<◌, ◌^◌, List, [], ◌∷◌, ◌++◌, map, true, false, not, refl, sym, ◌∙◌, ap, subst, arith, IsTrue, Option, None, Some, Err}
+use Rattle.std.proofs.Common.{◌≡◌, ℕ, ◌<◌, ◌^◌, List, [], ◌∷◌, ◌++◌, map, true, false, not, refl, sym, ◌∙◌, ap, subst, arith, Option, None, Some, Err}
 use Rattle.std.specs.Prelude.{Result, Vec}
 use Rattle.std.specs.List.{AllByRecursion}
 use Rattle.std.specs.declared.alloc.Global.{Global}
@@ -19,7 +19,7 @@ use Rattle.mesa_model.specs.declared.replies.Refusal.TheVariants as no
 use Rattle.mesa_model.specs.declared.replies.Reply.{Reply}
 use Rattle.mesa_model.specs.Refusals.{refuse_closed}
 use Rattle.mesa_model.specs.Warehouse.{Table}
-use Rattle.mesa_file_records.specs.mesa_history_spec.Legal.{is_due_at, is_release}
+use Rattle.mesa_file_records.specs.mesa_history_spec.Legal.{is_release}
 use Rattle.mesa_file_records.specs.mesa_history_spec.Replay.{is_skip, no_rows as no_lines}
 use Rattle.mesa_file_records.specs.mesa_history_spec.Run.{State, First, Finished}
 use Rattle.mesa_file_records.specs.mesa_history_spec.Turns.{IsDue}
@@ -145,20 +145,6 @@ allowed_writes bytes l c r made adopted simple is empty count few =
       });
       does = is.does;
     }
-
--- the turn that decides a command is due
-pub deciding_comes : (c : Command) → kind.Decide ≡ deciding_kind c → IsTrue (is_due_at c (deciding_stage c) kind.Decide)
-deciding_comes (command.Table words) is = refl
-deciding_comes (command.View words) is = refl
-deciding_comes (command.Alter words) is = refl
-deciding_comes (command.Load rows) is = refl
-deciding_comes (command.Query words) is = refl
-deciding_comes (command.Explain words) is = refl
-deciding_comes (command.Pin asked) is = refl
-deciding_comes (command.Release token) is = refl
-deciding_comes (command.Expire table version) is = refl
-deciding_comes (command.Work words) is = absurd cc
-deciding_comes (command.Recast words) is = absurd cc
 
 -- ---- its session's command is over
 

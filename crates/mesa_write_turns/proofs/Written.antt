@@ -4,7 +4,6 @@ use Rattle.mesa_file_records.specs.mesa_key.Spelling.{AreBytes}
 use Rattle.mesa_disk.specs.Files.{AreAbsent, AreGone, files_of}
 use Rattle.mesa_disk.specs.Image.{Image, file_of}
 use Rattle.mesa_disk.specs.Story.{Story, Spans, Steps}
-use Rattle.mesa_disk.specs.declared.area.Area.{Area}
 use Rattle.mesa_engine.specs.mesa_commit.Images.{Stands}
 use Rattle.mesa_engine.specs.mesa_commit.Turn.{MovesOnly}
 use Rattle.mesa_model.specs.declared.commands.Script.{Script}
@@ -14,13 +13,12 @@ use Rattle.mesa_model.specs.declared.entries.Outcome.TheVariants as outcome
 use Rattle.mesa_file_records.specs.mesa_history_spec.Refused.{is_refusal}
 use Rattle.mesa_file_records.specs.mesa_history_spec.Run.{Run}
 use Rattle.mesa_file_records.specs.mesa_history_spec.Turns.{IsDue}
-use Rattle.mesa_record.specs.declared.record.Record.{Record}
 use Rattle.mesa_record.specs.Reading.{record_at}
 use Rattle.mesa_record.specs.Rules.{IsTyped}
 use Rattle.mesa_engine.specs.mesa_store_spec.Catalog.{Catalog, applied}
 use Rattle.mesa_engine.specs.mesa_store_spec.Contents.{kept_of}
 use Rattle.mesa_engine.specs.mesa_store_spec.Fitting.{live_files}
-use Rattle.mesa_engine.specs.mesa_store_spec.Held.{IsHeld, StandsForEither as EitherOf}
+use Rattle.mesa_engine.specs.mesa_store_spec.Held.{IsHeld}
 use Rattle.mesa_engine.specs.mesa_store_spec.Sound.{StandsFor}
 use Rattle.mesa_engine.proofs.mesa_store_spec.Agreeing.{agree_wants}
 use Rattle.mesa_engine.proofs.mesa_store_spec.CountedRecords.{fits_counted}

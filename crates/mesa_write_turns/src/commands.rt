@@ -1,5 +1,5 @@
 // The turns of a table, a view, a change of columns and an expiry.
-ghost use Rattle.std.specs.Prelude.{◌<◌, length};
+ghost use Rattle.std.specs.Prelude.{◌≡◌, ◌<◌, true, length};
 ghost use Rattle.mesa_disk.specs.Story.{Steps};
 ghost use Rattle.mesa_file_records.specs.mesa_history_spec.Run.{First, Finished};
 ghost use Rattle.mesa_file_records.specs.mesa_history_spec.Turns.{IsDue};
@@ -28,6 +28,7 @@ pub fn table<N: Naming, M: Made, D: Disk<M>, K: Sink>(
 )
     requires due { IsDue N.script (run_at N.script (N.start no_rows) engine.old.shown.history) who.session who.command (command.Table words.now) First }
     requires room { length engine.old.shown.history < N.room }
+    requires runs { engine.old.shown.running ≡ true }
     ensures turn { Takes N.script (N.start no_rows) engine.old.shown engine.new.shown who.session who.command kind.Decide Finished }
     ensures disk { AnswersDisk N.script (N.start no_rows) engine.old.shown engine.new.shown (SomeRose engine.old.faults engine.new.faults) }
     ensures keeps { Steps KeepsFiles engine.old.told engine.new.told }
@@ -49,6 +50,7 @@ pub fn view<N: Naming, M: Made, D: Disk<M>, K: Sink>(
 )
     requires due { IsDue N.script (run_at N.script (N.start no_rows) engine.old.shown.history) who.session who.command (command.View words.now) First }
     requires room { length engine.old.shown.history < N.room }
+    requires runs { engine.old.shown.running ≡ true }
     ensures turn { Takes N.script (N.start no_rows) engine.old.shown engine.new.shown who.session who.command kind.Decide Finished }
     ensures disk { AnswersDisk N.script (N.start no_rows) engine.old.shown engine.new.shown (SomeRose engine.old.faults engine.new.faults) }
     ensures keeps { Steps KeepsFiles engine.old.told engine.new.told }
@@ -70,6 +72,7 @@ pub fn alter<N: Naming, M: Made, D: Disk<M>, K: Sink>(
 )
     requires due { IsDue N.script (run_at N.script (N.start no_rows) engine.old.shown.history) who.session who.command (command.Alter words.now) First }
     requires room { length engine.old.shown.history < N.room }
+    requires runs { engine.old.shown.running ≡ true }
     ensures turn { Takes N.script (N.start no_rows) engine.old.shown engine.new.shown who.session who.command kind.Decide Finished }
     ensures disk { AnswersDisk N.script (N.start no_rows) engine.old.shown engine.new.shown (SomeRose engine.old.faults engine.new.faults) }
     ensures keeps { Steps KeepsFiles engine.old.told engine.new.told }
@@ -92,6 +95,7 @@ pub fn expire<N: Naming, M: Made, D: Disk<M>, K: Sink>(
 )
     requires due { IsDue N.script (run_at N.script (N.start no_rows) engine.old.shown.history) who.session who.command (command.Expire table.now version) First }
     requires room { length engine.old.shown.history < N.room }
+    requires runs { engine.old.shown.running ≡ true }
     ensures turn { Takes N.script (N.start no_rows) engine.old.shown engine.new.shown who.session who.command kind.Decide Finished }
     ensures disk { AnswersDisk N.script (N.start no_rows) engine.old.shown engine.new.shown (SomeRose engine.old.faults engine.new.faults) }
     ensures keeps { Steps KeepsFiles engine.old.told engine.new.told }

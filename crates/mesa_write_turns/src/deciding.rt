@@ -1,5 +1,5 @@
 // The turn of a command that brings no files.
-ghost use Rattle.std.specs.Prelude.{◌<◌, length};
+ghost use Rattle.std.specs.Prelude.{◌≡◌, ◌<◌, true, length};
 ghost use Rattle.std.specs.Fn.{FnOnceReturnsAt};
 ghost use Rattle.mesa_disk.specs.Story.{Steps};
 ghost use Rattle.mesa_file_records.specs.mesa_history_spec.Run.{Finished};
@@ -29,14 +29,11 @@ pub(crate) fn decide<
     requires callable { F.IsAlwaysCallable rule }
     requires ruled { IsRuledBy N.script (run_at N.script (N.start no_rows) engine.old.shown.history) who.session who.command (FnOnceReturnsAt F.FnOnce rule) }
     requires room { length engine.old.shown.history < N.room }
+    requires runs { engine.old.shown.running ≡ true }
     ensures turn { Takes N.script (N.start no_rows) engine.old.shown engine.new.shown who.session who.command kind.Decide Finished }
     ensures disk { AnswersDisk N.script (N.start no_rows) engine.old.shown engine.new.shown (SomeRose engine.old.faults engine.new.faults) }
     ensures keeps { Steps KeepsFiles engine.old.told engine.new.told }
 {
-    if !engine.running() {
-        engine.skip(who, Kind::Decide);
-        return;
-    }
     match rule(&engine.metadata) {
         Ok(Ruled { writes, tells }) => {
             let adopted = engine.metadata.adopted();

@@ -156,15 +156,12 @@ pub fn publish<N: Naming, M: Made, D: Disk<M>, K: Sink>(
     requires made { HasPrepared M.bytes M.id_of (sight_of engine.old.state.catalogue) rows.now made }
     requires told { (w : Rows) → N.sound w → (file : M) → (bytes : List ℕ) × (M.bytes file ≡ Some bytes) }
     requires room { length engine.old.shown.history < N.room }
+    requires runs { engine.old.shown.running ≡ true }
     ensures turn { Takes N.script (N.start no_rows) engine.old.shown engine.new.shown who.session who.command kind.Decide Finished }
     ensures disk { AnswersDisk N.script (N.start no_rows) engine.old.shown engine.new.shown (SomeRose engine.old.faults engine.new.faults) }
     ensures keeps { Steps KeepsFiles engine.old.told engine.new.told }
     ensures draft { AnswersDraft N.script (N.start no_rows) engine.old.shown engine.new.shown who.session (made ≡ Err load.Draft) }
 {
-    if !engine.running() {
-        engine.skip(who, Kind::Decide);
-        return;
-    }
     match ready(alloc, &engine.metadata, rows, made) {
         Ok(change) => write(alloc, engine, who, change),
         Err(Unready::Refused(refusal)) => {

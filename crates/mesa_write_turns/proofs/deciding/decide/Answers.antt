@@ -1,29 +1,10 @@
 use Rattle.std.proofs.Common.{◌∙◌, ap, length, refl, subst}
 use Rattle.std.specs.Prelude.{IfErr, IfOk}
-use Rattle.mesa_file_records.specs.mesa_history_spec.Run.{Finished}
-use Rattle.mesa_file_records.specs.mesa_history_spec.Rows.{no_rows}
-use Rattle.mesa_engine.proofs.mesa_invariant_spec.Alike.{due_alike}
 use Rattle.mesa_engine.specs.Engine.{Standing}
-use Rattle.mesa_engine.specs.Failing.{deciding_stage}
-use Rattle.mesa_engine.proofs.Undone.{deciding_unanswered}
 use Rattle.mesa_write_turns.specs.Ruling.{IsAllowed, IsRefused}
 use Rattle.mesa_write_turns.proofs.Keeping.{same_keep}
-use Rattle.mesa_write_turns.proofs.Rulings.{allowed_writes, deciding_comes}
+use Rattle.mesa_write_turns.proofs.Rulings.{allowed_writes}
 use Rattle.mesa_write_turns.proofs.deciding.decide.Goals as goal
-
-pub skip-requires-clause-due : goal.skip-requires-clause-due
-skip-requires-clause-due g c κs within w =
-    let N = g.N.Naming in
-    let to = c.requires.ruled in
-    record {
-      asked = to.asked;
-      stage = deciding_stage to.asked;
-      due = due_alike N.script (N.start no_rows) (N.start w) c.args.engine.now.shown.history c.args.who.session c.args.who.command to.asked (deciding_stage to.asked) (N.alike w) (deciding_unanswered to.asked) to.due;
-      comes = deciding_comes to.asked to.decides;
-    }
-
-pub returns-then-not-running : goal.returns-then-not-running
-returns-then-not-running g c = record { turn = c.skip.ensures.turn Finished; disk = λ low e grew is. absurd (c.skip.ensures.disk low e grew is); keeps = same_keep c.args.engine.now.told c.skip.new.self.told c.skip.ensures.told }
 
 pub write-requires-clause-change : goal.write-requires-clause-change
 write-requires-clause-change g c κs within =

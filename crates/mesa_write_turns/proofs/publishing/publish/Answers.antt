@@ -1,25 +1,9 @@
-use Rattle.std.proofs.Common.{◌≡◌, length, false, refl, ap, arith}
-use Rattle.mesa_file_records.specs.mesa_history_spec.Run.{Finished, Looked}
-use Rattle.mesa_model.specs.declared.commands.Command.TheVariants as command
+use Rattle.std.proofs.Common.{◌≡◌, length, false, ap, arith}
 use Rattle.mesa_file_records.specs.mesa_history_spec.Rows.{no_rows}
-use Rattle.mesa_engine.proofs.mesa_invariant_spec.Alike.{due_alike}
 use Rattle.mesa_engine.specs.Engine.{Standing}
 use Rattle.mesa_write_turns.proofs.Keeping.{same_keep}
 use Rattle.mesa_write_turns.proofs.Loads.{all_tell}
 use Rattle.mesa_write_turns.proofs.publishing.publish.Goals as goal
-
-pub skip-requires-clause-due : goal.skip-requires-clause-due
-skip-requires-clause-due g c κs within w =
-    let N = g.N.Naming in
-    record {
-      asked = command.Load c.args.rows.now;
-      stage = Looked;
-      due = due_alike N.script (N.start no_rows) (N.start w) c.args.engine.now.shown.history c.args.who.session c.args.who.command (command.Load c.args.rows.now) Looked (N.alike w) refl c.requires.due;
-      comes = refl;
-    }
-
-pub returns-then-not-running : goal.returns-then-not-running
-returns-then-not-running g c = record { turn = c.skip.ensures.turn Finished; draft = λ low e grew is. absurd (c.skip.ensures.draft low e grew is); disk = λ low e grew is. absurd (c.skip.ensures.disk low e grew is); keeps = same_keep c.args.engine.now.told c.skip.new.self.told c.skip.ensures.told }
 
 pub ready-requires-clause-shaped : goal.ready-requires-clause-shaped
 ready-requires-clause-shaped g c κs within = (c.engine.invariant.vault no_rows false (λ is. absurd cc)).shaped
