@@ -153,7 +153,7 @@ fn swap_in<N: Naming, M: Made, D: Disk<M>, K: Sink>(
     }
 }
 
-// The turn of a work while the sink hasn't failed. What it was handed isn't given back yet.
+// The turn of a work. What it was handed isn't given back yet.
 fn close<N: Naming, M: Made, D: Disk<M>, K: Sink>(
     alloc: Global,
     engine: &mut Engine<N, M, D, K>,
@@ -200,6 +200,7 @@ pub fn complete<N: Naming, M: Made, D: Disk<M>, K: Sink>(
         × ((w : Rows) → N.sound w → HasRange D.Reader.bytes was task (written_at N.script (N.start w) (N.origin w) engine.old.shown.history task.table)) }
     requires told { (w : Rows) → N.sound w → (file : M) → (bytes : List ℕ) × (M.bytes file ≡ Some bytes) }
     requires room { length engine.old.shown.history < N.room }
+    requires runs { engine.old.shown.running ≡ true }
     ensures turn { Takes N.script (N.start no_rows) engine.old.shown engine.new.shown who.session who.command kind.Close Finished }
     ensures disk { AnswersDisk N.script (N.start no_rows) engine.old.shown engine.new.shown (SomeRose engine.old.faults engine.new.faults) }
     ensures draft { AnswersDraft N.script (N.start no_rows) engine.old.shown engine.new.shown who.session ⊥ }
@@ -207,11 +208,6 @@ pub fn complete<N: Naming, M: Made, D: Disk<M>, K: Sink>(
     // Where its claim holds and its turn stands, the range is swapped in: then each file that is there is one that the catalogue, a held pin or an open query names.
     ensures swept { HasStood engine.old.shown engine.new.shown who.session who.command → ClaimHolds engine.old.state (length engine.old.shown.history) (claim_in task) → IsSwept engine.new.told engine.new.state engine.new.shown.history }
 {
-    if !engine.running() {
-        engine.skip(who, Kind::Close);
-        give_back(engine, task);
-        return;
-    }
     close(alloc, engine, who, &task, delta);
     give_back(engine, task);
 }

@@ -1,5 +1,5 @@
 // A work's grant.
-ghost use Rattle.std.specs.Prelude.{◌≡◌, ◌≢◌, ◌+◌, ◌-◌, ◌<◌, ◌≤◌, ◌^◌, ℕ, List, true, length, None, Some, Ok, IfSome, OnSome};
+ghost use Rattle.std.specs.Prelude.{◌≡◌, ◌≢◌, ◌+◌, ◌-◌, ◌<◌, ◌≤◌, ◌^◌, ℕ, List, true, length, None, Some, Ok, IfSome};
 ghost use Rattle.mesa_copy.specs.mesa_compact.Bounded.{IsBounded};
 ghost use Rattle.mesa_write_turns.specs.mesa_history_spec.Machine.{claim_of};
 ghost use Rattle.mesa_write_turns.specs.mesa_history_spec.Run.{First, Granted};
@@ -42,9 +42,9 @@ pub fn grant<N: Naming, M: Made, D: DeltaDisk<M>, K: Sink>(
 ) -> Option<Task<D::Reader>>
     requires due { IsDue N.script (run_at N.script (N.start no_rows) engine.old.shown.history) who.session who.command (command.Work words.now) First }
     requires room { length engine.old.shown.history < N.room }
+    requires runs { engine.old.shown.running ≡ true }
     ensures turn { Takes N.script (N.start no_rows) engine.old.shown engine.new.shown who.session who.command kind.Grant (stage_if claim_in Granted result) }
     ensures disk { AnswersDisk N.script (N.start no_rows) engine.old.shown engine.new.shown (SomeRose engine.old.faults engine.new.faults) }
-    ensures ran { OnSome result (engine.old.shown.running ≡ true) }
     ensures catalogue { engine.new.state.catalogue ≡ engine.old.state.catalogue }
     ensures low { IfSome result (λ t. t.table < TABLES) }
 
@@ -62,10 +62,6 @@ pub fn grant<N: Naming, M: Made, D: DeltaDisk<M>, K: Sink>(
     ensures bounded { (w : Rows) → N.sound w → IfSome result (λ t. IsBounded D.Reader.bytes (meta_at engine.old.state.catalogue t.table).lineage t) }
     ensures range { (w : Rows) → N.sound w → IfSome result (λ t. HasRange D.Reader.bytes (meta_at engine.old.state.catalogue t.table).lineage t (written_at N.script (N.start w) (N.origin w) engine.new.shown.history t.table)) }
 {
-    if !engine.running() {
-        engine.skip(who, Kind::Grant);
-        return None;
-    }
     let at = engine.log.position();
     match claim(&engine.metadata, words.table.as_slice(), at) {
         Ok(claimed) => take(engine, who, claimed, words.parts),
@@ -89,8 +85,8 @@ fn take<N: Naming, M: Made, D: DeltaDisk<M>, K: Sink>(
     requires free { holder engine.old.state.leases claimed.table (length engine.old.shown.history) ≡ None }
     requires opened { engine.old.state.closed ≡ None }
     requires next { next_work (ranges_of (meta_at engine.old.state.catalogue claimed.table)) (meta_at engine.old.state.catalogue claimed.table).oldest (base_before engine.old.state.catalogue.next) ≡ Some claimed.work }
-    requires runs { engine.old.shown.running ≡ true }
     requires room { length engine.old.shown.history < N.room }
+    requires runs { engine.old.shown.running ≡ true }
     ensures turn { Takes N.script (N.start no_rows) engine.old.shown engine.new.shown who.session who.command kind.Grant (stage_if claim_in Granted result) }
     ensures disk { AnswersDisk N.script (N.start no_rows) engine.old.shown engine.new.shown (SomeRose engine.old.faults engine.new.faults) }
     ensures catalogue { engine.new.state.catalogue ≡ engine.old.state.catalogue }

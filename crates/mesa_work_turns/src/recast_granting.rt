@@ -1,5 +1,5 @@
 // A recast's grant.
-ghost use Rattle.std.specs.Prelude.{◌≡◌, ◌≢◌, ◌<◌, ◌≤◌, true, length, None, Ok, IfSome, OnSome};
+ghost use Rattle.std.specs.Prelude.{◌≡◌, ◌≢◌, ◌<◌, ◌≤◌, true, length, None, Ok, IfSome};
 ghost use Rattle.std.specs.List.{AllByRecursion};
 ghost use Rattle.mesa_pick_files.specs.Ranges.{HoldsAll};
 ghost use Rattle.mesa_write_turns.specs.mesa_history_spec.Machine.{recast_claim_of};
@@ -43,9 +43,9 @@ pub fn grant_recast<N: Naming, M: Made, D: DeltaDisk<M>, K: Sink>(
 ) -> Option<Recast<D::Reader>>
     requires due { IsDue N.script (run_at N.script (N.start no_rows) engine.old.shown.history) who.session who.command (command.Recast words.now) First }
     requires room { length engine.old.shown.history < N.room }
+    requires runs { engine.old.shown.running ≡ true }
     ensures turn { Takes N.script (N.start no_rows) engine.old.shown engine.new.shown who.session who.command kind.Grant (stage_if claim_of_recast Granted result) }
     ensures disk { AnswersDisk N.script (N.start no_rows) engine.old.shown engine.new.shown (SomeRose engine.old.faults engine.new.faults) }
-    ensures ran { OnSome result (engine.old.shown.running ≡ true) }
     ensures catalogue { engine.new.state.catalogue ≡ engine.old.state.catalogue }
     ensures low { IfSome result (λ t. t.table < TABLES) }
 
@@ -65,10 +65,6 @@ pub fn grant_recast<N: Naming, M: Made, D: DeltaDisk<M>, K: Sink>(
     ensures bounded { (w : Rows) → N.sound w → IfSome result (IsRecastBounded D.Reader.bytes) }
     ensures ranges { (w : Rows) → N.sound w → IfSome result (λ t. HasItsRanges D.Reader.bytes t (written_at N.script (N.start w) (N.origin w) engine.new.shown.history t.table)) }
 {
-    if !engine.running() {
-        engine.skip(who, Kind::Grant);
-        return None;
-    }
     let alloc = *engine.log.history.allocator();
     let at = engine.log.position();
     match claim_recast(alloc, &engine.metadata, words, at) {
@@ -92,8 +88,8 @@ fn take<N: Naming, M: Made, D: DeltaDisk<M>, K: Sink>(
     requires free { holder engine.old.state.leases claimed.table (length engine.old.shown.history) ≡ None }
     requires opened { engine.old.state.closed ≡ None }
     requires checked { recast_checked (meta_at engine.old.state.catalogue claimed.table).lineage (record { keys = claimed.names.keys; values = claimed.names.values }) ≡ Ok tt }
-    requires runs { engine.old.shown.running ≡ true }
     requires room { length engine.old.shown.history < N.room }
+    requires runs { engine.old.shown.running ≡ true }
     ensures turn { Takes N.script (N.start no_rows) engine.old.shown engine.new.shown who.session who.command kind.Grant (stage_if claim_of_recast Granted result) }
     ensures disk { AnswersDisk N.script (N.start no_rows) engine.old.shown engine.new.shown (SomeRose engine.old.faults engine.new.faults) }
     ensures catalogue { engine.new.state.catalogue ≡ engine.old.state.catalogue }

@@ -1,5 +1,5 @@
 // The renewal of a work and of a recast.
-ghost use Rattle.std.specs.Prelude.{◌≡◌, ◌+◌, ◌<◌, ◌≤◌, ◌^◌, true, length, IfErr, IfSome, OnSome, OnErr, OnOk, Ok, Err};
+ghost use Rattle.std.specs.Prelude.{◌≡◌, ◌+◌, ◌<◌, ◌≤◌, ◌^◌, true, length, IfErr, IfSome, OnErr, OnOk, Ok, Err};
 ghost use Rattle.mesa_write_turns.specs.mesa_history_spec.Legal.{is_work};
 ghost use Rattle.mesa_write_turns.specs.mesa_history_spec.Machine.{Errand};
 ghost use Rattle.mesa_write_turns.specs.mesa_history_spec.Run.{Granted, Renewed};
@@ -57,16 +57,12 @@ fn renew_lease<N: Naming, M: Made, D: Disk<M>, K: Sink>(
     requires due { (c : Command) × (errand : Errand) × (is_work c ≡ true) × IsDue N.script (run_at N.script (N.start no_rows) engine.old.shown.history) who.session who.command c (Granted (claim_with table lease errand)) }
     requires table { table < TABLES }
     requires room { length engine.old.shown.history < N.room }
+    requires runs { engine.old.shown.running ≡ true }
     ensures turn { (c : Command) (errand : Errand) → is_work c ≡ true → IsDue N.script (run_at N.script (N.start no_rows) engine.old.shown.history) who.session who.command c (Granted (claim_with table lease errand))
         → Takes N.script (N.start no_rows) engine.old.shown engine.new.shown who.session who.command kind.Renew (stage_if (λ done. claim_with table lease errand) Renewed result) }
     ensures disk { AnswersDisk N.script (N.start no_rows) engine.old.shown engine.new.shown ⊥ }
-    ensures ran { OnSome result (engine.old.shown.running ≡ true) }
     ensures catalogue { engine.new.state.catalogue ≡ engine.old.state.catalogue }
 {
-    if !engine.running() {
-        engine.skip(who, Kind::Renew);
-        return None;
-    }
     let at = engine.log.position();
     let claimed = claims(&mut engine.metadata, table, lease, at);
     let turn = who.turn(Kind::Renew, Outcome::Stands, engine.disk.clock());
@@ -93,10 +89,10 @@ pub fn renew<N: Naming, M: Made, D: Disk<M>, K: Sink>(
     requires due { IsDue N.script (run_at N.script (N.start no_rows) engine.old.shown.history) who.session who.command (command.Work words.now) (Granted (claim_in task)) }
     requires table { task.table < TABLES }
     requires room { length engine.old.shown.history < N.room }
+    requires runs { engine.old.shown.running ≡ true }
     ensures turn { Takes N.script (N.start no_rows) engine.old.shown engine.new.shown who.session who.command kind.Renew (stage_if claim_in Renewed result) }
     ensures disk { AnswersDisk N.script (N.start no_rows) engine.old.shown engine.new.shown (SomeRose engine.old.faults engine.new.faults) }
     ensures same { IfSome result (λ t. t ≡ task) }
-    ensures ran { OnSome result (engine.old.shown.running ≡ true) }
     ensures catalogue { engine.new.state.catalogue ≡ engine.old.state.catalogue }
 {
     match renew_lease(engine, who, task.table, task.lease) {
@@ -118,10 +114,10 @@ pub fn renew_recast<N: Naming, M: Made, D: Disk<M>, K: Sink>(
     requires due { IsDue N.script (run_at N.script (N.start no_rows) engine.old.shown.history) who.session who.command (command.Recast words.now) (Granted (claim_of_recast task)) }
     requires table { task.table < TABLES }
     requires room { length engine.old.shown.history < N.room }
+    requires runs { engine.old.shown.running ≡ true }
     ensures turn { Takes N.script (N.start no_rows) engine.old.shown engine.new.shown who.session who.command kind.Renew (stage_if claim_of_recast Renewed result) }
     ensures disk { AnswersDisk N.script (N.start no_rows) engine.old.shown engine.new.shown (SomeRose engine.old.faults engine.new.faults) }
     ensures same { IfSome result (λ t. t ≡ task) }
-    ensures ran { OnSome result (engine.old.shown.running ≡ true) }
     ensures catalogue { engine.new.state.catalogue ≡ engine.old.state.catalogue }
 {
     match renew_lease(engine, who, task.table, task.lease) {

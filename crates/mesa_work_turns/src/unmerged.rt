@@ -19,7 +19,6 @@ ghost use Rattle.mesa_write_turns.specs.mesa_invariant_spec.Invariant.{run_at};
 ghost use Rattle.mesa_open_files.specs.Tasks.{claim_in};
 ghost use Rattle.mesa_work_turns.specs.Unmerged.{MergeDiffered, TellsDamage, cause_of, closing_cause, closing_state, unmerged_state};
 
-use crate::give_back;
 use mesa_delta::FileError;
 use mesa_disk::{Disk, Made};
 use mesa_engine::{Engine, Failure, Metadata, Naming, Who};
@@ -106,20 +105,16 @@ pub fn give_up<N: Naming, M: Made, D: Disk<M>, K: Sink>(
     // On a sound store no damage comes of a merge.
     requires undamaged { (w : Rows) → N.sound w → is_damaged (outcome_of (cause_of error)) ≡ false }
     requires room { length engine.old.shown.history < N.room }
+    requires runs { engine.old.shown.running ≡ true }
     ensures turn { Takes N.script (N.start no_rows) engine.old.shown engine.new.shown who.session who.command kind.Close Finished }
     ensures disk { AnswersDisk N.script (N.start no_rows) engine.old.shown engine.new.shown (SomeRose engine.old.faults engine.new.faults) }
     ensures draft { AnswersDraft N.script (N.start no_rows) engine.old.shown engine.new.shown who.session (error ≡ compact.Draft) }
-    ensures state { engine.old.shown.running ≡ true → engine.new.state ≡ closing_state engine.old.state.closed error (engine.old.shown.clock == last) (length engine.old.shown.history) task.table task.lease engine.old.state }
+    ensures state { engine.new.state ≡ closing_state engine.old.state.closed error (engine.old.shown.clock == last) (length engine.old.shown.history) task.table task.lease engine.old.state }
     // It ends as its argument says, unless the vault has closed: with want of memory, a fault or damage only where that has it.
-    ensures outcome { engine.old.shown.running ≡ true → engine.new.shown.history ≡ engine.old.shown.history ++ entry who.session who.command kind.Close (outcome_of (closing_cause engine.old.state.closed error)) engine.new.shown.clock ∷ [] }
+    ensures outcome { engine.new.shown.history ≡ engine.old.shown.history ++ entry who.session who.command kind.Close (outcome_of (closing_cause engine.old.state.closed error)) engine.new.shown.clock ∷ [] }
     // And that is what it prints: no other damage.
-    ensures prints { engine.old.shown.running ≡ true → IsPut (block (entry who.session who.command kind.Close (outcome_of (closing_cause engine.old.state.closed error)) engine.new.shown.clock) (Some (told_at (length engine.old.shown.history) (reply_of (closing_cause engine.old.state.closed error))))) engine.new.shown.running engine.old.sink engine.new.sink }
+    ensures prints { IsPut (block (entry who.session who.command kind.Close (outcome_of (closing_cause engine.old.state.closed error)) engine.new.shown.clock) (Some (told_at (length engine.old.shown.history) (reply_of (closing_cause engine.old.state.closed error))))) engine.new.shown.running engine.old.sink engine.new.sink }
 {
-    if !engine.running() {
-        engine.skip(who, Kind::Close);
-        give_back(engine, task);
-        return;
-    }
     may_be_told(&error);
     let at = engine.log.position();
     let table = task.table;

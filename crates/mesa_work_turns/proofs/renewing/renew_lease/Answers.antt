@@ -20,19 +20,6 @@ use Rattle.mesa_work_turns.specs.Claims.{claim_with}
 use Rattle.mesa_work_turns.proofs.Renewals.{lost_engine, lost_takes, renewed_engine, renewed_takes}
 use Rattle.mesa_work_turns.proofs.renewing.renew_lease.Goals as goal
 
-pub skip-requires-clause-due : goal.skip-requires-clause-due
-skip-requires-clause-due g c κs within w =
-    let N = g.N.Naming in
-    record {
-      asked = c.requires.due.0;
-      stage = Granted (claim_with c.args.table c.args.lease c.requires.due.1);
-      due = due_alike N.script (N.start no_rows) (N.start w) c.args.engine.now.shown.history c.args.who.session c.args.who.command c.requires.due.0 (Granted (claim_with c.args.table c.args.lease c.requires.due.1)) (N.alike w) refl c.requires.due.3;
-      comes = refl;
-    }
-
-pub returns-then-not-running-clause-turn : goal.returns-then-not-running-clause-turn
-returns-then-not-running-clause-turn g c = λ asked errand one due. c.skip.ensures.turn Finished
-
 pub invariant_of-engine : goal.invariant_of-engine
 invariant_of-engine g c =
     let N = g.N.Naming in
@@ -46,7 +33,7 @@ invariant_of-engine g c =
     let h = i.log.history.items in
     let short : IsShort (entry s number kind.Renew outcome.Stands c.clock.result) = subst IsShort c.turn-turn.ensures.same c.turn-turn.ensures.short in
     let due : IsDue N.script (run_at N.script (N.start no_rows) h) s number asked (Granted claim) = subst (λ (x : Standing). IsDue N.script (run_at N.script (N.start no_rows) x.shown.history) s number asked (Granted claim)) (sym c.engine.view_is) c.requires.due.3 in
-    let ran : not i.log.printer.broken ≡ true = ap (λ (x : Standing). x.shown.running) c.engine.view_is ∙ sym c.running.ensures ∙ c.if-not-running.false in
+    let ran : not i.log.printer.broken ≡ true = ap (λ (x : Standing). x.shown.running) c.engine.view_is ∙ c.requires.runs in
     renewed_engine g.K.Sink.held g.K.Sink.faults n N.room N.sink_faults i.metadata c.claims-claimed.new.metadata (g.D.Disk.story i.disk) i.log c.pass.new.self c.engine.invariant s number short.session short.command asked one c.clock.result c.clock.ensures ran c.position-at.result c.position-at.ensures claim
     (λ w. due_alike N.script (N.start no_rows) (N.start w) h s number asked (Granted claim) (N.alike w) refl due)
     (c.pass.ensures.items ∙ ap (λ x. h ++ x ∷ []) c.turn-turn.ensures.same) c.pass.ensures.room c.in-Ok.ensures.held c.in-Ok.ensures.renewed c.pass.ensures.printer c.pass.ensures.refused
@@ -65,7 +52,7 @@ invariant_of-engine-in-Err g c =
     let later = c.tell.new.self in
     let short : IsShort (entry s number kind.Renew outcome.Stands c.clock.result) = subst IsShort c.turn-turn.ensures.same c.turn-turn.ensures.short in
     let due : IsDue N.script (run_at N.script (N.start no_rows) h) s number asked (Granted claim) = subst (λ (x : Standing). IsDue N.script (run_at N.script (N.start no_rows) x.shown.history) s number asked (Granted claim)) (sym c.engine.view_is) c.requires.due.3 in
-    let ran : not i.log.printer.broken ≡ true = ap (λ (x : Standing). x.shown.running) c.engine.view_is ∙ sym c.running.ensures ∙ c.if-not-running.false in
+    let ran : not i.log.printer.broken ≡ true = ap (λ (x : Standing). x.shown.running) c.engine.view_is ∙ c.requires.runs in
     let prints = subst (λ x. PrintsBlock g.K.Sink.held g.K.Sink.faults i.log.printer later.printer x (told_at c.position-at.result (reply.Refused c.in-Err.refusal))) c.turn-turn.ensures.same (c.tell.ensures.told no_lines refl) in
     lost_engine g.K.Sink.held g.K.Sink.faults n N.room N.sink_faults i.metadata c.claims-claimed.new.metadata (g.D.Disk.story i.disk) i.log later c.engine.invariant s number short.session short.command asked one c.clock.result c.clock.ensures ran c.position-at.result c.position-at.ensures claim
     (λ w. due_alike N.script (N.start no_rows) (N.start w) h s number asked (Granted claim) (N.alike w) refl due)
@@ -85,7 +72,7 @@ returns-in-Ok-clause-turn g c = λ asked errand one due_old.
     let held = g.K.Sink.held i.log.printer.sink in
     let short : IsShort (entry s number kind.Renew outcome.Stands c.clock.result) = subst IsShort c.turn-turn.ensures.same c.turn-turn.ensures.short in
     let due : IsDue N.script (run_at N.script (N.start no_rows) h) s number asked (Granted claim) = subst (λ (x : Standing). IsDue N.script (run_at N.script (N.start no_rows) x.shown.history) s number asked (Granted claim)) (sym c.engine.view_is) due_old in
-    let ran : not i.log.printer.broken ≡ true = ap (λ (x : Standing). x.shown.running) c.engine.view_is ∙ sym c.running.ensures ∙ c.if-not-running.false in
+    let ran : not i.log.printer.broken ≡ true = ap (λ (x : Standing). x.shown.running) c.engine.view_is ∙ c.requires.runs in
     let grew = c.pass.ensures.items ∙ ap (λ x. h ++ x ∷ []) c.turn-turn.ensures.same in
     let kept = renewed_engine g.K.Sink.held g.K.Sink.faults n N.room N.sink_faults i.metadata c.claims-claimed.new.metadata story i.log later c.engine.invariant s number short.session short.command asked one c.clock.result c.clock.ensures ran c.position-at.result c.position-at.ensures claim
     (λ w. due_alike N.script (N.start no_rows) (N.start w) h s number asked (Granted claim) (N.alike w) refl due)
@@ -110,7 +97,7 @@ returns-in-Err-clause-turn g c = λ asked errand one due_old.
     let held = g.K.Sink.held i.log.printer.sink in
     let short : IsShort (entry s number kind.Renew outcome.Stands c.clock.result) = subst IsShort c.turn-turn.ensures.same c.turn-turn.ensures.short in
     let due : IsDue N.script (run_at N.script (N.start no_rows) h) s number asked (Granted claim) = subst (λ (x : Standing). IsDue N.script (run_at N.script (N.start no_rows) x.shown.history) s number asked (Granted claim)) (sym c.engine.view_is) due_old in
-    let ran : not i.log.printer.broken ≡ true = ap (λ (x : Standing). x.shown.running) c.engine.view_is ∙ sym c.running.ensures ∙ c.if-not-running.false in
+    let ran : not i.log.printer.broken ≡ true = ap (λ (x : Standing). x.shown.running) c.engine.view_is ∙ c.requires.runs in
     let grew = c.tell.ensures.items ∙ ap (λ x. h ++ x ∷ []) c.turn-turn.ensures.same in
     let prints = subst (λ x. PrintsBlock g.K.Sink.held g.K.Sink.faults i.log.printer later.printer x (told_at c.position-at.result (reply.Refused c.in-Err.refusal))) c.turn-turn.ensures.same (c.tell.ensures.told no_lines refl) in
     let kept = lost_engine g.K.Sink.held g.K.Sink.faults n N.room N.sink_faults i.metadata c.claims-claimed.new.metadata story i.log later c.engine.invariant s number short.session short.command asked one c.clock.result c.clock.ensures ran c.position-at.result c.position-at.ensures claim

@@ -35,31 +35,6 @@ use Rattle.mesa_work_turns.proofs.unmerged.give_up.Goals as goal
 abbrev closed_of : EngineState → Option ℕ
 closed_of l = l.closed
 
-pub skip-requires-clause-due : goal.skip-requires-clause-due
-skip-requires-clause-due g c κs within w =
-    let N = g.N.Naming in
-    record {
-      asked = command.Work c.args.words.now;
-      stage = Granted (claim_in c.args.task);
-      due = due_alike N.script (N.start no_rows) (N.start w) c.args.engine.now.shown.history c.args.who.session c.args.who.command (command.Work c.args.words.now) (Granted (claim_in c.args.task)) (N.alike w) refl c.requires.due;
-      comes = refl;
-    }
-
-pub returns-then-not-running-clause-turn : goal.returns-then-not-running-clause-turn
-returns-then-not-running-clause-turn g c =
-    let N = g.N.Naming in
-    subst (λ (x : Shown). Takes N.script (N.start no_rows) c.args.engine.now.shown x c.args.who.session c.args.who.command kind.Close Finished) (sym c.give_back.ensures.shown) (c.skip.ensures.turn Finished)
-
-pub returns-then-not-running-clause-disk : goal.returns-then-not-running-clause-disk
-returns-then-not-running-clause-disk g c =
-    let N = g.N.Naming in
-    subst (λ (x : Shown). AnswersDisk N.script (N.start no_rows) c.args.engine.now.shown x (SomeRose c.args.engine.now.faults c.give_back.new.engine.faults)) (sym c.give_back.ensures.shown) (λ low e grew is. absurd (c.skip.ensures.disk low e grew is))
-
-pub returns-then-not-running-clause-draft : goal.returns-then-not-running-clause-draft
-returns-then-not-running-clause-draft g c =
-    let N = g.N.Naming in
-    subst (λ (x : Shown). AnswersDraft N.script (N.start no_rows) c.args.engine.now.shown x c.args.who.session (c.args.error ≡ compact.Draft)) (sym c.give_back.ensures.shown) (λ low e grew is. absurd (c.skip.ensures.draft low e grew is))
-
 due_at : (g : _) (c : goal.After-fail g)
     → IsDue g.N.Naming.script (run_at g.N.Naming.script (g.N.Naming.start no_rows) c.engine.inside.log.history.items) c.args.who.session c.args.who.command (command.Work c.args.words.now) (Granted (claim_in c.args.task))
 due_at g c =
@@ -67,7 +42,7 @@ due_at g c =
     (sym c.engine.view_is) c.requires.due
 
 runs : (g : _) (c : goal.After-fail g) → not c.engine.inside.log.printer.broken ≡ true
-runs g c = ap (λ (s : Standing). s.shown.running) c.engine.view_is ∙ sym c.running.ensures ∙ c.if-not-running.false
+runs g c = ap (λ (s : Standing). s.shown.running) c.engine.view_is ∙ c.requires.runs
 
 kept : (g : _) (c : goal.After-fail g)
     → IsEngine g.K.Sink.held g.K.Sink.faults (starts_of g.N.Naming.script g.N.Naming.start g.N.Naming.sound g.N.Naming.origin g.N.Naming.since g.N.Naming.counted g.N.Naming.at_start) g.N.Naming.room g.N.Naming.sink_faults c.fall-failure.new.metadata (g.D.Disk.story c.retire_task.new.disk) c.fail.new.self
@@ -115,7 +90,7 @@ returns-clause-turn g c =
     (vault_at_seen n c.fall-failure.new.metadata.state new_story (g.K.Sink.held later.printer.sink) later.history.items (not later.printer.broken) later.refused new_story.moment (kept g c).vault))
 
 pub returns-clause-state : goal.returns-clause-state
-returns-clause-state g c ran =
+returns-clause-state g c =
     let task = c.args.task in
     let state = ap (λ (x : Standing). x.state) c.engine.view_is in
     let clock = c.clock-moment.ensures ∙ c.retire_task.ensures.unmoved.moment ∙ ap (λ (x : Standing). x.shown.clock) c.engine.view_is in
@@ -161,22 +136,16 @@ returns-clause-disk g c =
     (disk_caused N.script (N.start no_rows) (record { history = h; running = not i.log.printer.broken; clock = story.moment }) new e c.fail.ensures.items story new_story refl cause refl counts
     (λ below unwritten. not_closing (run_at N.script (N.start no_rows) h).moment story.moment e (c.engine.invariant.vault no_rows false (λ z. absurd cc)).invariant.at there (c.clock-moment.ensures ∙ same) (omega (arith, below, same))))
 
-pub returns-then-not-running-clause-outcome : goal.returns-then-not-running-clause-outcome
-returns-then-not-running-clause-outcome g c on = absurd (let no : true ≡ false = sym on ∙ sym c.running.ensures ∙ c.if-not-running.true in cc)
-
 pub returns-clause-outcome : goal.returns-clause-outcome
-returns-clause-outcome g c on =
+returns-clause-outcome g c =
     let h = c.engine.inside.log.history.items in
     let who = c.args.who in
     let now = (g.D.Disk.story c.retire_task.new.disk).moment in
     subst (λ (x : Standing). c.fail.new.self.history.items ≡ x.shown.history ++ entry who.session who.command kind.Close (outcome_of (closing_cause x.state.closed c.args.error)) now ∷ []) c.engine.view_is
     (c.fail.ensures.items ∙ (λ j. h ++ entry who.session who.command kind.Close (outcome_of (c.fall-failure.ensures.cause j)) (c.clock-moment.ensures j) ∷ []))
 
-pub returns-then-not-running-clause-prints : goal.returns-then-not-running-clause-prints
-returns-then-not-running-clause-prints g c on = absurd (let no : true ≡ false = sym on ∙ sym c.running.ensures ∙ c.if-not-running.true in cc)
-
 pub returns-clause-prints : goal.returns-clause-prints
-returns-clause-prints g c on =
+returns-clause-prints g c =
     let i = c.engine.inside in
     let h = i.log.history.items in
     let who = c.args.who in
