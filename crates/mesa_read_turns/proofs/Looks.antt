@@ -1,5 +1,5 @@
 -- How a look keeps a vault.
-use Rattle.std.proofs.Common.{◌≡◌, ℕ, ◌<◌, ◌^◌, List, [], ◌∷◌, ◌++◌, Bool, true, false, not, refl, Option, IsTrue}
+use Rattle.std.proofs.Common.{◌≡◌, ℕ, ◌<◌, ◌^◌, List, [], ◌∷◌, ◌++◌, Bool, true, false, refl, subst, Option, IsTrue}
 use Rattle.mesa_batch.specs.declared.words.RowWords.{RowWords}
 use Rattle.mesa_disk.specs.Story.{Story}
 use Rattle.mesa_model.specs.declared.commands.Command.{Command}
@@ -31,15 +31,15 @@ load_of (command.Expire table version) is = absurd cc
 load_of (command.Work words) is = absurd cc
 load_of (command.Recast words) is = absurd cc
 
--- a look is skipped exactly where the sink has failed
-pub skips : (running found : Bool) → is_skip (looking running found) ≡ not running
-skips true true = refl
-skips true false = refl
-skips false found = refl
+-- a look isn't skipped while the sink hasn't failed
+pub skips : (found : Bool) → is_skip (looking true found) ≡ false
+skips true = refl
+skips false = refl
 
 pub looked_vault : (o : Outset) (g : Origin) (sound : Bool) (l : EngineState) (story : Story) (held : Option (List ℕ)) (h : List Entry) (running refused : Bool) → IsVault o g sound l story held h running refused
-    → (s number : ℕ) → s < 2 ^ 16 → number < 2 ^ 32 → (m : ℕ) → m ≡ story.moment → (rows : List RowWords) → IsDue o.script (run_of o h) s number (command.Load rows) First → (found : Bool)
-    → IsVault o g sound l story held (h ++ entry s number kind.Look (looking running found) m ∷ []) running refused
-looked_vault o g sound l story held h running refused v s number low few m moment rows due found =
-    still_vault o g sound l story held h running refused v (entry s number kind.Look (looking running found) m) story held running refused (stays story)
-    (look_turn o sound (books_of v.rows l) story held h running refused v.invariant s number low few m moment rows due found)
+    → (s number : ℕ) → s < 2 ^ 16 → number < 2 ^ 32 → (m : ℕ) → m ≡ story.moment → running ≡ true → (rows : List RowWords) → IsDue o.script (run_of o h) s number (command.Load rows) First → (found : Bool)
+    → IsVault o g sound l story held (h ++ entry s number kind.Look (looking true found) m ∷ []) running refused
+looked_vault o g sound l story held h running refused v s number low few m moment ran rows due found =
+    subst (λ (b : Bool). IsVault o g sound l story held (h ++ entry s number kind.Look (looking b found) m ∷ []) running refused) ran
+    (still_vault o g sound l story held h running refused v (entry s number kind.Look (looking running found) m) story held running refused (stays story)
+    (look_turn o sound (books_of v.rows l) story held h running refused v.invariant s number low few m moment rows due found))

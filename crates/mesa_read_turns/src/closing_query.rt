@@ -18,7 +18,6 @@ ghost use Rattle.mesa_engine.specs.mesa_invariant_spec.Undamaged.{is_damaged};
 ghost use Rattle.mesa_engine.specs.mesa_invariant_spec.Invariant.{run_at};
 
 use crate::damages::may_be_told;
-use crate::give_back;
 use mesa_delta::FileError;
 use mesa_disk::{Disk, Made};
 use mesa_engine::{Engine, Failure, Log, Naming, Who};
@@ -84,21 +83,17 @@ pub fn close_query<N: Naming, M: Made, D: Disk<M>, K: Sink>(
     // Nor does damage come in its place.
     requires undamaged { (w : Rows) → N.sound w → is_damaged (closing_outcome (cause_if answered)) ≡ false }
     requires room { length engine.old.shown.history < N.room }
+    requires runs { engine.old.shown.running ≡ true }
     ensures turn { Takes N.script (N.start no_rows) engine.old.shown engine.new.shown who.session who.command kind.Close Finished }
     ensures disk { AnswersDisk N.script (N.start no_rows) engine.old.shown engine.new.shown (SomeRose engine.old.faults engine.new.faults) }
     // It ends as its answer says: with want of memory, a fault or damage only where that has it.
-    ensures outcome { engine.old.shown.running ≡ true → engine.new.shown.history ≡ engine.old.shown.history ++ closing_entry who.session who.command answered engine.new.shown.clock ∷ [] }
+    ensures outcome { engine.new.shown.history ≡ engine.old.shown.history ++ closing_entry who.session who.command answered engine.new.shown.clock ∷ [] }
     // And it prints that answer, or of what kept it back what was handed in: no other damage.
-    ensures prints { engine.old.shown.running ≡ true → IsPut (closing_text (closing_entry who.session who.command answered engine.new.shown.clock) pinned.at pinned.version answered) engine.new.shown.running engine.old.sink engine.new.sink }
-    // What the query held is given back, unless the sink had failed.
-    ensures state { engine.old.shown.running ≡ true → engine.new.state ≡ answered_state engine.old.state (is_of_another who.session) }
+    ensures prints { IsPut (closing_text (closing_entry who.session who.command answered engine.new.shown.clock) pinned.at pinned.version answered) engine.new.shown.running engine.old.sink engine.new.sink }
+    // What the query held is given back.
+    ensures state { engine.new.state ≡ answered_state engine.old.state (is_of_another who.session) }
     ensures catalogue { engine.new.state.catalogue ≡ engine.old.state.catalogue }
 {
-    if !engine.running() {
-        engine.skip(who, Kind::Close);
-        give_back(engine, pinned);
-        return;
-    }
     may_be_told(&answered);
     let at = pinned.at;
     let version = pinned.version;

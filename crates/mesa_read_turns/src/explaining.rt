@@ -1,5 +1,5 @@
 // A plan that is told.
-ghost use Rattle.std.specs.Prelude.{◌≡◌, ◌<◌, false, length, IfErr, IfOk, Ok};
+ghost use Rattle.std.specs.Prelude.{◌≡◌, ◌<◌, true, false, length, IfErr, IfOk, Ok};
 ghost use Rattle.mesa_engine.specs.Failing.{is_of_device};
 ghost use Rattle.mesa_engine.specs.mesa_history_spec.Machine.{explained};
 ghost use Rattle.mesa_engine.specs.mesa_history_spec.Replay.{no_rows as no_heading};
@@ -54,15 +54,12 @@ pub fn explain<N: Naming, M: Made, D: Disk<M>, K: Sink>(
 )
     requires due { IsDue N.script (run_at N.script (N.start no_rows) engine.old.shown.history) who.session who.command (command.Explain words.now) First }
     requires room { length engine.old.shown.history < N.room }
+    requires runs { engine.old.shown.running ≡ true }
     ensures turn { Takes N.script (N.start no_rows) engine.old.shown engine.new.shown who.session who.command kind.Decide Finished }
     ensures disk { AnswersDisk N.script (N.start no_rows) engine.old.shown engine.new.shown ⊥ }
     ensures told { engine.new.told ≡ engine.old.told }
     ensures state { engine.new.state ≡ engine.old.state }
 {
-    if !engine.running() {
-        engine.skip(who, Kind::Decide);
-        return;
-    }
     let found = match planned(alloc, &engine.metadata, words) {
         Ok(found) => found,
         Err(failure) => return engine.fail(who, Kind::Decide, failure),

@@ -8,7 +8,7 @@ use mesa_io::Sink;
 use mesa_open_files::{Pinned, retire_pinned};
 
 /// Gives back the readers of a query. Those that have failed are counted by the disk.
-pub fn give_back<N: Naming, M: Made, D: Disk<M>, K: Sink>(
+pub fn give_back_query<N: Naming, M: Made, D: Disk<M>, K: Sink>(
     engine: &mut Engine<N, M, D, K>,
     pinned: Pinned<D::Reader>,
 )

@@ -20,7 +20,7 @@ pub use allowed_query::{Asked, ask};
 pub use closing_query::close_query;
 pub use damages::can_be_told;
 pub use explaining::explain;
-pub use giving_back::give_back;
+pub use giving_back::give_back_query;
 pub use looking::look;
 pub use opening_query::pin_query;
 pub use pinning::pin;

@@ -1,5 +1,5 @@
 // A load's first turn.
-ghost use Rattle.std.specs.Prelude.{◌≡◌, ◌<◌, true, length, IfOk, OnOk};
+ghost use Rattle.std.specs.Prelude.{◌≡◌, ◌<◌, true, length, IfOk};
 ghost use Rattle.mesa_batch.specs.Glance.{tables_of};
 ghost use Rattle.mesa_engine.specs.mesa_catalog.Lookups.{sight_of};
 ghost use Rattle.mesa_engine.specs.mesa_history_spec.Run.{First, Looked};
@@ -18,12 +18,9 @@ use mesa_model::{Kind, Outcome};
 use std::alloc::AllocError;
 
 // How a look ends.
-fn looking(running: bool, found: bool) -> Outcome
-    ensures { result ≡ spec.looking running found }
+fn looking(found: bool) -> Outcome
+    ensures { result ≡ spec.looking true found }
 {
-    if !running {
-        return Outcome::Skipped;
-    }
     if found {
         Outcome::Stands
     } else {
@@ -31,31 +28,22 @@ fn looking(running: bool, found: bool) -> Outcome
     }
 }
 
-/// A load's first turn: what it sees of the tables, unless the sink has failed or there is no memory.
+/// A load's first turn: what it sees of the tables, unless there is no memory.
 pub fn look<N: Naming, M: Made, D: Disk<M>, K: Sink>(
     engine: &mut Engine<N, M, D, K>,
     who: Who,
 ) -> Result<Glance, AllocError>
     requires due { Asks N.script (run_at N.script (N.start no_rows) engine.old.shown.history) who.session who.command First is_load }
     requires room { length engine.old.shown.history < N.room }
+    requires runs { engine.old.shown.running ≡ true }
     ensures turn { Takes N.script (N.start no_rows) engine.old.shown engine.new.shown who.session who.command kind.Look Looked }
     ensures disk { AnswersDisk N.script (N.start no_rows) engine.old.shown engine.new.shown ⊥ }
     ensures glance { IfOk result (λ g. g ≡ sight_of engine.new.state.catalogue) }
     ensures tables { IfOk result (λ g. tables_of g ≡ tables_seen (run_at N.script (N.start no_rows) engine.new.shown.history)) }
-    ensures ran { OnOk result (engine.old.shown.running ≡ true) }
     ensures state { engine.new.state ≡ engine.old.state }
 {
-    let running = engine.running();
-    let glance = if running {
-        engine.glance()
-    } else {
-        Err(AllocError)
-    };
-    let turn = who.turn(
-        Kind::Look,
-        looking(running, glance.is_ok()),
-        engine.disk.clock(),
-    );
+    let glance = engine.glance();
+    let turn = who.turn(Kind::Look, looking(glance.is_ok()), engine.disk.clock());
     engine.log.pass(turn);
     glance
 }

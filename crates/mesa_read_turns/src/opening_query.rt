@@ -29,6 +29,7 @@ pub fn pin_query<N: Naming, M: Made, D: DeltaDisk<M>, K: Sink>(
 ) -> Option<Pinned<D::Reader>>
     requires due { IsDue N.script (run_at N.script (N.start no_rows) engine.old.shown.history) who.session who.command (command.Query words.now) First }
     requires room { length engine.old.shown.history < N.room }
+    requires runs { engine.old.shown.running ≡ true }
     // Whatever rows the files had when the run began, the query is answered at its files' version, under their heading, and not closed; on a sound store its files tell the answer.
     ensures opened { IfSome result (λ p. IsOpen N.script N.start engine.new.shown.history who.session who.command words.now p.at (λ w answer. IsHeaded p.query p.version answer × (N.sound w → Tells D.Reader.bytes p answer))) }
     ensures pinned { IfSome result (λ p. (s : Columns) × IsPinned D.Reader.bytes s p) }
@@ -36,17 +37,12 @@ pub fn pin_query<N: Naming, M: Made, D: DeltaDisk<M>, K: Sink>(
     ensures files { IfSome result (HasItsFiles D.Reader.bytes D.Reader.faults engine.old.told engine.old.state who.session words.now) }
     ensures turn { OnSome result (IsTurn engine.old.shown engine.new.shown who.session who.command kind.Decide) }
     ensures seen { IsSeen N.script (N.start no_rows) engine.new.shown }
-    ensures ran { OnSome result (engine.old.shown.running ≡ true) }
     ensures held { OnSome result (engine.new.state ≡ asked_state engine.old.state who.session words.now.version (length engine.old.shown.history)) }
     // Or it is over.
     ensures over { IfNone result (Takes N.script (N.start no_rows) engine.old.shown engine.new.shown who.session who.command kind.Decide Finished) }
     ensures kept { IfNone result (engine.new.state ≡ engine.old.state) }
     ensures disk { AnswersDisk N.script (N.start no_rows) engine.old.shown engine.new.shown (SomeRose engine.old.faults engine.new.faults) }
 {
-    if !engine.running() {
-        engine.skip(who, Kind::Decide);
-        return None;
-    }
     let alloc = *engine.log.history.allocator();
     let at = engine.log.position();
     let held = hold_files(

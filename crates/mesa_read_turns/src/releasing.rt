@@ -1,5 +1,5 @@
 // A pin's release.
-ghost use Rattle.std.specs.Prelude.{◌≡◌, ◌<◌, length, IfErr, OnOk, None, Err};
+ghost use Rattle.std.specs.Prelude.{◌≡◌, ◌<◌, true, length, IfErr, OnOk, None, Err};
 ghost use Rattle.mesa_engine.specs.mesa_history_spec.Run.{First, Finished};
 ghost use Rattle.mesa_engine.specs.mesa_history_spec.Turns.{IsDue};
 ghost use Rattle.mesa_engine.specs.EngineState.{books_of};
@@ -37,15 +37,12 @@ pub fn release<N: Naming, M: Made, D: Disk<M>, K: Sink>(
 )
     requires due { IsDue N.script (run_at N.script (N.start no_rows) engine.old.shown.history) who.session who.command (command.Release token) First }
     requires room { length engine.old.shown.history < N.room }
+    requires runs { engine.old.shown.running ≡ true }
     ensures turn { Takes N.script (N.start no_rows) engine.old.shown engine.new.shown who.session who.command kind.Decide Finished }
     ensures disk { AnswersDisk N.script (N.start no_rows) engine.old.shown engine.new.shown ⊥ }
     ensures told { engine.new.told ≡ engine.old.told }
     ensures catalogue { engine.new.state.catalogue ≡ engine.old.state.catalogue }
 {
-    if !engine.running() {
-        engine.skip(who, Kind::Decide);
-        return;
-    }
     if let Err(refusal) = check_release(&engine.metadata, who.session, token) {
         return engine.fail(who, Kind::Decide, Failure::Refused(refusal));
     }

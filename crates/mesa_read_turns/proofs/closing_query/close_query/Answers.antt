@@ -1,8 +1,7 @@
-use Rattle.std.proofs.Common.{◌≡◌, ◌∷◌, ◌++◌, [], true, false, not, refl, sym, ◌∙◌, ap, subst}
+use Rattle.std.proofs.Common.{◌≡◌, ◌∷◌, ◌++◌, [], true, not, refl, sym, ◌∙◌, ap, subst}
 use Rattle.mesa_engine.specs.mesa_history_spec.Replay.{closes}
-use Rattle.mesa_engine.specs.mesa_history_spec.Run.{Answered, Finished}
+use Rattle.mesa_engine.specs.mesa_history_spec.Run.{Finished}
 use Rattle.mesa_model.specs.Query.{Answer}
-use Rattle.mesa_model.specs.declared.commands.Command.TheVariants as command
 use Rattle.mesa_model.specs.declared.entries.Kind.TheVariants as kind
 use Rattle.mesa_engine.specs.mesa_history_spec.Rows.{Rows, no_rows}
 use Rattle.mesa_engine.specs.Vault.{Starts}
@@ -18,21 +17,6 @@ use Rattle.mesa_read_turns.specs.Closing.{IsPageOf, IsSomePageOf, IsToClose, cau
 use Rattle.mesa_read_turns.proofs.Closes.{closed_engine, closed_takes, closing_answers, given_counts, shows_answer, tells_answer}
 use Rattle.mesa_read_turns.proofs.closing_query.close_query.Goals as goal
 
-pub skip-requires-clause-due : goal.skip-requires-clause-due
-skip-requires-clause-due g c κs within w =
-    let due = c.requires.due w in
-    record { asked = command.Query due.words; stage = Answered c.args.pinned.at due.opened.answer; due = due.opened.due; comes = refl }
-
-pub returns-then-not-running-clause-turn : goal.returns-then-not-running-clause-turn
-returns-then-not-running-clause-turn g c =
-    let N = g.N.Naming in
-    subst (λ (x : Shown). Takes N.script (N.start no_rows) c.args.engine.now.shown x c.args.who.session c.args.who.command kind.Close Finished) (sym c.give_back.ensures.shown) (c.skip.ensures.turn Finished)
-
-pub returns-then-not-running-clause-disk : goal.returns-then-not-running-clause-disk
-returns-then-not-running-clause-disk g c =
-    let N = g.N.Naming in
-    subst (λ (x : Shown). AnswersDisk N.script (N.start no_rows) c.args.engine.now.shown x (SomeRose c.args.engine.now.faults c.give_back.new.engine.faults)) (sym c.give_back.ensures.shown) (λ low e grew is. absurd (c.skip.ensures.disk low e grew is))
-
 due_at : (g : _) (c : goal.After-print g) (w : Rows)
     → IsToClose g.N.Naming.script (run_at g.N.Naming.script (g.N.Naming.start w) c.engine.inside.log.history.items) c.args.who.session c.args.who.command c.args.pinned.at
     (λ (answer : Answer). IsSomePageOf c.args.answered c.args.pinned.version answer × (g.N.Naming.sound w → IsPageOf c.args.answered c.args.pinned.version answer))
@@ -41,7 +25,7 @@ due_at g c w =
     (λ (answer : Answer). IsSomePageOf c.args.answered c.args.pinned.version answer × (g.N.Naming.sound w → IsPageOf c.args.answered c.args.pinned.version answer))) (sym c.engine.view_is) (c.requires.due w)
 
 runs : (g : _) (c : goal.After-print g) → not c.engine.inside.log.printer.broken ≡ true
-runs g c = ap (λ (s : Standing). s.shown.running) c.engine.view_is ∙ sym c.running.ensures ∙ c.if-not-running.false
+runs g c = ap (λ (s : Standing). s.shown.running) c.engine.view_is ∙ c.requires.runs
 
 moment_is : (g : _) (c : goal.After-print g) → c.clock-moment.result ≡ (g.D.Disk.story c.engine.inside.disk).moment
 moment_is g c = c.clock-moment.ensures ∙ c.retire_pinned.ensures.unmoved.moment
@@ -89,11 +73,8 @@ returns-clause-turn g c =
     (c.print.ensures.items ∙ ap (λ x. h ++ closing_entry s number c.args.answered x ∷ []) c.clock-moment.ensures) (runs g c)
     (vault_at_seen n c.close_query.new.self.state new_story (g.K.Sink.held later.printer.sink) later.history.items (not later.printer.broken) later.refused new_story.moment (kept g c).vault))
 
-pub returns-then-not-running-clause-outcome : goal.returns-then-not-running-clause-outcome
-returns-then-not-running-clause-outcome g c on = absurd (let no : true ≡ false = sym on ∙ sym c.running.ensures ∙ c.if-not-running.true in cc)
-
 pub returns-clause-outcome : goal.returns-clause-outcome
-returns-clause-outcome g c on =
+returns-clause-outcome g c =
     let h = c.engine.inside.log.history.items in
     let s = c.args.who.session in
     let number = c.args.who.command in
@@ -117,11 +98,8 @@ returns-clause-disk g c =
     (disk_counted N.script (N.start no_rows) (record { history = h; running = not i.log.printer.broken; clock = story.moment }) new e c.print.ensures.items story new_story refl
     (subst (Counts story new_story) (sym (closing_answers (closes (run_at N.script (N.start no_rows) h).moment e) answered)) counts))
 
-pub returns-then-not-running-clause-prints : goal.returns-then-not-running-clause-prints
-returns-then-not-running-clause-prints g c on = absurd (let no : true ≡ false = sym on ∙ sym c.running.ensures ∙ c.if-not-running.true in cc)
-
 pub returns-clause-prints : goal.returns-clause-prints
-returns-clause-prints g c on =
+returns-clause-prints g c =
     let s = c.args.who.session in
     let number = c.args.who.command in
     let answered = c.args.answered in

@@ -25,22 +25,6 @@ use Rattle.mesa_engine.specs.mesa_invariant_spec.Queries.{HasNoAnswer, IsOpen}
 use Rattle.mesa_engine.specs.mesa_invariant_spec.Turns.{AnswersDisk, Shown, SomeRose, Takes, entry, faults_of}
 use Rattle.mesa_engine.specs.mesa_invariant_spec.Invariant.{run_at}
 
-pub skip-requires-clause-due : goal.skip-requires-clause-due
-skip-requires-clause-due g c κs within w =
-    let N = g.N.Naming in
-    record {
-      asked = command.Query c.args.words.now;
-      stage = First;
-      due = due_alike N.script (N.start no_rows) (N.start w) c.args.engine.now.shown.history c.args.who.session c.args.who.command (command.Query c.args.words.now) First (N.alike w) refl c.requires.due;
-      comes = refl;
-    }
-
-pub returns-then-not-running-clause-over : goal.returns-then-not-running-clause-over
-returns-then-not-running-clause-over g c = c.skip.ensures.turn Finished
-
-pub returns-then-not-running-clause-seen : goal.returns-then-not-running-clause-seen
-returns-then-not-running-clause-seen g c = (c.skip.ensures.turn Finished).seen
-
 pub hold_files-held-requires-after_bounds : goal.hold_files-held-requires-after_bounds
 hold_files-held-requires-after_bounds g c κs within = λ k is.
     let N = g.N.Naming in
@@ -48,9 +32,6 @@ hold_files-held-requires-after_bounds g c κs within = λ k is.
     let i = c.engine.inside in
     asked_shaped (outset_of n no_rows) (n.origin no_rows) false i.metadata.state (g.D.Disk.story i.disk) (g.K.Sink.held i.log.printer.sink) i.log.history.items (not i.log.printer.broken) i.log.refused (c.engine.invariant.vault no_rows false (λ z. absurd cc))
     c.args.who.session c.args.words.now.version k is
-
-pub returns-then-not-running-clause-disk : goal.returns-then-not-running-clause-disk
-returns-then-not-running-clause-disk g c = λ low e grew is. absurd (c.skip.ensures.disk low e grew is)
 
 -- ---- it is answered
 
@@ -63,7 +44,7 @@ due_at g c w =
     due_alike N.script (N.start no_rows) (N.start w) h c.args.who.session c.args.who.command (command.Query c.args.words.now) First (N.alike w) refl due
 
 runs : (g : _) (c : goal.After-pass g) → not c.engine.inside.log.printer.broken ≡ true
-runs g c = ap (λ (s : Standing). s.shown.running) c.engine.view_is ∙ sym c.running.ensures ∙ c.if-not-running.false
+runs g c = ap (λ (s : Standing). s.shown.running) c.engine.view_is ∙ c.requires.runs
 
 kept : (g : _) (c : goal.After-pass g)
     → IsEngine g.K.Sink.held g.K.Sink.faults (starts_of g.N.Naming.script g.N.Naming.start g.N.Naming.sound g.N.Naming.origin g.N.Naming.since g.N.Naming.counted g.N.Naming.at_start) g.N.Naming.room g.N.Naming.sink_faults c.hold_files-held.new.metadata (g.D.Disk.story c.hold_files-held.new.disk) c.pass.new.self
@@ -153,7 +134,7 @@ due_then g c w =
     due_alike N.script (N.start no_rows) (N.start w) h c.args.who.session c.args.who.command (command.Query c.args.words.now) First (N.alike w) refl due
 
 ran_then : (g : _) (c : goal.After-fail g) → not c.engine.inside.log.printer.broken ≡ true
-ran_then g c = ap (λ (s : Standing). s.shown.running) c.engine.view_is ∙ sym c.running.ensures ∙ c.if-not-running.false
+ran_then g c = ap (λ (s : Standing). s.shown.running) c.engine.view_is ∙ c.requires.runs
 
 over : (g : _) (c : goal.After-fail g)
     → IsEngine g.K.Sink.held g.K.Sink.faults (starts_of g.N.Naming.script g.N.Naming.start g.N.Naming.sound g.N.Naming.origin g.N.Naming.since g.N.Naming.counted g.N.Naming.at_start) g.N.Naming.room g.N.Naming.sink_faults c.engine.inside.metadata (g.D.Disk.story c.hold_files-held.new.disk) c.fail.new.self

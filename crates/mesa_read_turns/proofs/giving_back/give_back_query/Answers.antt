@@ -3,7 +3,7 @@ use Rattle.mesa_engine.specs.Vault.{Starts}
 use Rattle.mesa_engine.specs.mesa_invariant_spec.Turns.{NoneFell, faults_of}
 use Rattle.mesa_engine.specs.Engine.{Standing, starts_of}
 use Rattle.mesa_engine.proofs.Turning.{unmoved_engine}
-use Rattle.mesa_read_turns.proofs.giving_back.give_back.Goals as goal
+use Rattle.mesa_read_turns.proofs.giving_back.give_back_query.Goals as goal
 
 pub invariant_of-engine : goal.invariant_of-engine
 invariant_of-engine g c =
