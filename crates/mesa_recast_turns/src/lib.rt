@@ -8,8 +8,9 @@ mod resting;
 mod unmade;
 
 pub use mesa_work_turns::{
-    alter, close_query, complete, expire, explain, give_up, grant, grant_recast, look, pin,
-    pin_query, publish, release, renew, renew_recast, table, tables_become, view,
+    alter, close_query, complete, expire, explain, give_back, give_back_query, give_back_recast,
+    give_up, grant, grant_recast, look, pin, pin_query, publish, release, renew, renew_recast,
+    table, tables_become, view,
 };
 pub use recasting::recast;
 pub use resting::rest;

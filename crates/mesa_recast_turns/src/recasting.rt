@@ -192,7 +192,7 @@ pub fn recast<N: Naming, M: Made, D: Disk<M>, K: Sink>(
 
     // Its ranges are rewritten only once its lease was renewed, and then they are all that its table has, while the epoch is the same.
     requires renewed { OnOk made (IsDue N.script (run_at N.script (N.start no_rows) engine.old.shown.history) who.session who.command (command.Recast words.now) (Renewed (claim_of_recast task))) }
-    requires rested { OnOk made (engine.old.shown.running ≡ true → HasRested D.Reader.bytes engine.old.state task) }
+    requires rested { OnOk made (HasRested D.Reader.bytes engine.old.state task) }
     requires rewritten { IfOk made (IsRecasted M.bytes M.id_of D.Reader.bytes task) }
     requires ranges { OnOk made ((w : Rows) → N.sound w → epoch_of (meta_of_recast engine.old.state task).lineage ≡ task.epoch → HasItsRanges D.Reader.bytes task (written_at N.script (N.start w) (N.origin w) engine.old.shown.history task.table)) }
 
@@ -202,6 +202,7 @@ pub fn recast<N: Naming, M: Made, D: Disk<M>, K: Sink>(
     requires undamaged { IfErr made (λ e. (w : Rows) → N.sound w → is_damaged (outcome_of (cause_of e)) ≡ false) }
     requires told { (w : Rows) → N.sound w → (file : M) → (bytes : List ℕ) × (M.bytes file ≡ Some bytes) }
     requires room { length engine.old.shown.history < N.room }
+    requires runs { engine.old.shown.running ≡ true }
     ensures turn { Takes N.script (N.start no_rows) engine.old.shown engine.new.shown who.session who.command kind.Close Finished }
 
     // A fault of the disk is answered only where one of its counts rose in the turn, or a read had failed before; one of a draft only where it had.
@@ -209,19 +210,14 @@ pub fn recast<N: Naming, M: Made, D: Disk<M>, K: Sink>(
     ensures draft { AnswersDraft N.script (N.start no_rows) engine.old.shown engine.new.shown who.session (made ≡ Err compact.Draft) }
 
     // Where the ranges weren't rewritten, it ends as its argument says, unless the vault has closed, and that is what it prints.
-    ensures state { IfErr made (λ e. engine.old.shown.running ≡ true → engine.new.state ≡ closing_state engine.old.state.closed e (engine.old.shown.clock == last) (length engine.old.shown.history) task.table task.lease engine.old.state) }
-    ensures outcome { IfErr made (λ e. engine.old.shown.running ≡ true → engine.new.shown.history ≡ engine.old.shown.history ++ entry who.session who.command kind.Close (outcome_of (closing_cause engine.old.state.closed e)) engine.new.shown.clock ∷ []) }
-    ensures prints { IfErr made (λ e. engine.old.shown.running ≡ true → IsPut (block (entry who.session who.command kind.Close (outcome_of (closing_cause engine.old.state.closed e)) engine.new.shown.clock) (Some (told_at (length engine.old.shown.history) (reply_of (closing_cause engine.old.state.closed e))))) engine.new.shown.running engine.old.sink engine.new.sink) }
+    ensures state { IfErr made (λ e. engine.new.state ≡ closing_state engine.old.state.closed e (engine.old.shown.clock == last) (length engine.old.shown.history) task.table task.lease engine.old.state) }
+    ensures outcome { IfErr made (λ e. engine.new.shown.history ≡ engine.old.shown.history ++ entry who.session who.command kind.Close (outcome_of (closing_cause engine.old.state.closed e)) engine.new.shown.clock ∷ []) }
+    ensures prints { IfErr made (λ e. IsPut (block (entry who.session who.command kind.Close (outcome_of (closing_cause engine.old.state.closed e)) engine.new.shown.clock) (Some (told_at (length engine.old.shown.history) (reply_of (closing_cause engine.old.state.closed e))))) engine.new.shown.running engine.old.sink engine.new.sink) }
 
     // Where the table is recast, each file that is there is one that the catalogue, a held pin or an open query names: its ranges are rewritten, its claim holds and the rules allow it still, and its turn stands.
     ensures swept { OnOk made (HasStood engine.old.shown engine.new.shown who.session who.command → ClaimHolds engine.old.state (length engine.old.shown.history) (claim_of_recast task) → still_checked (meta_of_recast engine.old.state task).lineage task.epoch (recast_in task) ≡ Ok tt
         → IsSwept engine.new.told engine.new.state engine.new.shown.history) }
 {
-    if !engine.running() {
-        engine.skip(who, Kind::Close);
-        give_back_recast(engine, task);
-        return;
-    }
     match made {
         Ok(made) => {
             close(alloc, engine, who, &task, made);

@@ -66,6 +66,7 @@ pub fn rest<N: Naming, M: Made, D: DeltaDisk<M>, K: Sink>(
     requires there { task.old.table < length engine.old.state.catalogue.tables }
     requires grown { HasBecome (recast_table task.old) (meta_of_recast engine.old.state task.old).lineage }
     requires damage { IfSome task.old.damage (λ d. d.want ≢ d.found) }
+    requires runs { engine.old.shown.running ≡ true }
     ensures shown { engine.new.shown ≡ engine.old.shown }
     ensures state { engine.new.state ≡ engine.old.state }
     ensures told { engine.new.told ≡ engine.old.told }
@@ -77,15 +78,15 @@ pub fn rest<N: Naming, M: Made, D: DeltaDisk<M>, K: Sink>(
     ensures cause { IfErr result (λ e. e ≡ file_error.Read → SomeRose engine.old.faults engine.new.faults) }
     ensures unpaid { IfErr result (λ e. e ≡ file_error.Read → HasUnpaid N.script N.start N.counted engine.new.shown engine.new.faults) }
 
-    // Where further ranges may not be opened, nothing is done: the sink has failed, the vault has closed, a file of the recast was damaged, or its table has another epoch.
-    ensures stays { (engine.old.shown.running ≡ true → MayRest engine.old.state task.old → ⊥) → (result ≡ Ok tt) × (task.new ≡ task.old) × (engine.new ≡ engine.old) }
+    // Where further ranges may not be opened, nothing is done: the vault has closed, a file of the recast was damaged, or its table has another epoch.
+    ensures stays { (MayRest engine.old.state task.old → ⊥) → (result ≡ Ok tt) × (task.new ≡ task.old) × (engine.new ≡ engine.old) }
 
     // The recast is the one that it was, with further ranges behind.
     ensures longer { IsLonger D.Reader.bytes task.old task.new }
     ensures begun { (made : AnyRecasted M) → IsRecasted M.bytes M.id_of D.Reader.bytes task.old made → IsRecastedSoFar M.bytes M.id_of D.Reader.bytes task.new made }
     ensures kept { IsRecastTask D.Reader.bytes task.new }
     ensures differs { IfSome task.new.damage (λ d. d.want ≢ d.found) }
-    ensures holds { OnOk result (engine.old.shown.running ≡ true → engine.old.state.closed ≡ None → task.new.damage ≡ None → epoch_of (meta_of_recast engine.old.state task.old).lineage ≡ task.old.epoch
+    ensures holds { OnOk result (engine.old.state.closed ≡ None → task.new.damage ≡ None → epoch_of (meta_of_recast engine.old.state task.old).lineage ≡ task.old.epoch
         → HoldsAll task.new.ranges.items (meta_of_recast engine.old.state task.old)) }
 
     // On a sound store no file is damaged, the further ranges have what was written in them, and no sum over one of them leaves its type.
@@ -94,7 +95,7 @@ pub fn rest<N: Naming, M: Made, D: DeltaDisk<M>, K: Sink>(
         → HasItsRanges D.Reader.bytes task.new (written_at N.script (N.start w) (N.origin w) engine.old.shown.history task.old.table) }
     ensures bounded { (w : Rows) → N.sound w → IsRecastBounded D.Reader.bytes task.old → IsRecastBounded D.Reader.bytes task.new }
 {
-    if !engine.running() || !may_rest(&engine.metadata, task) {
+    if !may_rest(&engine.metadata, task) {
         return Ok(());
     }
     match open_more(engine, task.table, &mut task.ranges) {

@@ -1,78 +1,15 @@
-use Rattle.std.proofs.Common.{◌≡◌, inl, true, false, sym, ◌∙◌, ap, subst, Result, Ok, Err}
-use Rattle.std.specs.Prelude.{◌⊎◌, IfErr, OnOk}
+use Rattle.std.proofs.Common.{◌≡◌, inl, sym, ◌∙◌, ap, subst, Err}
+use Rattle.std.specs.Prelude.{◌⊎◌}
 use Rattle.std.proofs.Math.Logic.{⊎_map}
 use Rattle.mesa_delta.specs.declared.error.FileError.TheVariants as file_error
 use Rattle.mesa_work_turns.specs.mesa_history_spec.Run.{Finished}
-use Rattle.mesa_model.specs.declared.commands.Command.TheVariants as command
 use Rattle.mesa_model.specs.declared.entries.Kind.TheVariants as kind
 use Rattle.mesa_work_turns.specs.mesa_history_spec.Rows.{no_rows}
-use Rattle.mesa_open_files.specs.Recasts.{claim_of_recast}
 use Rattle.mesa_open_files.specs.declared.merging.CompactError.TheVariants as compact
-use Rattle.mesa_work_turns.specs.mesa_invariant_spec.Turns.{AnswersDisk, AnswersDraft, IsTurn, Shown, SomeRose, Takes}
-use Rattle.mesa_work_turns.specs.mesa_invariant_spec.Works.{closing_stage}
-use Rattle.mesa_work_turns.proofs.mesa_invariant_spec.Alike.{due_alike}
+use Rattle.mesa_work_turns.specs.mesa_invariant_spec.Turns.{AnswersDisk, AnswersDraft, Shown, SomeRose, Takes}
 use Rattle.mesa_work_turns.proofs.mesa_invariant_spec.Faulting.{disk_also, rose_still}
-use Rattle.mesa_work_turns.proofs.mesa_invariant_spec.Working.{close_due}
 use Rattle.mesa_work_turns.specs.Swept.{HasStood, IsSwept}
-use Rattle.mesa_work_turns.proofs.Sweeping.{skipped_stood}
-use Rattle.mesa_recast_turns.proofs.Paid.{close_unanswered}
 use Rattle.mesa_recast_turns.proofs.recasting.recast.Goals as goal
-
-pub skip-requires-clause-due : goal.skip-requires-clause-due
-skip-requires-clause-due g c κs within w =
-    let N = g.N.Naming in
-    let early = c.requires.due.0 in
-    let claim = claim_of_recast c.args.task in
-    record {
-      asked = command.Recast c.args.words.now;
-      stage = closing_stage early claim;
-      due = due_alike N.script (N.start no_rows) (N.start w) c.args.engine.now.shown.history c.args.who.session c.args.who.command (command.Recast c.args.words.now) (closing_stage early claim) (N.alike w) (close_unanswered early claim) c.requires.due.1;
-      comes = close_due early claim (command.Recast c.args.words.now);
-    }
-
--- ---- the sink has failed
-
-err_each : {T E : Type 0} (r : Result T E) (P : E → Type 0) → ((e : E) → P e) → IfErr r P
-err_each (Ok x) P each = tt
-err_each (Err e) P each = each e
-
-pub returns-then-not-running-clause-turn : goal.returns-then-not-running-clause-turn
-returns-then-not-running-clause-turn g c =
-    let N = g.N.Naming in
-    subst (λ (x : Shown). Takes N.script (N.start no_rows) c.args.engine.now.shown x c.args.who.session c.args.who.command kind.Close Finished) (sym c.give_back_recast.ensures.shown) (c.skip.ensures.turn Finished)
-
-pub returns-then-not-running-clause-draft : goal.returns-then-not-running-clause-draft
-returns-then-not-running-clause-draft g c =
-    let N = g.N.Naming in
-    subst (λ (x : Shown). AnswersDraft N.script (N.start no_rows) c.args.engine.now.shown x c.args.who.session (c.args.made ≡ Err compact.Draft)) (sym c.give_back_recast.ensures.shown) (λ low e grew is. absurd (c.skip.ensures.draft low e grew is))
-
-pub returns-then-not-running-clause-disk : goal.returns-then-not-running-clause-disk
-returns-then-not-running-clause-disk g c =
-    let N = g.N.Naming in
-    let old = c.args.engine.now in
-    subst (λ (x : Shown). AnswersDisk N.script (N.start no_rows) old.shown x (SomeRose old.faults c.give_back_recast.new.engine.faults ⊎ (c.args.made ≡ Err (compact.File file_error.Read)))) (sym c.give_back_recast.ensures.shown)
-    (λ low e grew is. absurd (c.skip.ensures.disk low e grew is))
-
-pub returns-then-not-running-clause-state : goal.returns-then-not-running-clause-state
-returns-then-not-running-clause-state g c = err_each c.args.made _ (λ error on. absurd (let never : true ≡ false = sym on ∙ sym c.running.ensures ∙ c.if-not-running.true in cc))
-
-pub returns-then-not-running-clause-outcome : goal.returns-then-not-running-clause-outcome
-returns-then-not-running-clause-outcome g c = err_each c.args.made _ (λ error on. absurd (let never : true ≡ false = sym on ∙ sym c.running.ensures ∙ c.if-not-running.true in cc))
-
-pub returns-then-not-running-clause-prints : goal.returns-then-not-running-clause-prints
-returns-then-not-running-clause-prints g c = err_each c.args.made _ (λ error on. absurd (let never : true ≡ false = sym on ∙ sym c.running.ensures ∙ c.if-not-running.true in cc))
-
-ok_each : {T E : Type 0} (r : Result T E) (P : Type 0) → P → OnOk r P
-ok_each (Ok x) P so = so
-ok_each (Err e) P so = tt
-
--- a turn that is skipped doesn't stand
-pub returns-then-not-running-clause-swept : goal.returns-then-not-running-clause-swept
-returns-then-not-running-clause-swept g c =
-    let old = c.args.engine.now.shown in
-    let now = c.give_back_recast.new.engine.shown in
-    let took : IsTurn old now c.args.who.session c.args.who.command kind.Close = subst (λ (x : Shown). IsTurn old x c.args.who.session c.args.who.command kind.Close) (sym c.give_back_recast.ensures.shown) (c.skip.ensures.turn Finished).turn in
-    ok_each c.args.made _ (λ stood holds still. absurd (skipped_stood old now c.args.who.session c.args.who.command took (sym c.running.ensures ∙ c.if-not-running.true) stood))
 
 -- ---- its ranges were rewritten
 
@@ -80,37 +17,37 @@ pub close-requires-clause-due : goal.close-requires-clause-due
 close-requires-clause-due g c κs within = (c.args.words.now, rw c.in-Ok.is at c.requires.renewed)
 
 pub close-requires-clause-rested : goal.close-requires-clause-rested
-close-requires-clause-rested g c κs within = (rw c.in-Ok.is at c.requires.rested) (sym c.running.ensures ∙ c.if-not-running.false)
+close-requires-clause-rested g c κs within = rw c.in-Ok.is at c.requires.rested
 
 pub returns-in-Ok-clause-turn : goal.returns-in-Ok-clause-turn
 returns-in-Ok-clause-turn g c =
     let N = g.N.Naming in
-    subst (λ (x : Shown). Takes N.script (N.start no_rows) c.args.engine.now.shown x c.args.who.session c.args.who.command kind.Close Finished) (sym c.give_back_recast-in-Ok.ensures.shown) c.close.ensures.turn
+    subst (λ (x : Shown). Takes N.script (N.start no_rows) c.args.engine.now.shown x c.args.who.session c.args.who.command kind.Close Finished) (sym c.give_back_recast.ensures.shown) c.close.ensures.turn
 
 pub returns-in-Ok-clause-draft : goal.returns-in-Ok-clause-draft
 returns-in-Ok-clause-draft g c =
     let N = g.N.Naming in
-    subst (λ (x : Shown). AnswersDraft N.script (N.start no_rows) c.args.engine.now.shown x c.args.who.session (c.args.made ≡ Err compact.Draft)) (sym c.give_back_recast-in-Ok.ensures.shown) (λ low e grew is. absurd (c.close.ensures.draft low e grew is))
+    subst (λ (x : Shown). AnswersDraft N.script (N.start no_rows) c.args.engine.now.shown x c.args.who.session (c.args.made ≡ Err compact.Draft)) (sym c.give_back_recast.ensures.shown) (λ low e grew is. absurd (c.close.ensures.draft low e grew is))
 
 pub returns-in-Ok-clause-disk : goal.returns-in-Ok-clause-disk
 returns-in-Ok-clause-disk g c =
     let N = g.N.Naming in
     let old = c.args.engine.now in
     let met = c.close.new.engine in
-    let now = c.give_back_recast-in-Ok.new.engine in
-    subst (λ (x : Shown). AnswersDisk N.script (N.start no_rows) old.shown x (SomeRose old.faults now.faults ⊎ (c.args.made ≡ Err (compact.File file_error.Read)))) (sym c.give_back_recast-in-Ok.ensures.shown)
-    (disk_also N.script (N.start no_rows) old.shown met.shown (λ (rose : SomeRose old.faults met.faults). inl (rose_still old.faults met.faults now.faults rose c.give_back_recast-in-Ok.ensures.faults)) c.close.ensures.disk)
+    let now = c.give_back_recast.new.engine in
+    subst (λ (x : Shown). AnswersDisk N.script (N.start no_rows) old.shown x (SomeRose old.faults now.faults ⊎ (c.args.made ≡ Err (compact.File file_error.Read)))) (sym c.give_back_recast.ensures.shown)
+    (disk_also N.script (N.start no_rows) old.shown met.shown (λ (rose : SomeRose old.faults met.faults). inl (rose_still old.faults met.faults now.faults rose c.give_back_recast.ensures.faults)) c.close.ensures.disk)
 
 pub returns-in-Ok-clause-swept : goal.returns-in-Ok-clause-swept
 returns-in-Ok-clause-swept g c =
     let old = c.args.engine.now.shown in
     let met = c.close.new.engine in
-    let now = c.give_back_recast-in-Ok.new.engine in
+    let now = c.give_back_recast.new.engine in
     rw c.in-Ok.is (λ stood holds still.
-    subst (λ (x : Shown). IsSwept now.told now.state x.history) (sym c.give_back_recast-in-Ok.ensures.shown)
-    (subst (λ l. IsSwept now.told l met.shown.history) (sym c.give_back_recast-in-Ok.ensures.state)
-    (subst (λ t. IsSwept t met.state met.shown.history) (sym c.give_back_recast-in-Ok.ensures.told)
-    (c.close.ensures.swept (subst (λ (x : Shown). HasStood old x c.args.who.session c.args.who.command) c.give_back_recast-in-Ok.ensures.shown stood) holds still))))
+    subst (λ (x : Shown). IsSwept now.told now.state x.history) (sym c.give_back_recast.ensures.shown)
+    (subst (λ l. IsSwept now.told l met.shown.history) (sym c.give_back_recast.ensures.state)
+    (subst (λ t. IsSwept t met.state met.shown.history) (sym c.give_back_recast.ensures.told)
+    (c.close.ensures.swept (subst (λ (x : Shown). HasStood old x c.args.who.session c.args.who.command) c.give_back_recast.ensures.shown stood) holds still))))
 
 -- ---- they weren't
 
@@ -129,13 +66,13 @@ returns-in-Err-clause-disk g c =
     disk_also N.script (N.start no_rows) old.shown now.shown (λ (met : SomeRose old.faults now.faults ⊎ (c.in-Err.error ≡ compact.File file_error.Read)). ⊎_map (λ rose. rose) (λ is. c.in-Err.is ∙ ap Err is) met) c.abandon.ensures.disk
 
 pub returns-in-Err-clause-state : goal.returns-in-Err-clause-state
-returns-in-Err-clause-state g c = rw c.in-Err.is (λ on. c.abandon.ensures.state)
+returns-in-Err-clause-state g c = rw c.in-Err.is c.abandon.ensures.state
 
 pub returns-in-Err-clause-outcome : goal.returns-in-Err-clause-outcome
-returns-in-Err-clause-outcome g c = rw c.in-Err.is (λ on. c.abandon.ensures.outcome)
+returns-in-Err-clause-outcome g c = rw c.in-Err.is c.abandon.ensures.outcome
 
 pub returns-in-Err-clause-prints : goal.returns-in-Err-clause-prints
-returns-in-Err-clause-prints g c = rw c.in-Err.is (λ on. c.abandon.ensures.prints)
+returns-in-Err-clause-prints g c = rw c.in-Err.is c.abandon.ensures.prints
 
 pub returns-in-Err-clause-swept : goal.returns-in-Err-clause-swept
 returns-in-Err-clause-swept g c = rw c.in-Err.is tt

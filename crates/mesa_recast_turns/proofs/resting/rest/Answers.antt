@@ -12,44 +12,40 @@ use Rattle.mesa_work_turns.proofs.mesa_file_records.Becoming.{same_columns as be
 use Rattle.mesa_recast_turns.specs.Rested.{MayRest}
 use Rattle.mesa_recast_turns.proofs.Further.{further_begun, further_bounded, further_known, further_of, further_sourced, known_none}
 use Rattle.mesa_recast_turns.proofs.resting.rest.Goals as goal
-use Rattle.mesa_recast_turns.proofs.resting.rest.Goals.{then-not-running-via-then-not-running, then-not-running-via-else-not-running+then-not-may_rest}
 
 -- ---- none are opened
 
 pub may_rest-requires : goal.may_rest-requires
 may_rest-requires g c = subst (λ (x : Standing). c.args.task.now.table < length x.state.catalogue.tables) (sym c.engine.view_is) c.requires.there
 
-pub returns-then-not-running-clause-faults : goal.returns-then-not-running-clause-faults
-returns-then-not-running-clause-faults g c = record { calls = omega arith; reads = omega arith }
+pub returns-then-not-may_rest-clause-faults : goal.returns-then-not-may_rest-clause-faults
+returns-then-not-may_rest-clause-faults g c = record { calls = omega arith; reads = omega arith }
 
-pub returns-then-not-running-clause-longer : goal.returns-then-not-running-clause-longer
-returns-then-not-running-clause-longer g c =
+pub returns-then-not-may_rest-clause-longer : goal.returns-then-not-may_rest-clause-longer
+returns-then-not-may_rest-clause-longer g c =
     record { table = refl; lease = refl; epoch = refl; evolving = refl; keys = refl; values = refl; more = []; ranges = known_none g.D.Reader.FileReader.bytes c.args.task.now.ranges.items }
 
-pub returns-then-not-running-clause-begun : goal.returns-then-not-running-clause-begun
-returns-then-not-running-clause-begun g c made are =
+pub returns-then-not-may_rest-clause-begun : goal.returns-then-not-may_rest-clause-begun
+returns-then-not-may_rest-clause-begun g c made are =
     rewritten_all g.M.Made.bytes g.M.Made.id_of g.D.Reader.FileReader.bytes (columns_of (recast_table c.args.task.now)) (recast_in c.args.task.now) c.args.task.now.ranges.items made.ranges.items are
 
-pub returns-then-not-running-clause-holds : goal.returns-then-not-running-clause-holds
-returns-then-not-running-clause-holds g c on opened whole epoch =
+pub returns-then-not-may_rest-clause-holds : goal.returns-then-not-may_rest-clause-holds
+returns-then-not-may_rest-clause-holds g c opened whole epoch =
     let is : MayRest c.engine.inside.metadata.state c.args.task.now =
     subst (λ (x : Standing). MayRest x.state c.args.task.now) (sym c.engine.view_is) (record { opened = opened; whole = whole; epoch = epoch }) in
-    absurd (elim c.then-not-running.branch [
-      | then-not-running-via-then-not-running w ↦ let no : true ≡ false = sym on ∙ sym c.running.ensures ∙ w.if-not-running.true in cc
-      | then-not-running-via-else-not-running+then-not-may_rest w ↦ let no : true ≡ false = sym (w.may_rest.ensures.1 is) ∙ w.if-not-may_rest.true in cc
-    ])
+    absurd (let no : true ≡ false = sym (c.may_rest.ensures.1 is) ∙ c.if-not-may_rest.true in cc)
 
-pub returns-then-not-running-clause-stays : goal.returns-then-not-running-clause-stays
-returns-then-not-running-clause-stays g c none = (refl, refl, refl)
+pub returns-then-not-may_rest-clause-stays : goal.returns-then-not-may_rest-clause-stays
+returns-then-not-may_rest-clause-stays g c none = (refl, refl, refl)
 
-pub returns-then-not-running-clause-ranges : goal.returns-then-not-running-clause-ranges
-returns-then-not-running-clause-ranges g c w sound has = has
+pub returns-then-not-may_rest-clause-ranges : goal.returns-then-not-may_rest-clause-ranges
+returns-then-not-may_rest-clause-ranges g c w sound has = has
 
-pub returns-then-not-running-clause-bounded : goal.returns-then-not-running-clause-bounded
-returns-then-not-running-clause-bounded g c w sound are = are
+pub returns-then-not-may_rest-clause-bounded : goal.returns-then-not-may_rest-clause-bounded
+returns-then-not-may_rest-clause-bounded g c w sound are = are
 
-pub returns-then-not-running-clause-whole : goal.returns-then-not-running-clause-whole
-returns-then-not-running-clause-whole g c w sound none = none
+pub returns-then-not-may_rest-clause-whole : goal.returns-then-not-may_rest-clause-whole
+returns-then-not-may_rest-clause-whole g c w sound none = none
 
 -- ---- what comes is opened
 
@@ -62,17 +58,17 @@ open_more-requires-clause-opened g c κs within = (subst (λ (x : Standing). May
 pub returns-in-Ok-clause-stays : goal.returns-in-Ok-clause-stays
 returns-in-Ok-clause-stays g c none =
     let t = c.args.task.now in
-    absurd (none (sym c.running.ensures ∙ c.if-not-running.false) (subst (λ (x : Standing). MayRest x.state t) c.engine.view_is (c.may_rest.ensures.0 c.if-not-may_rest.false)))
+    absurd (none (subst (λ (x : Standing). MayRest x.state t) c.engine.view_is (c.may_rest.ensures.0 c.if-not-may_rest.false)))
 
 pub returns-in-Err-Fault-clause-stays : goal.returns-in-Err-Fault-clause-stays
 returns-in-Err-Fault-clause-stays g c none =
     let t = c.args.task.now in
-    absurd (none (sym c.running.ensures ∙ c.if-not-running.false) (subst (λ (x : Standing). MayRest x.state t) c.engine.view_is (c.may_rest.ensures.0 c.if-not-may_rest.false)))
+    absurd (none (subst (λ (x : Standing). MayRest x.state t) c.engine.view_is (c.may_rest.ensures.0 c.if-not-may_rest.false)))
 
 pub returns-in-Err-Memory-clause-stays : goal.returns-in-Err-Memory-clause-stays
 returns-in-Err-Memory-clause-stays g c none =
     let t = c.args.task.now in
-    absurd (none (sym c.running.ensures ∙ c.if-not-running.false) (subst (λ (x : Standing). MayRest x.state t) c.engine.view_is (c.may_rest.ensures.0 c.if-not-may_rest.false)))
+    absurd (none (subst (λ (x : Standing). MayRest x.state t) c.engine.view_is (c.may_rest.ensures.0 c.if-not-may_rest.false)))
 
 -- ---- all are open, or a file is damaged
 
@@ -140,7 +136,7 @@ pub returns-in-Ok-clause-differs : goal.returns-in-Ok-clause-differs
 returns-in-Ok-clause-differs g c = c.in-Ok.ensures.differs
 
 pub returns-in-Ok-clause-holds : goal.returns-in-Ok-clause-holds
-returns-in-Ok-clause-holds g c on opened whole epoch = c.in-Ok.ensures.holds whole
+returns-in-Ok-clause-holds g c opened whole epoch = c.in-Ok.ensures.holds whole
 
 pub returns-in-Ok-clause-whole : goal.returns-in-Ok-clause-whole
 returns-in-Ok-clause-whole g c w sound none = c.in-Ok.ensures.whole w sound
