@@ -1,5 +1,5 @@
 -- How the close of a recast whose table is recast keeps an engine.
-use Rattle.std.proofs.Common.{◌≡◌, ℕ, ◌+◌, ◌<◌, ◌≤◌, ◌^◌, List, [], ◌∷◌, ◌++◌, length, true, false, ◌||◌, not, refl, sym, subst, arith, Option, Some, Ok}
+use Rattle.std.proofs.Common.{◌≡◌, ℕ, ◌+◌, ◌<◌, ◌≤◌, ◌^◌, List, [], ◌∷◌, ◌++◌, length, true, false, ◌||◌, not, refl, sym, subst, arith, Option, None, Some, Ok}
 use Rattle.std.specs.Prelude.{vec_capacity}
 use Rattle.mesa_work_turns.specs.mesa_key.Spelling.{AreBytes}
 use Rattle.mesa_disk.specs.Files.{AreAbsent, files_of}
@@ -28,7 +28,7 @@ use Rattle.mesa_work_turns.specs.mesa_invariant_spec.Invariant.{Counts, run_at}
 use Rattle.mesa_work_turns.proofs.mesa_invariant_spec.Working.{checked_open}
 use Rattle.mesa_engine.specs.EngineState.{books_of, first_id, next_id, past_id}
 use Rattle.mesa_engine.specs.Recorded.{failed_state, left_by, recorded_state, removed_by}
-use Rattle.mesa_engine.specs.Vault.{IsReady, IsVault, Starts, outset_of, written_by}
+use Rattle.mesa_engine.specs.Vault.{IsVault, Starts, outset_of, written_by}
 use Rattle.mesa_engine.specs.declared.log.Log.{Log}
 use Rattle.mesa_engine.specs.Printing.{PrintsBlock}
 use Rattle.mesa_engine.specs.Memory.{Memory}
@@ -38,20 +38,20 @@ use Rattle.mesa_work_turns.specs.mesa_file_records.Published.{AllTell}
 use Rattle.mesa_work_turns.specs.mesa_file_records.Recasts.{HasItsRanges, IsRecastIn, meta_of_recast}
 use Rattle.mesa_work_turns.specs.mesa_file_records.declared.swapping.Swapped.{Swapped}
 use Rattle.mesa_work_turns.specs.mesa_write_turns.Committing.{IsWhole, IsWorked}
+use Rattle.mesa_work_turns.proofs.mesa_write_turns.Engines.{ready_now}
 use Rattle.mesa_work_turns.proofs.mesa_write_turns.Written.{absent_yet}
 use Rattle.mesa_recast_turns.proofs.Regroups.{recast_ends, recast_fails, told_of}
 
 module _ {K : Type 0} (held : K → Option (List ℕ)) (faults : K → ℕ) (n : Starts) (turns sinks : ℕ) (m : Memory) (story : Story) (log : Log K) (v : IsEngine held faults n turns sinks m story log)
     {M R : Type 0} (bytes : M → Option (List ℕ)) (read : R → Option (List ℕ)) (t : Recast R) (s : Swapped M) (is : IsRecastIn bytes read m.state t s)
     (checked : claim_checked (books_of no_rows m.state).bare (books_of no_rows m.state).machine (length log.history.items) (claim_of_recast t) ≡ Ok tt) where
-  -- what an engine that hasn't closed has ready for a record
-  pub ready_still : IsReady m.state story
-  ready_still = (v.vault no_rows false (λ is. absurd cc)).ready (checked_open (books_of no_rows m.state).bare (books_of no_rows m.state).machine (length log.history.items) (claim_of_recast t) checked)
+  opened : m.state.closed ≡ None
+  opened = checked_open (books_of no_rows m.state).bare (books_of no_rows m.state).machine (length log.history.items) (claim_of_recast t) checked
 
   -- the files that it brings aren't there yet
   pub absent_still : s.adopted < 2 ^ 40 → (i : Image) → story.told ≡ Some i → AreAbsent (files_of bytes s.made.items) i
   absent_still few' i told =
-      absent_yet (next_id m.state) (first_id m.state.catalogue.run + s.adopted) (past_id m.state) (files_of bytes s.made.items) i (omega (arith, few')) is.adopts.given (λ id le lt. ready_still.fresh i told id le lt)
+      absent_yet (next_id m.state) (first_id m.state.catalogue.run + s.adopted) (past_id m.state) (files_of bytes s.made.items) i (omega (arith, few')) is.adopts.given (λ id le lt. (ready_now held faults n turns sinks m story log v opened).fresh i told id le lt)
 
   module _ (session number : ℕ) (low : session < 2 ^ 16) (few : number < 2 ^ 32) (ran : not log.printer.broken ≡ true) (typed : IsTyped s.entry)
       (words : RecastWords) (due : (w : Rows) → IsDue n.script (run_at n.script (n.start w) log.history.items) session number (command.Recast words) (Renewed (claim_of_recast t)))

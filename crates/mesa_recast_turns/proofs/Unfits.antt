@@ -6,7 +6,7 @@ use Rattle.mesa_work_turns.specs.mesa_history_spec.Counting.{answers_bench, answ
 use Rattle.mesa_work_turns.specs.mesa_history_spec.Machine.{Claim, Recasts, claim_checked, still_checked}
 use Rattle.mesa_work_turns.specs.mesa_schema.Recasts.{Recast as Asked}
 use Rattle.mesa_work_turns.specs.mesa_history_spec.Refused.{is_refusal}
-use Rattle.mesa_work_turns.specs.mesa_history_spec.Run.{Renewed, Finished}
+use Rattle.mesa_work_turns.specs.mesa_history_spec.Run.{Renewed}
 use Rattle.mesa_work_turns.specs.mesa_history_spec.Turns.{IsDue}
 use Rattle.mesa_lease.specs.Book.{ended}
 use Rattle.mesa_engine.specs.EngineState.{EngineState, books_of}
@@ -27,16 +27,14 @@ use Rattle.mesa_work_turns.specs.mesa_history_spec.Rows.{Rows, no_rows}
 use Rattle.mesa_work_turns.specs.mesa_invariant_spec.Books.{Books}
 use Rattle.mesa_work_turns.specs.mesa_invariant_spec.Causes.{Cause, outcome_of, reply_of, told_at}
 use Rattle.mesa_work_turns.specs.mesa_invariant_spec.Printing.{IsPut}
-use Rattle.mesa_work_turns.specs.mesa_invariant_spec.Turns.{Shown, IsSeen, Takes, entry}
+use Rattle.mesa_work_turns.specs.mesa_invariant_spec.Turns.{entry}
 use Rattle.mesa_work_turns.specs.mesa_invariant_spec.Undamaged.{is_damaged}
 use Rattle.mesa_work_turns.specs.mesa_invariant_spec.Invariant.{run_at, run_of}
-use Rattle.mesa_work_turns.proofs.mesa_invariant_spec.Going.{complete_takes}
 use Rattle.mesa_work_turns.proofs.mesa_invariant_spec.Turning.{counts_same, stays}
 use Rattle.mesa_work_turns.proofs.mesa_invariant_spec.Recasting.{changed_turn}
 use Rattle.mesa_work_turns.proofs.mesa_invariant_spec.Working.{lost_turn, starved_turn}
 use Rattle.mesa_engine.specs.Engine.{IsEngine}
 use Rattle.mesa_engine.proofs.Turning.{told_engine}
-use Rattle.mesa_engine.proofs.Undone.{not_skipped}
 use Rattle.mesa_recast_turns.specs.Unfit.{HasNotRecast, cause_unfit, unfit_state}
 use Rattle.mesa_recast_turns.specs.declared.checking.Unfit.{Unfit}
 use Rattle.mesa_recast_turns.specs.declared.checking.Unfit.TheVariants as why
@@ -84,12 +82,7 @@ module _ {K : Type 0} (held : K → Option (List ℕ)) (faults : K → ℕ) (n :
       → IsVault (outset_of n w) (n.origin w) b (unfit_state e claim.table claim.lease m.state) story (held later.printer.sink) (log.history.items ++ entry s number kind.Close (outcome_of x) mo ∷ []) (not later.printer.broken) (log.refused || is_refusal (reply_of x))) (sym cause_is)
       (unfit_vault n w b m.state story (held log.printer.sink) log.history.items (not log.printer.broken) log.refused (v.vault w b ok) s number low few words mo moment ran (length log.history.items) refl claim epoch recast errand (due w) (not later.printer.broken) (held later.printer.sink) e has) put))
 
--- ---- where it takes its session, as every close of a recast that was renewed
-
-pub closed_takes : (n : Starts) (w : Rows) (old new : Shown) (s number : ℕ) (words : RecastWords) (claim : Claim) → IsDue n.script (run_at n.script (n.start w) old.history) s number (command.Recast words) (Renewed claim) → (cause : Cause)
-    → new.history ≡ old.history ++ entry s number kind.Close (outcome_of cause) new.clock ∷ [] → old.running ≡ true → IsSeen n.script (n.start w) new → Takes n.script (n.start w) old new s number kind.Close Finished
-closed_takes n w old new s number words claim due cause grew ran seen =
-    complete_takes n.script (n.start w) old new s number (command.Recast words) claim due (record { outcome = outcome_of cause; grew = grew; skipped = not_skipped cause ∙ ap not (sym ran); still = λ on. ran }) seen
+-- ---- faults
 
 -- no file was being built
 pub no_draft : (closing : Bool) (u : Unfit) → answers_bench closing (outcome_of (cause_unfit u)) ≡ false

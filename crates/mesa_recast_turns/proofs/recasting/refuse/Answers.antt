@@ -19,8 +19,9 @@ use Rattle.mesa_work_turns.proofs.mesa_invariant_spec.Faulting.{disk_never}
 use Rattle.mesa_engine.specs.Engine.{Standing, IsEngine, starts_of}
 use Rattle.mesa_engine.proofs.Drafting.{answers_none}
 use Rattle.mesa_open_files.specs.Recasts.{claim_of_recast, recast_in}
+use Rattle.mesa_work_turns.proofs.Closings.{given_up_takes}
 use Rattle.mesa_recast_turns.specs.Unfit.{HasNotRecast, cause_unfit, unfit_state}
-use Rattle.mesa_recast_turns.proofs.Unfits.{closed_takes, no_draft, no_fault, unfit_engine}
+use Rattle.mesa_recast_turns.proofs.Unfits.{no_draft, no_fault, unfit_engine}
 use Rattle.mesa_recast_turns.proofs.recasting.refuse.Goals as goal
 
 due_at : (g : _) (c : goal.After-fail g)
@@ -65,7 +66,7 @@ returns-clause-turn g c =
     let cause = cause_in c.fall-failure.result in
     let new : Shown = record { history = later.history.items; running = not later.printer.broken; clock = story.moment } in
     subst (λ (x : Standing). Takes N.script (N.start no_rows) x.shown new s number kind.Close Finished) c.engine.view_is
-    (closed_takes n no_rows (record { history = h; running = not i.log.printer.broken; clock = story.moment }) new s number c.requires.due.0 (claim_of_recast c.args.task.now) (due_at g c) cause
+    (given_up_takes n no_rows (record { history = h; running = not i.log.printer.broken; clock = story.moment }) new s number (command.Recast c.requires.due.0) refl false (claim_of_recast c.args.task.now) (due_at g c) cause
     (c.fail.ensures.items ∙ ap (λ x. h ++ entry s number kind.Close (outcome_of cause) x ∷ []) c.clock-moment.ensures) (runs g c)
     (vault_at_seen n c.fall-failure.new.metadata.state story (g.K.Sink.held later.printer.sink) later.history.items (not later.printer.broken) later.refused story.moment (kept g c).vault))
 

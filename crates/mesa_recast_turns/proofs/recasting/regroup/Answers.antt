@@ -38,17 +38,18 @@ use Rattle.mesa_engine.specs.Engine.{IsEngine, Standing, starts_of}
 use Rattle.mesa_engine.proofs.Drafting.{answers_none}
 use Rattle.mesa_open_files.specs.Recasts.{claim_of_recast, recast_in, recast_table}
 use Rattle.mesa_engine.specs.mesa_commit.Holding.{kept}
+use Rattle.mesa_work_turns.proofs.mesa_write_turns.Engines.{ready_now}
 use Rattle.mesa_work_turns.proofs.mesa_write_turns.Loads.{all_tell}
 use Rattle.mesa_work_turns.specs.mesa_write_turns.Committing.{IsWhole, IsWorked}
 use Rattle.mesa_engine.specs.Written.{written_at}
 use Rattle.mesa_work_turns.specs.Swept.{HasStood, IsSwept}
+use Rattle.mesa_work_turns.proofs.Closings.{given_up_takes}
 use Rattle.mesa_work_turns.proofs.Sweeping.{stood_as, swept}
 use Rattle.mesa_recast_turns.specs.Rested.{HasRested}
 use Rattle.mesa_recast_turns.proofs.Checks.{still_allowed}
 use Rattle.mesa_recast_turns.proofs.Dues.{epoch_still, recast_is_there}
 use Rattle.mesa_recast_turns.proofs.Regroups.{told_of}
-use Rattle.mesa_recast_turns.proofs.RegroupEngines.{absent_still, ready_still, recast_engine, unrecast_engine}
-use Rattle.mesa_recast_turns.proofs.Unfits.{closed_takes}
+use Rattle.mesa_recast_turns.proofs.RegroupEngines.{absent_still, recast_engine, unrecast_engine}
 use Rattle.mesa_recast_turns.proofs.recasting.regroup.Goals as goal
 
 -- ---- before memory is taken
@@ -211,13 +212,9 @@ commit-committed-requires-clause-room g c κs within =
     let l = i.metadata.state in
     let h = i.log.history.items in
     let story = g.D.Disk.story i.disk in
-    let bytes = g.M.Made.bytes in
-    let read = g.D.Reader.FileReader.bytes in
-    let s = c.in-Ok.ready.recast in
     let holds : claim_checked (books_of no_rows l).bare (books_of no_rows l).machine (length h) (claim_of_recast t) ≡ Ok tt =
     subst (λ (x : Standing). claim_checked (books_of no_rows x.state).bare (books_of no_rows x.state).machine (length x.shown.history) (claim_of_recast t) ≡ Ok tt) (sym c.engine.view_is) c.requires.holds in
-    let is : IsRecastIn bytes read l t s = c.in-Ok.ensures.recast in
-    let ready = ready_still g.K.Sink.held g.K.Sink.faults n N.room N.sink_faults i.metadata story i.log c.engine.invariant bytes read t s is holds in
+    let ready = ready_now g.K.Sink.held g.K.Sink.faults n N.room N.sink_faults i.metadata story i.log c.engine.invariant (checked_open (books_of no_rows l).bare (books_of no_rows l).machine (length h) (claim_of_recast t) holds) in
     subst (λ (m : Memory). m.state.end < story.len m.state.area) (sym c.in-Ok.ensures.reserved) ready.long
 
 -- ---- it is written
@@ -337,7 +334,7 @@ returns-in-Ok-committed g c =
     let seen : Shown = record { history = later.history.items; running = not later.printer.broken; clock = new.moment } in
     record {
       turn = subst (λ (x : Standing). Takes N.script (N.start no_rows) x.shown seen session number kind.Close Finished) c.engine.view_is
-          (closed_takes n no_rows (record { history = h; running = not i.log.printer.broken; clock = (g.D.Disk.story i.disk).moment }) seen session number words (claim_of_recast t) due (Replies (told_of i.metadata.state t))
+          (given_up_takes n no_rows (record { history = h; running = not i.log.printer.broken; clock = (g.D.Disk.story i.disk).moment }) seen session number (command.Recast words) refl false (claim_of_recast t) due (Replies (told_of i.metadata.state t))
           (grew ∙ ap (λ x. h ++ entry session number kind.Close outcome.Stands x ∷ []) c.clock-moment.ensures) ran
           (vault_at_seen n c.end_lease.new.self.state new (g.K.Sink.held later.printer.sink) later.history.items (not later.printer.broken) later.refused new.moment (kept_done g c).vault));
       draft = subst (λ (x : Standing). AnswersDraft N.script (N.start no_rows) x.shown seen session ⊥) c.engine.view_is
@@ -448,7 +445,7 @@ returns g c =
     let seen : Shown = record { history = later.history.items; running = not later.printer.broken; clock = new.moment } in
     record {
       turn = subst (λ (x : Standing). Takes N.script (N.start no_rows) x.shown seen session number kind.Close Finished) c.engine.view_is
-          (closed_takes n no_rows (record { history = h; running = not i.log.printer.broken; clock = story.moment }) seen session number words (claim_of_recast t) due Unwritten
+          (given_up_takes n no_rows (record { history = h; running = not i.log.printer.broken; clock = story.moment }) seen session number (command.Recast words) refl false (claim_of_recast t) due Unwritten
           (told.items ∙ ap (λ x. h ++ entry session number kind.Close outcome.WriteFault x ∷ []) c.clock-moment.ensures) ran
           (vault_at_seen n after.state new (g.K.Sink.held later.printer.sink) later.history.items (not later.printer.broken) later.refused new.moment kept.vault));
       draft =
