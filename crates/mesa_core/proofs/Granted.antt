@@ -1,6 +1,6 @@
 -- What a work is granted, by the history at the end of its first turn.
 use Rattle.std.proofs.Common.{◌≡◌, ℕ, ◌<◌, List, length, Bool, true, not, sym, ap, subst, ◌∙◌, Option, None, Some}
-use Rattle.std.specs.Prelude.{IfSome, OnSome}
+use Rattle.std.specs.Prelude.{IfSome}
 use Rattle.mesa_recast_turns.specs.mesa_compact.Bounded.{AreBounded, IsBounded}
 use Rattle.mesa_core.proofs.MergedTasks.{grant_known}
 use Rattle.mesa_core.proofs.Same.{range_known}
@@ -31,7 +31,7 @@ use Rattle.mesa_core.specs.Standing.{IsCatalogAfter}
 use Rattle.mesa_core.proofs.Catalogue.{counted_is, lineage_is}
 
 -- the claim of a work is that of its session
-pub claim_if : {R : Type 0} (s : State) (number : ℕ) (running : Bool) (place : Place) (r : Option (Task R)) → OnSome r (running ≡ true) → place ≡ place_then (not running) number (stage_if claim_in Granted r) → HasClaimAt s place.stage → IfSome r (λ t. HasClaim s (claim_in t) t.work)
+pub claim_if : {R : Type 0} (s : State) (number : ℕ) (running : Bool) (place : Place) (r : Option (Task R)) → running ≡ true → place ≡ place_then (not running) number (stage_if claim_in Granted r) → HasClaimAt s place.stage → IfSome r (λ t. HasClaim s (claim_in t) t.work)
 claim_if s number running place (Some t) ran at has = subst (λ (p : Place). HasClaimAt s p.stage) (at ∙ ap (λ b. place_then (not b) number (Granted (claim_in t))) ran) has
 claim_if s number running place None ran at has = tt
 

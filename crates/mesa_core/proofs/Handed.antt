@@ -122,7 +122,7 @@ module _ {R : Type 0} (bytes : R → Option (List ℕ)) where
 
   module _ (script : Script) (from : Rows → State) (sound : Rows → Type 0) (old new : Shown) (session number : ℕ) (words : QueryWords) where
     pub takes_query : (result : Option (Pinned R)) → IfSome result (λ p. IsOpen script from new.history session number words p.at (λ w answer. IsHeaded p.query p.version answer × (sound w → TellsOf bytes p answer))) → IfSome result (λ p. (s : Columns) × IsPinned bytes s p)
-        → IfSome result (λ _. IsTurn old new session number kind.Decide) → IsSeen script (from no_rows) new → IfSome result (λ _. old.running ≡ true) → IfNone result (Takes script (from no_rows) old new session number kind.Decide Finished)
+        → IfSome result (λ _. IsTurn old new session number kind.Decide) → IsSeen script (from no_rows) new → old.running ≡ true → IfNone result (Takes script (from no_rows) old new session number kind.Decide Finished)
         → TakesQuery bytes script from (λ past. Tells sound) old new session number result
     takes_query (Some p) opened pinned turn seen ran over = (
       record {

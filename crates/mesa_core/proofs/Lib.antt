@@ -16,6 +16,7 @@ pub mod Later
 pub mod Bounded
 pub mod Rooms
 pub mod Due
+pub mod Skipped
 pub mod Catalogue
 pub mod Handed
 pub mod Granted

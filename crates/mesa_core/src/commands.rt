@@ -14,7 +14,7 @@ use crate::standing::allocator;
 use mesa_disk::{Disk, Made};
 use mesa_engine::{Naming, Who};
 use mesa_io::Sink;
-use mesa_model::Command;
+use mesa_model::{Command, Kind};
 use mesa_recast_turns::{alter, expire, explain, pin, release, table, view};
 
 impl<'s, N: Naming, M: Made, D: Disk<M>, K: Sink> Vault<'s, N, M, D, K> {
@@ -26,6 +26,10 @@ impl<'s, N: Naming, M: Made, D: Disk<M>, K: Sink> Vault<'s, N, M, D, K> {
         ensures disk { AnswersDisk N.script (N.start no_rows) self.old.shown self.new.shown (SomeRose self.old.faults self.new.faults) }
         ensures keeps { Steps KeepsFiles self.old.told self.new.told }
     {
+        if !self.engine.running() {
+            self.engine.skip(who, Kind::Decide);
+            return;
+        }
         let alloc = allocator(&self.engine);
         match command_of(self.script, who) {
             Some(Command::Table(words)) => table(alloc, &mut self.engine, who, words),

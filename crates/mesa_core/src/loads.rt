@@ -20,6 +20,7 @@ use mesa_batch::Glance;
 use mesa_disk::{Disk, Made};
 use mesa_engine::{Naming, Who};
 use mesa_io::Sink;
+use mesa_model::Kind;
 use mesa_open_files::{LoadError, Prepared};
 use mesa_recast_turns::{look, publish};
 use std::alloc::AllocError;
@@ -34,6 +35,10 @@ impl<'s, N: Naming, M: Made, D: Disk<M>, K: Sink> Vault<'s, N, M, D, K> {
         ensures ran { OnOk result (self.old.shown.running ≡ true) }
         ensures glance { IfOk result (λ g. g ≡ sight_after N.script (N.start no_rows) (N.origin no_rows).generation self.new.shown.history) }
     {
+        if !self.engine.running() {
+            self.engine.skip(who, Kind::Look);
+            return Err(AllocError);
+        }
         let glance = look(&mut self.engine, who);
         catalogue(&self.engine);
         glance
@@ -50,6 +55,10 @@ impl<'s, N: Naming, M: Made, D: Disk<M>, K: Sink> Vault<'s, N, M, D, K> {
         ensures keeps { Steps KeepsFiles self.old.told self.new.told }
         ensures draft { AnswersDraft N.script (N.start no_rows) self.old.shown self.new.shown who.session (made ≡ Err load.Draft) }
     {
+        if !self.engine.running() {
+            self.engine.skip(who, Kind::Decide);
+            return;
+        }
         catalogue(&self.engine);
         let alloc = allocator(&self.engine);
         let rows = rows_of(self.script, who);

@@ -20,8 +20,9 @@ use mesa_delta::FileError;
 use mesa_disk::{Disk, Made};
 use mesa_engine::{Naming, Who};
 use mesa_io::Sink;
+use mesa_model::Kind;
 use mesa_open_files::{DeltaDisk, Pinned};
-use mesa_recast_turns::{close_query, pin_query};
+use mesa_recast_turns::{close_query, give_back_query, pin_query};
 use mesa_script::Rendered;
 
 impl<'s, N: Naming, M: Made, D: DeltaDisk<M>, K: Sink> Vault<'s, N, M, D, K> {
@@ -34,6 +35,10 @@ impl<'s, N: Naming, M: Made, D: DeltaDisk<M>, K: Sink> Vault<'s, N, M, D, K> {
         // They are those of the plan at the version asked, by the tables that the query saw before the turn.
         ensures files { (words : QueryWords) → command_at N.script who.session who.command ≡ Some (command.Query words) → IfSome result (HasItsFiles D.Reader.bytes D.Reader.faults self.old.told self.old.state who.session words) }
     {
+        if !self.engine.running() {
+            self.engine.skip(who, Kind::Decide);
+            return None;
+        }
         let words = words_of(self.script, who);
         pin_query(&mut self.engine, who, words)
     }
@@ -56,6 +61,11 @@ impl<'s, N: Naming, M: Made, D: Disk<M>, K: Sink> Vault<'s, N, M, D, K> {
         ensures outcome { self.old.shown.running ≡ true → self.new.shown.history ≡ self.old.shown.history ++ closing_entry who.session who.command answer self.new.shown.clock ∷ [] }
         ensures prints { self.old.shown.running ≡ true → IsPut (closing_text (closing_entry who.session who.command answer self.new.shown.clock) pinned.at pinned.version answer) self.new.shown.running self.old.sink self.new.sink }
     {
+        if !self.engine.running() {
+            self.engine.skip(who, Kind::Close);
+            give_back_query(&mut self.engine, pinned);
+            return;
+        }
         close_query(&mut self.engine, who, pinned, answer);
     }
 }

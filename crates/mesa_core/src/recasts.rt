@@ -29,8 +29,9 @@ use mesa_delta::FileError;
 use mesa_disk::{Disk, Made};
 use mesa_engine::{Engine, Naming, Who};
 use mesa_io::Sink;
+use mesa_model::Kind;
 use mesa_open_files::{CompactError, DeltaDisk, Recast, Recasted};
-use mesa_recast_turns::{grant_recast, recast, renew_recast, rest, tables_become};
+use mesa_recast_turns::{give_back_recast, grant_recast, recast, renew_recast, rest, tables_become};
 
 // What holds of a recast's files between turns, by what was so at its grant.
 fn held<N: Naming, M: Made, D: Disk<M>, K: Sink>(
@@ -59,6 +60,10 @@ impl<'s, N: Naming, M: Made, D: DeltaDisk<M>, K: Sink> Vault<'s, N, M, D, K> {
         ensures task { IfSome result (CanBeRegrouped D.Reader.bytes) }
         ensures granted { IfSome result (λ t. IsRecastGranted D.Reader.bytes N.script N.start N.origin N.sound self.new.shown.history (known_recast D.Reader.bytes t)) }
     {
+        if !self.engine.running() {
+            self.engine.skip(who, Kind::Grant);
+            return None;
+        }
         let words = recast_of(self.script, who);
         let granted = grant_recast(&mut self.engine, who, words);
         catalogue(&self.engine);
@@ -98,9 +103,12 @@ impl<'s, N: Naming, M: Made, D: DeltaDisk<M>, K: Sink> Vault<'s, N, M, D, K> {
         ensures held { IsRecastHeld D.Reader.bytes N.script N.start N.origin N.sound self.new.shown.history (known_recast D.Reader.bytes (rested result)) }
         ensures rested { IfOk result (λ t. self.new.shown.running ≡ true → t.damage ≡ None → AllAreRested D.Reader.bytes self.new.state (known_recast D.Reader.bytes t)) }
     {
+        held(&self.engine, &task);
+        if !self.engine.running() {
+            return Ok(task);
+        }
         let mut task = task;
         catalogue(&self.engine);
-        held(&self.engine, &task);
         let found = rest(&mut self.engine, &mut task);
         recasts_are_known(&task);
         match found {
@@ -122,6 +130,11 @@ impl<'s, N: Naming, M: Made, D: Disk<M>, K: Sink> Vault<'s, N, M, D, K> {
         ensures ran { OnSome result (self.old.shown.running ≡ true) }
         ensures same { IfSome result (λ t. t ≡ task) }
     {
+        if !self.engine.running() {
+            self.engine.skip(who, Kind::Renew);
+            give_back_recast(&mut self.engine, task);
+            return None;
+        }
         let words = recast_of(self.script, who);
         renew_recast(&mut self.engine, who, words, task)
     }
@@ -154,6 +167,11 @@ impl<'s, N: Naming, M: Made, D: Disk<M>, K: Sink> Vault<'s, N, M, D, K> {
         // Where its ranges are rewritten, its claim holds, the rules allow it still and its turn stands, the table is recast: then each file that is there is one that the catalogue, a held pin or an open query names.
         ensures swept { OnOk made (HasStood self.old.shown self.new.shown who.session who.command → ClaimHolds self.old.state (length self.old.shown.history) (claim_of_recast task) → still_checked (meta_of_recast self.old.state task).lineage task.epoch (recast_in task) ≡ Ok tt → IsSwept self.new.told self.new.state self.new.shown.history) }
     {
+        if !self.engine.running() {
+            self.engine.skip(who, Kind::Close);
+            give_back_recast(&mut self.engine, task);
+            return;
+        }
         catalogue(&self.engine);
         let alloc = allocator(&self.engine);
         let words = recast_of(self.script, who);

@@ -22,8 +22,9 @@ use crate::{Vault, bounds_are_known, leases_hold, merges_are_known, ranges_go_on
 use mesa_disk::{Disk, Made};
 use mesa_engine::{Naming, Who};
 use mesa_io::Sink;
+use mesa_model::Kind;
 use mesa_open_files::{CompactError, DeltaDisk, NewDelta, Task};
-use mesa_recast_turns::{complete, give_up, grant, renew, tables_become};
+use mesa_recast_turns::{complete, give_back, give_up, grant, renew, tables_become};
 
 impl<'s, N: Naming, M: Made, D: DeltaDisk<M>, K: Sink> Vault<'s, N, M, D, K> {
     /// A work's first turn: the files that are to be merged. They have to come back by `renew` or `complete`.
@@ -36,6 +37,10 @@ impl<'s, N: Naming, M: Made, D: DeltaDisk<M>, K: Sink> Vault<'s, N, M, D, K> {
         ensures task { IfSome result (CanBeMerged D.Reader.bytes) }
         ensures granted { IfSome result (λ t. IsGranted D.Reader.bytes N.script N.start N.origin N.sound self.new.shown.history (known_task D.Reader.bytes t)) }
     {
+        if !self.engine.running() {
+            self.engine.skip(who, Kind::Grant);
+            return None;
+        }
         let words = work_of(self.script, who);
         let granted = grant(&mut self.engine, who, words);
         catalogue(&self.engine);
@@ -55,6 +60,11 @@ impl<'s, N: Naming, M: Made, D: Disk<M>, K: Sink> Vault<'s, N, M, D, K> {
         ensures ran { OnSome result (self.old.shown.running ≡ true) }
         ensures same { IfSome result (λ t. t ≡ task) }
     {
+        if !self.engine.running() {
+            self.engine.skip(who, Kind::Renew);
+            give_back(&mut self.engine, task);
+            return None;
+        }
         let words = work_of(self.script, who);
         renew(&mut self.engine, who, words, task)
     }
@@ -81,6 +91,11 @@ impl<'s, N: Naming, M: Made, D: Disk<M>, K: Sink> Vault<'s, N, M, D, K> {
         // Where its files are merged, its claim holds and its turn stands, the range is swapped in: then each file that is there is one that the catalogue, a held pin or an open query names.
         ensures swept { OnOk merged (HasStood self.old.shown self.new.shown who.session who.command → ClaimHolds self.old.state (length self.old.shown.history) (claim_in task) → IsSwept self.new.told self.new.state self.new.shown.history) }
     {
+        if !self.engine.running() {
+            self.engine.skip(who, Kind::Close);
+            give_back(&mut self.engine, task);
+            return;
+        }
         catalogue(&self.engine);
         claims(&self.engine);
         let alloc = allocator(&self.engine);

@@ -1,6 +1,6 @@
-use Rattle.std.proofs.Common.{◌≡◌, ◌∙◌, Some, sym, ap, subst}
+use Rattle.std.proofs.Common.{◌≡◌, ◌∙◌, Some, sym, ap, subst, refl}
 use Rattle.mesa_batch.specs.Glance.{Sight}
-use Rattle.mesa_recast_turns.specs.mesa_history_spec.Run.{Looked, command_at}
+use Rattle.mesa_recast_turns.specs.mesa_history_spec.Run.{Looked, command_at, Finished}
 use Rattle.mesa_model.specs.declared.commands.Command.TheVariants as command
 use Rattle.mesa_model.specs.declared.commands.Script.{Script}
 use Rattle.mesa_core.specs.Sight.{sight_after}
@@ -10,7 +10,32 @@ use Rattle.mesa_recast_turns.specs.mesa_invariant_spec.Turns.{Asks, is_load}
 use Rattle.mesa_recast_turns.specs.mesa_invariant_spec.Invariant.{run_at}
 use Rattle.mesa_core.specs.Vault.{Stand}
 use Rattle.mesa_core.proofs.Due.{due_of, sort_of}
+use Rattle.mesa_core.proofs.Skipped.{comes, skipped}
+use Rattle.mesa_recast_turns.proofs.mesa_write_turns.Keeping.{same_keep}
+use Rattle.mesa_recast_turns.specs.mesa_write_turns.Writing.{KeepsFiles}
+use Rattle.mesa_disk.specs.Story.{Steps}
+use Rattle.mesa_model.specs.declared.entries.Kind.TheVariants as kind
 use Rattle.mesa_core.proofs.vault.Vault.publish.Goals as goal
+
+pub skip-requires-clause-due : goal.skip-requires-clause-due
+skip-requires-clause-due g c κs within w =
+    let N = g.N.Naming in
+    let who = c.args.who in
+    comes N.script (N.start no_rows) (N.start w) c.self.inside.engine.shown.history who.session who.command Looked is_load kind.Decide (N.alike w) refl (λ asked is. refl)
+    (subst (λ (s : Stand). Asks N.script (run_at N.script (N.start no_rows) s.shown.history) who.session who.command Looked is_load) (sym c.self.view_is) c.requires.due)
+
+pub returns-then-not-running : goal.returns-then-not-running
+returns-then-not-running g c =
+    let N = g.N.Naming in
+    let who = c.args.who in
+    let told = skipped N.script (N.start no_rows) c.self.inside.engine.shown c.args.self.now.shown c.skip.new.self.shown c.skip.new.self.shown who.session who.command kind.Decide (ap (λ (s : Stand). s.shown) c.self.view_is) refl
+    (sym c.running.ensures ∙ c.if-not-running.true) c.skip.ensures.turn c.skip.ensures.draft c.skip.ensures.disk in
+    record {
+      turn = told.turn Finished;
+      disk = λ low e grew is. absurd (told.disk low e grew is);
+      keeps = subst (λ (s : Stand). Steps KeepsFiles s.told c.skip.new.self.told) c.self.view_is (same_keep c.self.inside.engine.told c.skip.new.self.told c.skip.ensures.told);
+      draft = λ low e grew is. absurd (told.draft low e grew is);
+    }
 
 pub rows_of-rows-requires : goal.rows_of-rows-requires
 rows_of-rows-requires g c = sort_of g.N.Naming.script _ _ c.args.who.session c.args.who.command Looked is_load c.self.invariant.script c.requires.due

@@ -1,4 +1,4 @@
-use Rattle.std.proofs.Common.{◌≡◌, ◌⊎◌, ◌++◌, ◌∷◌, [], length, refl, sym, ap, ◌∙◌, subst, true, Some, Ok, Err}
+use Rattle.std.proofs.Common.{◌≡◌, ◌⊎◌, ◌++◌, ◌∷◌, [], length, refl, sym, ap, ◌∙◌, subst, true, Some, Ok, Err, true≢false}
 use Rattle.std.proofs.lemmas.Result.{on_ok_weaker}
 use Rattle.std.specs.Prelude.{IfErr, OnOk}
 use Rattle.mesa_delta.specs.declared.error.FileError.TheVariants as file_error
@@ -6,7 +6,7 @@ use Rattle.mesa_core.specs.Recasts.{HasRegrouped, known_recast}
 use Rattle.mesa_core.specs.Works.{WasGranted}
 use Rattle.mesa_recast_turns.specs.mesa_file_records.Recasts.{meta_of_recast}
 use Rattle.mesa_recast_turns.specs.mesa_history_spec.Machine.{still_checked}
-use Rattle.mesa_recast_turns.specs.mesa_history_spec.Run.{Renewed}
+use Rattle.mesa_recast_turns.specs.mesa_history_spec.Run.{Renewed, Finished}
 use Rattle.mesa_model.specs.declared.commands.Command.TheVariants as command
 use Rattle.mesa_model.specs.declared.entries.Kind.TheVariants as kind
 use Rattle.mesa_recast_turns.specs.mesa_work_turns.Swept.{ClaimHolds, HasStood, IsSwept}
@@ -27,7 +27,35 @@ use Rattle.mesa_core.specs.Vault.{Stand}
 use Rattle.mesa_core.proofs.Due.{due_of, sort_of}
 use Rattle.mesa_core.proofs.Catalogue.{lineage_is}
 use Rattle.mesa_core.proofs.Unmade.{made_differed, made_is, made_read, made_whole, on_ok}
+use Rattle.mesa_core.proofs.Skipped.{comes, skipped, err_each, err_also}
+use Rattle.mesa_recast_turns.proofs.mesa_invariant_spec.Working.{close_due}
+use Rattle.mesa_recast_turns.proofs.Paid.{close_unanswered}
+use Rattle.mesa_recast_turns.proofs.mesa_work_turns.Sweeping.{skipped_stood}
 use Rattle.mesa_core.proofs.vault.Vault.recast.Goals as goal
+
+pub skip-requires-clause-due : goal.skip-requires-clause-due
+skip-requires-clause-due g c κs within w =
+    let N = g.N.Naming in
+    let who = c.args.who in
+    let early = c.requires.due.0 in
+    let claim = claim_of_recast c.args.task in
+    comes N.script (N.start no_rows) (N.start w) c.self.inside.engine.shown.history who.session who.command (closing_stage early claim) is_recast kind.Close (N.alike w) (close_unanswered early claim) (λ asked is. close_due early claim asked)
+    (subst (λ (s : Stand). Asks N.script (run_at N.script (N.start no_rows) s.shown.history) who.session who.command (closing_stage early claim) is_recast) (sym c.self.view_is) c.requires.due.1)
+
+pub returns-then-not-running : goal.returns-then-not-running
+returns-then-not-running g c =
+    let N = g.N.Naming in
+    let who = c.args.who in
+    let told = skipped N.script (N.start no_rows) c.self.inside.engine.shown c.args.self.now.shown c.skip.new.self.shown c.give_back_recast.new.engine.shown who.session who.command kind.Close (ap (λ (s : Stand). s.shown) c.self.view_is) c.give_back_recast.ensures.shown
+    (sym c.running.ensures ∙ c.if-not-running.true) c.skip.ensures.turn c.skip.ensures.draft c.skip.ensures.disk in
+    record {
+      turn = told.turn Finished;
+      disk = λ low e grew is. absurd (told.disk low e grew is);
+      draft = λ low e grew is. absurd (told.draft low e grew is);
+      outcome = err_each c.args.made _ (λ e on. absurd (true≢false (sym on ∙ told.failed)));
+      prints = err_each c.args.made _ (λ e on. absurd (true≢false (sym on ∙ told.failed)));
+      swept = on_ok c.args.made (λ stood holds still. absurd (skipped_stood c.args.self.now.shown c.give_back_recast.new.engine.shown who.session who.command (told.turn Finished).turn told.failed stood));
+    }
 
 pub recast_of-words-requires : goal.recast_of-words-requires
 recast_of-words-requires g c = sort_of g.N.Naming.script _ _ c.args.who.session c.args.who.command (closing_stage c.requires.due.0 (claim_of_recast c.args.task)) is_recast c.self.invariant.script c.requires.due.1
@@ -67,7 +95,7 @@ recast-requires-clause-rested g c κs within =
     let read = g.D.Reader.FileReader.bytes in
     let k = known_recast read c.args.task in
     on_ok_weaker c.args.made
-    (λ (rested : (c.self.inside.engine.shown.running ≡ true) → AllAreRested read c.self.inside.engine.state k) (runs : c.self.inside.engine.shown.running ≡ true). rested runs c.args.task refl c.requires.task.task)
+    (λ (rested : (c.self.inside.engine.shown.running ≡ true) → AllAreRested read c.self.inside.engine.state k). rested (sym c.running.ensures ∙ c.if-not-running.false) c.args.task refl c.requires.task.task)
     (subst (λ (s : Stand). OnOk c.args.made ((s.shown.running ≡ true) → AllAreRested read s.state k)) (sym c.self.view_is) c.requires.rested)
 
 pub recast-requires-clause-rewritten : goal.recast-requires-clause-rewritten
@@ -114,14 +142,14 @@ pub returns-clause-outcome : goal.returns-clause-outcome
 returns-clause-outcome g c =
     let who = c.args.who in
     let new = c.recast.new.engine.shown in
-    subst (λ (s : Stand). IfErr c.args.made (λ e. (s.shown.running ≡ true) → new.history ≡ s.shown.history ++ entry who.session who.command kind.Close (outcome_of (closing_cause s.state.closed e)) new.clock ∷ [])) c.self.view_is c.recast.ensures.outcome
+    subst (λ (s : Stand). IfErr c.args.made (λ e. (s.shown.running ≡ true) → new.history ≡ s.shown.history ++ entry who.session who.command kind.Close (outcome_of (closing_cause s.state.closed e)) new.clock ∷ [])) c.self.view_is (err_also (c.self.inside.engine.shown.running ≡ true) c.args.made _ c.recast.ensures.outcome)
 
 pub returns-clause-prints : goal.returns-clause-prints
 returns-clause-prints g c =
     let who = c.args.who in
     let new = c.recast.new.engine in
     subst (λ (s : Stand). IfErr c.args.made (λ e. (s.shown.running ≡ true)
-    → IsPut (block (entry who.session who.command kind.Close (outcome_of (closing_cause s.state.closed e)) new.shown.clock) (Some (told_at (length s.shown.history) (reply_of (closing_cause s.state.closed e))))) new.shown.running s.sink new.sink)) c.self.view_is c.recast.ensures.prints
+    → IsPut (block (entry who.session who.command kind.Close (outcome_of (closing_cause s.state.closed e)) new.shown.clock) (Some (told_at (length s.shown.history) (reply_of (closing_cause s.state.closed e))))) new.shown.running s.sink new.sink)) c.self.view_is (err_also (c.self.inside.engine.shown.running ≡ true) c.args.made _ c.recast.ensures.prints)
 
 pub returns-clause-swept : goal.returns-clause-swept
 returns-clause-swept g c =
