@@ -6,7 +6,7 @@ use Rattle.std.specs.List.{AllByRecursion}
 use Rattle.std.proofs.lemmas.Bool.Decides.{nat_tests}
 use Rattle.std.proofs.lemmas.List.{append_cancel_left, map-append, take-append-drop, take-take}
 use Rattle.std.proofs.lemmas.List.Elements.{filter-append}
-use Rattle.mesa_check_file.proofs.mesa_columns.Lists.{all_drop}
+use Rattle.mesa_schema.proofs.mesa_columns.Lists.{all_drop}
 use Rattle.mesa_store_spec.specs.Catalog.{Delta, TableMeta, start_in}
 use Rattle.mesa_store_spec.specs.Fitting.{deltas_of}
 use Rattle.mesa_catalog_table.specs.declared.table.Loaded.{Loaded}

@@ -9,11 +9,11 @@ use Rattle.mesa_pick_files.specs.mesa_value.declared.Agg.TheVariants as agg
 use Rattle.mesa_pick_files.specs.mesa_columns.declared.rows.Row.{Row}
 use Rattle.mesa_pick_files.specs.mesa_columns.Columns.{Columns, aggs_of}
 use Rattle.mesa_pick_files.specs.mesa_columns.declared.columns.ValueColumn.{ValueColumn}
-use Rattle.mesa_open_files.specs.mesa_fold.Folded.{folded, rows_of}
-use Rattle.mesa_open_files.specs.mesa_fold.Laws.{AreFull}
+use Rattle.mesa_schema.specs.mesa_fold.Folded.{folded, rows_of}
+use Rattle.mesa_schema.specs.mesa_fold.Laws.{AreFull}
 use Rattle.mesa_pick_files.specs.mesa_columns.Rows.{AreRowsOf, IsRowOf}
 use Rattle.mesa_pick_files.proofs.mesa_fold.Folds.{rows_of-append}
-use Rattle.mesa_check_file.proofs.mesa_columns.Lists.{all_so}
+use Rattle.mesa_schema.proofs.mesa_columns.Lists.{all_so}
 use Rattle.mesa_batch.proofs.Merged.{folds_totals}
 use Rattle.mesa_batch.specs.Totals.{AreAtMost, abs_total, abs_totals, sum_bound, sum_places}
 use Rattle.mesa_batch.proofs.Sums.{abs_total-next}

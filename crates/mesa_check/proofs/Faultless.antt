@@ -8,15 +8,15 @@ use Rattle.std.specs.Cmp.Lexicographic.{texts_ties}
 use Rattle.mesa_pick_files.specs.mesa_columns.declared.views.View.{View}
 use Rattle.mesa_pick_files.specs.mesa_columns.Columns.{aggs_of}
 use Rattle.mesa_schema.specs.Changes.{columns_at, columns_of}
-use Rattle.mesa_open_files.specs.mesa_fold.Folded.{folded, rows_of}
+use Rattle.mesa_schema.specs.mesa_fold.Folded.{folded, rows_of}
 use Rattle.mesa_schema.specs.Views.{view_rows}
-use Rattle.mesa_check_file.proofs.mesa_columns.Lists.{all_append, all_both, all_map, all_so}
+use Rattle.mesa_schema.proofs.mesa_columns.Lists.{all_append, all_both, all_map, all_so}
 use Rattle.mesa_batch.specs.Totals.{abs_totals}
 use Rattle.mesa_record.specs.declared.record.Files.{Files}
 use Rattle.mesa_record.specs.declared.record.ViewRef.{ViewRef}
-use Rattle.mesa_check_file.specs.Difference.{first_difference}
-use Rattle.mesa_check_file.proofs.Differences.{nowhere}
-use Rattle.mesa_check_file.proofs.Same.{equal_itself}
+use Rattle.mesa_compare.specs.Difference.{first_difference}
+use Rattle.mesa_compare.proofs.Differences.{nowhere}
+use Rattle.mesa_compare.proofs.Same.{equal_itself}
 use Rattle.mesa_store_spec.specs.Catalog.{Delta, Ending, TableMeta, start_in}
 use Rattle.mesa_store_spec.specs.Fitting.{base_deltas, delta_in}
 use Rattle.mesa_store_spec.specs.Contents.{Rows, present, rows_in}

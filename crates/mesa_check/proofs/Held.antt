@@ -7,8 +7,8 @@ use Rattle.std.specs.declared.sync.Arc.{Arc}
 use Rattle.std.proofs.lemmas.List.{take-append-drop}
 use Rattle.mesa_schema.specs.Changes.{Lineage}
 use Rattle.mesa_pick_files.specs.mesa_columns.declared.rows.Row.{Row}
-use Rattle.mesa_open_files.specs.mesa_fold.Folded.{rows_of}
-use Rattle.mesa_check_file.proofs.mesa_columns.Lists.{all_append, all_drop, all_map}
+use Rattle.mesa_schema.specs.mesa_fold.Folded.{rows_of}
+use Rattle.mesa_schema.proofs.mesa_columns.Lists.{all_append, all_drop, all_map}
 use Rattle.mesa_store_spec.specs.Catalog.{Delta, Ending, empty_delta, start_in}
 use Rattle.mesa_store_spec.specs.Contents.{present}
 use Rattle.mesa_store_spec.specs.Fitting.{LiveFile, base_deltas, delta_in, delta_live, deltas_of, meta_live}

@@ -2,7 +2,7 @@
 use Rattle.std.proofs.Common.{◌≡◌, ◌⊎◌, inl, inr, ◌<◌, ℕ, ◌+◌, ◌*◌, List, [], ◌∷◌, ◌++◌, map, take, drop, length, Bool, true, false, ◌&&◌, ◌==◌, nat_lt, Option, Some, None, refl, ◌∙◌, ap, arith}
 use Rattle.std.proofs.lemmas.Bool.Decides.{nat_tests}
 use Rattle.std.specs.Prelude.{◌||◌, ⊤, option_map}
-use Rattle.mesa_check_file.proofs.mesa_columns.Lists.{all_so}
+use Rattle.mesa_schema.proofs.mesa_columns.Lists.{all_so}
 use Rattle.mesa_pick_files.specs.mesa_span.Ranges.{Rise, ends_of_tens, start_behind}
 use Rattle.mesa_pick_files.proofs.mesa_span.Reachable.{reachable_in_order}
 use Rattle.mesa_store_spec.specs.Catalog.{Delta, Ending, TableMeta, end_in, ranges_of, start_in}

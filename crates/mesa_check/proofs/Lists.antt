@@ -3,7 +3,7 @@ use Rattle.std.proofs.Common.{◌≡◌, ℕ, zero, suc, ◌+◌, ◌<◌, ◌�
 use Rattle.std.specs.Prelude.{flat_map, slice_get, slice_index_or, IfOk, None, Some, Result, Ok, Err}
 use Rattle.std.specs.List.{AllByRecursion, list_all}
 use Rattle.std.proofs.lemmas.List.{take_all, take_more}
-use Rattle.mesa_check_file.proofs.mesa_columns.Lists.{all_append}
+use Rattle.mesa_schema.proofs.mesa_columns.Lists.{all_append}
 use Rattle.mesa_catalog_table.proofs.Pushes.{pushed_more}
 
 -- one more

@@ -6,15 +6,15 @@ use Rattle.mesa_disk.specs.Image.{Image}
 use Rattle.mesa_batch.specs.Bound.{KeepsBound}
 use Rattle.mesa_schema.specs.Changes.{Lineage, columns_of}
 use Rattle.mesa_pick_files.specs.mesa_columns.Columns.{aggs_of}
-use Rattle.mesa_open_files.specs.mesa_fold.Folded.{folded, rows_of}
+use Rattle.mesa_schema.specs.mesa_fold.Folded.{folded, rows_of}
 use Rattle.mesa_pick_files.specs.mesa_columns.declared.rows.Row.{Row}
 use Rattle.mesa_store_spec.specs.Catalog.{Delta, TableMeta}
 use Rattle.mesa_store_spec.specs.Contents.{present}
-use Rattle.mesa_open_files.specs.declared.opening.Wanted.{Wanted}
+use Rattle.mesa_compare.specs.mesa_open_files.declared.opening.Wanted.{Wanted}
 use Rattle.mesa_pick_files.specs.Files.{table_wanted, want_of}
 use Rattle.mesa_pick_files.specs.Lent.{with_rows}
-use Rattle.mesa_check_file.specs.Difference.{first_difference}
-use Rattle.mesa_check_file.specs.Compared.{HaveFiles, IsLiftedTo, present_parts}
+use Rattle.mesa_compare.specs.Difference.{first_difference}
+use Rattle.mesa_compare.specs.Compared.{HaveFiles, IsLiftedTo, present_parts}
 use Rattle.mesa_check.specs.Found.{Found, rows_found}
 use Rattle.mesa_check.specs.Faults.{is_asked, merged_key, merged_singles}
 use Rattle.mesa_check.specs.Shown.{key_list}

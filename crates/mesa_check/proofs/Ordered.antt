@@ -5,7 +5,7 @@ use Rattle.std.specs.List.{AllByRecursion}
 use Rattle.std.specs.declared.alloc.Global.{Global}
 use Rattle.std.specs.declared.sync.Arc.{Arc}
 use Rattle.std.proofs.lemmas.List.{map-append, take-append-drop}
-use Rattle.mesa_check_file.proofs.mesa_columns.Lists.{all_append}
+use Rattle.mesa_schema.proofs.mesa_columns.Lists.{all_append}
 use Rattle.mesa_store_spec.specs.Catalog.{Delta, Ending}
 use Rattle.mesa_store_spec.proofs.Lists.{all_back, all_front}
 use Rattle.mesa_catalog_table.specs.declared.table.Loaded.{Loaded}

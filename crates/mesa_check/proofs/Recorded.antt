@@ -7,9 +7,9 @@ use Rattle.mesa_pick_files.specs.mesa_columns.declared.rows.Row.{Row}
 use Rattle.mesa_schema.specs.Changes.{Lineage, columns_at, columns_of, epoch_of, lifted}
 use Rattle.mesa_pick_files.specs.mesa_columns.Schema.{is_schema}
 use Rattle.mesa_batch.specs.Totals.{abs_totals}
-use Rattle.mesa_check_file.specs.mesa_block.Layout.{Layout}
-use Rattle.mesa_check_file.specs.mesa_delta_format.File.{IsFile, file_bytes}
-use Rattle.mesa_check_file.specs.mesa_delta_format.Spread.{blocks_of}
+use Rattle.mesa_pick_files.specs.mesa_block.Layout.{Layout}
+use Rattle.mesa_delta.specs.mesa_delta_format.File.{IsFile, file_bytes}
+use Rattle.mesa_delta.specs.mesa_delta_format.Spread.{blocks_of}
 use Rattle.mesa_record.specs.declared.record.Files.{Files}
 use Rattle.mesa_record.specs.declared.record.ViewRef.{ViewRef}
 use Rattle.mesa_pick_files.specs.mesa_columns.declared.views.View.{View}
@@ -17,11 +17,11 @@ use Rattle.mesa_store_spec.proofs.Contents.{present_now}
 use Rattle.mesa_pick_files.specs.Files.{own_lineage}
 use Rattle.mesa_store_spec.specs.Catalog.{Delta}
 use Rattle.mesa_store_spec.specs.Fitting.{LiveFile, columns_seen, view_live}
-use Rattle.mesa_open_files.specs.Opening.{wanted_columns, wanted_layout}
-use Rattle.mesa_open_files.specs.declared.opening.Wanted.{Wanted}
-use Rattle.mesa_check_file.specs.Examined.{AreSumsIn, IsExaminedAs}
-use Rattle.mesa_check_file.specs.Sums.{counted}
-use Rattle.mesa_check_file.specs.declared.totals.Sums.{Sums}
+use Rattle.mesa_compare.specs.mesa_open_files.Opening.{wanted_columns, wanted_layout}
+use Rattle.mesa_compare.specs.mesa_open_files.declared.opening.Wanted.{Wanted}
+use Rattle.mesa_compare.specs.mesa_examine.Examined.{AreSumsIn, IsExaminedAs}
+use Rattle.mesa_compare.specs.mesa_examine.Sums.{counted}
+use Rattle.mesa_compare.specs.mesa_examine.declared.totals.Sums.{Sums}
 use Rattle.mesa_check.specs.Found.{AreFound, Found, IsFoundAs}
 use Rattle.mesa_check.specs.Faults.{agrees_if_any, is_view_found}
 use Rattle.mesa_check.specs.Tested.{AreSumsAt, AreSumsFound, HasRows, IsTestIn, IsTested, live_file_of}

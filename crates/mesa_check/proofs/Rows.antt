@@ -9,7 +9,7 @@ use Rattle.mesa_pick_files.specs.mesa_columns.declared.rows.Row.{Row}
 use Rattle.mesa_pick_files.specs.mesa_columns.declared.views.View.{View}
 use Rattle.mesa_schema.specs.Changes.{Lineage, columns_at, columns_of, epoch_of, lifted}
 use Rattle.mesa_pick_files.specs.mesa_columns.Columns.{Columns, aggs_of}
-use Rattle.mesa_open_files.specs.mesa_fold.Folded.{folded, rows_of}
+use Rattle.mesa_schema.specs.mesa_fold.Folded.{folded, rows_of}
 use Rattle.mesa_schema.specs.Views.{view_rows}
 use Rattle.mesa_batch.specs.Bound.{KeepsBound}
 use Rattle.mesa_batch.specs.Totals.{abs_total, sum_bound, sum_places}
@@ -20,11 +20,11 @@ use Rattle.mesa_store_spec.specs.Catalog.{Delta}
 use Rattle.mesa_store_spec.specs.Contents.{present, rows_if_any}
 use Rattle.mesa_store_spec.specs.Fitting.{LiveFile, delta_live, files_live, view_live}
 use Rattle.mesa_store_spec.proofs.Lists.{all_unmap, both_true}
-use Rattle.mesa_open_files.specs.declared.opening.Wanted.{Wanted}
+use Rattle.mesa_compare.specs.mesa_open_files.declared.opening.Wanted.{Wanted}
 use Rattle.mesa_pick_files.specs.Files.{Want, files_wanted, table_wanted, want_of}
 use Rattle.mesa_pick_files.specs.Lent.{with_rows}
-use Rattle.mesa_check_file.specs.Difference.{first_difference}
-use Rattle.mesa_check_file.specs.Compared.{HaveFiles, IsLiftedTo, present_parts, present_rows}
+use Rattle.mesa_compare.specs.Difference.{first_difference}
+use Rattle.mesa_compare.specs.Compared.{HaveFiles, IsLiftedTo, present_parts, present_rows}
 use Rattle.mesa_check.specs.Found.{AreFound, Found, IsFoundAs, rows_found}
 use Rattle.mesa_check.specs.Faults.{are_files_found, is_found, is_view_found, keep_bound, key_if, view_key, view_keys, view_keys_in}
 use Rattle.mesa_check.specs.Shown.{key_list}
@@ -160,7 +160,7 @@ module _ (ws : List Wanted) (l : Lineage) (ds : List Delta) (are : map want_of w
 
 -- parts with the same rows have one fold
 pub same_fold : (aggs : List Agg) (xs ys : List (List Row)) → rows_of xs ≡ rows_of ys → folded aggs xs ≡ folded aggs ys
-same_fold aggs xs ys same = ap (λ (rs : List Row). map (Rattle.mesa_open_files.specs.mesa_fold.Folded.folded_at aggs rs) (Rattle.mesa_open_files.specs.mesa_fold.Folded.keys_of rs)) same
+same_fold aggs xs ys same = ap (λ (rs : List Row). map (Rattle.mesa_schema.specs.mesa_fold.Folded.folded_at aggs rs) (Rattle.mesa_schema.specs.mesa_fold.Folded.keys_of rs)) same
 
 -- ---- keys
 

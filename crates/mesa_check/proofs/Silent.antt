@@ -3,7 +3,7 @@ use Rattle.std.proofs.Common.{◌≡◌, ℕ, ◌+◌, List, [], ◌∷◌, ◌+
 use Rattle.std.proofs.lemmas.Bool.Decides.{nat_tests}
 use Rattle.std.specs.Prelude.{◌||◌, cond, filter, is_some}
 use Rattle.std.specs.List.{AllByRecursion}
-use Rattle.mesa_check_file.proofs.mesa_columns.Lists.{all_append, all_so}
+use Rattle.mesa_schema.proofs.mesa_columns.Lists.{all_append, all_so}
 use Rattle.mesa_store_spec.proofs.Lists.{all_front, all_back, all_unmap}
 use Rattle.mesa_store_spec.specs.Catalog.{Delta, Ending, TableMeta, start_in}
 use Rattle.mesa_store_spec.specs.Fitting.{base_deltas}

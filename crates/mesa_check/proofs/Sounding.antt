@@ -7,22 +7,22 @@ use Rattle.mesa_pick_files.specs.mesa_columns.declared.rows.Row.{Row}
 use Rattle.mesa_pick_files.specs.mesa_columns.declared.views.View.{View}
 use Rattle.mesa_pick_files.specs.mesa_columns.Columns.{Columns, aggs_of}
 use Rattle.mesa_schema.specs.Changes.{Lineage, columns_at, columns_of, epoch_of, lifted}
-use Rattle.mesa_open_files.specs.mesa_fold.Folded.{folded, rows_of}
+use Rattle.mesa_schema.specs.mesa_fold.Folded.{folded, rows_of}
 use Rattle.mesa_schema.specs.Lineages.{IsLineage}
 use Rattle.mesa_pick_files.specs.mesa_columns.Rows.{AreRowsOf, IsRowOf, keys_rise}
 use Rattle.mesa_schema.specs.Views.{view_key_places, view_rows, view_value_places}
 use Rattle.mesa_pick_files.proofs.mesa_fold.GroupKeys.{groups_rise}
-use Rattle.mesa_check_file.proofs.mesa_columns.Lists.{all_append, all_both, all_map, all_so}
+use Rattle.mesa_schema.proofs.mesa_columns.Lists.{all_append, all_both, all_map, all_so}
 use Rattle.mesa_schema.proofs.PresentRows.{present_rise}
 use Rattle.mesa_pick_files.proofs.mesa_fold.RisingRows.{folded_rise}
 use Rattle.mesa_batch.specs.Totals.{AreAtMost, abs_totals, sum_places}
 use Rattle.mesa_disk.specs.Image.{Image}
-use Rattle.mesa_check_file.specs.mesa_block.Rows.{IsRow}
-use Rattle.mesa_check_file.specs.mesa_delta_format.Summary.{file_layout}
+use Rattle.mesa_pick_files.specs.mesa_block.Rows.{IsRow}
+use Rattle.mesa_delta.specs.mesa_delta_format.Summary.{file_layout}
 use Rattle.mesa_record.specs.declared.record.Files.{Files}
 use Rattle.mesa_record.specs.declared.record.ViewRef.{ViewRef}
-use Rattle.mesa_check_file.specs.Difference.{first_difference}
-use Rattle.mesa_check_file.proofs.Differences.{same_where_none}
+use Rattle.mesa_compare.specs.Difference.{first_difference}
+use Rattle.mesa_compare.proofs.Differences.{same_where_none}
 use Rattle.mesa_store_spec.specs.Catalog.{Delta, Ending, TableMeta, start_in}
 use Rattle.mesa_store_spec.specs.Fitting.{LiveFile, base_deltas, delta_in, delta_live, deltas_of, files_live, meta_live, view_live}
 use Rattle.mesa_store_spec.specs.Contents.{Rows, present, rows_in, rows_if_any}

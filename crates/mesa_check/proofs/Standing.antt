@@ -10,27 +10,27 @@ use Rattle.mesa_pick_files.specs.mesa_columns.declared.columns.ValueColumn.{Valu
 use Rattle.mesa_pick_files.specs.mesa_columns.declared.rows.Row.{Row}
 use Rattle.mesa_schema.specs.Changes.{Lineage, columns_at, columns_of, epoch_of, lifted}
 use Rattle.mesa_pick_files.specs.mesa_columns.Columns.{Columns, aggs_of}
-use Rattle.mesa_open_files.specs.mesa_fold.Folded.{folded, rows_of}
-use Rattle.mesa_open_files.specs.mesa_fold.Laws.{AreFull}
+use Rattle.mesa_schema.specs.mesa_fold.Folded.{folded, rows_of}
+use Rattle.mesa_schema.specs.mesa_fold.Laws.{AreFull}
 use Rattle.mesa_schema.specs.Lineages.{IsLineage}
 use Rattle.mesa_pick_files.specs.mesa_columns.Rows.{AreRowsOf, IsRowOf, keys_rise}
 use Rattle.mesa_pick_files.proofs.mesa_fold.Folds.{folded-folded, rows_of-append}
-use Rattle.mesa_check_file.proofs.mesa_columns.Lists.{all_drop, all_so}
+use Rattle.mesa_schema.proofs.mesa_columns.Lists.{all_drop, all_so}
 use Rattle.mesa_schema.proofs.PresentRows.{present_rise}
 use Rattle.mesa_pick_files.proofs.mesa_fold.RisingRows.{folded_rise}
 use Rattle.mesa_batch.specs.Bound.{KeepsBound}
 use Rattle.mesa_batch.proofs.Merged.{folds_totals}
 use Rattle.mesa_disk.specs.Image.{Image}
-use Rattle.mesa_check_file.specs.mesa_delta_format.Summary.{file_layout}
+use Rattle.mesa_delta.specs.mesa_delta_format.Summary.{file_layout}
 use Rattle.mesa_record.specs.declared.record.Files.{Files}
-use Rattle.mesa_check_file.specs.Difference.{first_difference}
-use Rattle.mesa_check_file.proofs.Differences.{same_where_none}
+use Rattle.mesa_compare.specs.Difference.{first_difference}
+use Rattle.mesa_compare.proofs.Differences.{same_where_none}
 use Rattle.mesa_batch.specs.Totals.{abs_total, sum_bound, sum_places}
 use Rattle.mesa_store_spec.specs.Catalog.{Delta, TableMeta, start_in}
 use Rattle.mesa_store_spec.specs.Contents.{Rows, present, rows_if_any}
 use Rattle.mesa_store_spec.specs.Fitting.{delta_live, files_live}
 use Rattle.mesa_store_spec.specs.Sound.{IsTold}
-use Rattle.mesa_check_file.specs.mesa_block.Rows.{IsRow}
+use Rattle.mesa_pick_files.specs.mesa_block.Rows.{IsRow}
 use Rattle.mesa_store_spec.proofs.Formed.{all_formed, rows_formed}
 use Rattle.mesa_store_spec.proofs.Lists.{all_front, both_true}
 use Rattle.mesa_store_spec.proofs.Rising.{rising}

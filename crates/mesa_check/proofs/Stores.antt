@@ -2,7 +2,7 @@
 use Rattle.std.proofs.Common.{◌≡◌, ℕ, List, [], Some, None, ap}
 use Rattle.std.specs.Prelude.{slice_get}
 use Rattle.std.specs.List.{AllByRecursion}
-use Rattle.mesa_check_file.proofs.mesa_columns.Lists.{all_both, all_map, all_so}
+use Rattle.mesa_schema.proofs.mesa_columns.Lists.{all_both, all_map, all_so}
 use Rattle.mesa_disk.specs.Image.{Image, file_of}
 use Rattle.mesa_store_spec.specs.Catalog.{Catalog, TableMeta}
 use Rattle.mesa_store_spec.specs.Fitting.{LiveFile, live_files, meta_live}

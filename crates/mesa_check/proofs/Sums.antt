@@ -7,7 +7,7 @@ use Rattle.std.proofs.lemmas.Bool.Decides.{nat_tests}
 use Rattle.std.proofs.lemmas.List.Sums.{sum_by-append}
 use Rattle.mesa_pick_files.specs.mesa_columns.declared.rows.Row.{Row}
 use Rattle.mesa_batch.specs.Totals.{abs_total, sum_bound}
-use Rattle.mesa_check_file.specs.Sums.{counted, most}
+use Rattle.mesa_compare.specs.mesa_examine.Sums.{counted, most}
 use Rattle.mesa_check.specs.Faults.{are_at_most}
 
 -- ---- of no rows, and of more

@@ -6,8 +6,8 @@ use Rattle.std.proofs.lemmas.Bool.Decides.{nat_tests}
 use Rattle.mesa_disk.specs.Image.{Image}
 use Rattle.mesa_schema.specs.Changes.{Lineage, columns_of, epoch_of}
 use Rattle.mesa_pick_files.specs.mesa_columns.declared.rows.Row.{Row}
-use Rattle.mesa_open_files.specs.mesa_fold.Folded.{rows_of}
-use Rattle.mesa_check_file.proofs.mesa_columns.Lists.{all_both, all_map, all_so}
+use Rattle.mesa_schema.specs.mesa_fold.Folded.{rows_of}
+use Rattle.mesa_schema.proofs.mesa_columns.Lists.{all_both, all_map, all_so}
 use Rattle.mesa_batch.specs.Totals.{abs_totals}
 use Rattle.mesa_store_spec.specs.Catalog.{Delta, TableMeta, empty_delta, start_in}
 use Rattle.mesa_store_spec.specs.Contents.{present}
@@ -20,7 +20,7 @@ use Rattle.mesa_catalog_table.specs.declared.table.Loaded.{Loaded}
 use Rattle.mesa_catalog_table.specs.declared.table.Table.{Table}
 use Rattle.mesa_catalog_table.specs.Meaning.{IsTable, ending_of, start_of_base, meta_of}
 use Rattle.mesa_catalog_table.proofs.Named.{flat_map-map}
-use Rattle.mesa_check_file.specs.Sums.{counted}
+use Rattle.mesa_compare.specs.mesa_examine.Sums.{counted}
 use Rattle.mesa_check.specs.Found.{AreFound, Found, IsFoundAs, rows_found}
 use Rattle.mesa_check.specs.Faults.{exceeds_totals, fails, fault_of, has_false_totals, is_found, is_totalled, is_true, keys_shown, merged_key, merged_keys, merged_singles, range_faults, table_faults}
 use Rattle.mesa_check.specs.Ranges.{Kind, Range, base_range, is_range, totals_range}

@@ -9,7 +9,7 @@ use Rattle.mesa_disk.specs.Image.{Image}
 use Rattle.mesa_pick_files.specs.mesa_columns.declared.rows.Row.{Row}
 use Rattle.mesa_schema.specs.Changes.{Lineage, columns_of}
 use Rattle.mesa_pick_files.specs.mesa_columns.Columns.{Columns, aggs_of}
-use Rattle.mesa_check_file.proofs.mesa_columns.Lists.{all_so}
+use Rattle.mesa_schema.proofs.mesa_columns.Lists.{all_so}
 use Rattle.mesa_batch.specs.Totals.{abs_total, sum_bound, sum_places}
 use Rattle.mesa_store_spec.specs.Contents.{present}
 use Rattle.mesa_store_spec.proofs.Lists.{both_true}

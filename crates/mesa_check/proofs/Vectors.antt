@@ -2,11 +2,11 @@
 use Rattle.std.proofs.Common.{◌≡◌, refl, ℕ, List, [], ◌∷◌, ◌++◌, Option, Some, None}
 use Rattle.std.specs.Prelude.{pos, codes, ◌==◌, if◌then◌else◌, replicate}
 use Rattle.mesa_pick_files.specs.mesa_value.declared.Agg.TheVariants as agg
-use Rattle.mesa_key.specs.declared.Format.TheVariants as format
-use Rattle.mesa_key.specs.declared.KeyType.TheVariants as kind
+use Rattle.mesa_schema.specs.mesa_key.declared.Format.TheVariants as format
+use Rattle.mesa_schema.specs.mesa_key.declared.KeyType.TheVariants as kind
 use Rattle.mesa_pick_files.specs.mesa_columns.declared.rows.Row.{Row}
 use Rattle.mesa_schema.specs.Changes.{Lineage}
-use Rattle.mesa_open_files.specs.mesa_file.declared.file_ref.FileRef.{FileRef}
+use Rattle.mesa_delta.specs.mesa_file.declared.file_ref.FileRef.{FileRef}
 use Rattle.mesa_record.specs.declared.record.ViewRef.{ViewRef}
 use Rattle.mesa_store_spec.specs.Catalog.{Catalog, Delta, empty_delta}
 use Rattle.mesa_check.specs.Found.{Found}

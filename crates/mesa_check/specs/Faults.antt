@@ -7,11 +7,11 @@ use Rattle.mesa_pick_files.specs.mesa_columns.declared.views.View.{View}
 use Rattle.mesa_pick_files.specs.mesa_columns.Columns.{Columns, aggs_of}
 use Rattle.mesa_schema.specs.Changes.{Lineage, columns_at, columns_of}
 use Rattle.mesa_schema.specs.Views.{view_rows}
-use Rattle.mesa_open_files.specs.mesa_fold.Folded.{folded, rows_of}
+use Rattle.mesa_schema.specs.mesa_fold.Folded.{folded, rows_of}
 use Rattle.mesa_batch.specs.Totals.{abs_totals, sum_bound}
 use Rattle.mesa_record.specs.declared.record.Files.{Files}
 use Rattle.mesa_record.specs.declared.record.ViewRef.{ViewRef}
-use Rattle.mesa_check_file.specs.Difference.{first_difference}
+use Rattle.mesa_compare.specs.Difference.{first_difference}
 use Rattle.mesa_store_spec.specs.Catalog.{Catalog, Delta, TableMeta, start_in}
 use Rattle.mesa_store_spec.specs.Fitting.{base_deltas}
 use Rattle.mesa_store_spec.specs.Contents.{present, rows_in}

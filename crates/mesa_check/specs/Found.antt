@@ -3,8 +3,8 @@ use Rattle.std.specs.Prelude.{◌≡◌, ℕ, List, [], Option, Some, None, unwr
 use Rattle.std.specs.List.{AllByRecursion}
 use Rattle.mesa_pick_files.specs.mesa_columns.declared.rows.Row.{Row}
 use Rattle.mesa_disk.specs.Image.{Image, file_of}
-use Rattle.mesa_check_file.specs.mesa_delta_format.File.{IsFile, file_bytes}
-use Rattle.mesa_check_file.specs.mesa_delta_format.Summary.{IsReferenceOf}
+use Rattle.mesa_delta.specs.mesa_delta_format.File.{IsFile, file_bytes}
+use Rattle.mesa_delta.specs.mesa_delta_format.Summary.{IsReferenceOf}
 use Rattle.mesa_pick_files.specs.mesa_commit.Images.{Has}
 use Rattle.mesa_store_spec.specs.Catalog.{Catalog}
 use Rattle.mesa_store_spec.specs.Fitting.{LiveFile, live_files}

@@ -8,10 +8,10 @@ use Rattle.mesa_batch.specs.Totals.{abs_totals}
 use Rattle.mesa_store_spec.specs.Catalog.{Delta}
 use Rattle.mesa_store_spec.specs.Contents.{present}
 use Rattle.mesa_store_spec.specs.Fitting.{LiveFile, delta_live}
-use Rattle.mesa_open_files.specs.Opening.{wanted_columns}
-use Rattle.mesa_open_files.specs.declared.opening.Wanted.{Wanted}
-use Rattle.mesa_check_file.specs.Sums.{AreSumsOf, counted}
-use Rattle.mesa_check_file.specs.declared.totals.Sums.{Sums}
+use Rattle.mesa_compare.specs.mesa_open_files.Opening.{wanted_columns}
+use Rattle.mesa_compare.specs.mesa_open_files.declared.opening.Wanted.{Wanted}
+use Rattle.mesa_compare.specs.mesa_examine.Sums.{AreSumsOf, counted}
+use Rattle.mesa_compare.specs.mesa_examine.declared.totals.Sums.{Sums}
 use Rattle.mesa_check.specs.Found.{AreFound, Found, IsFoundAs, rows_found}
 use Rattle.mesa_check.specs.Faults.{is_found, is_totalled}
 use Rattle.mesa_check.specs.Held.{delta_of}

@@ -7,7 +7,7 @@ ghost use Rattle.mesa_store_spec.specs.Contents.{present as present_of};
 ghost use Rattle.mesa_schema.specs.Changes.{Lineage, columns_of};
 ghost use Rattle.mesa_pick_files.specs.mesa_columns.declared.rows.Row.{Row as AnyRow};
 ghost use Rattle.mesa_catalog_table.specs.Meaning.{meta_of};
-ghost use Rattle.mesa_check_file.specs.Sums.{counted as counted_of};
+ghost use Rattle.mesa_compare.specs.mesa_examine.Sums.{counted as counted_of};
 ghost use Rattle.mesa_check.specs.Found.{Found, rows_found};
 ghost use Rattle.mesa_check.specs.Faults.{is_found, keep_bound as keeps_bound};
 ghost use Rattle.mesa_check.specs.Counted.{is_single as is_single_of, rows_where};

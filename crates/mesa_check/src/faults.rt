@@ -8,8 +8,8 @@ ghost use Rattle.mesa_store_spec.specs.Fitting.{meta_live};
 ghost use Rattle.mesa_pick_files.specs.Lent.{now_if_any};
 ghost use Rattle.mesa_schema.specs.Changes.{epoch_of};
 ghost use Rattle.mesa_catalog_table.specs.Meaning.{meta_of};
-ghost use Rattle.mesa_open_files.specs.Opening.{Counted};
-ghost use Rattle.mesa_check_file.specs.Examined.{is_read_failure};
+ghost use Rattle.mesa_compare.specs.mesa_open_files.Opening.{Counted};
+ghost use Rattle.mesa_compare.specs.mesa_examine.Examined.{is_read_failure};
 ghost use Rattle.mesa_check.specs.Found.{AreFound, Found};
 ghost use Rattle.mesa_check.specs.Faults.{exceeds_totals as exceeds_them, fault_of, keys_shown, range_faults, table_faults};
 ghost use Rattle.mesa_check.specs.Ranges.{is_range as is_range_of};
@@ -26,10 +26,9 @@ use crate::ranges::held_ranges;
 use crate::testing::{Test, test_ranges};
 use crate::totals::{add_up, are_at_most};
 use mesa_catalog_table::Table;
-use mesa_check_file::CheckError;
+use mesa_compare::{CheckError, DeltaDisk};
 use mesa_disk::Made;
-use mesa_key::KeyBytes;
-use mesa_open_files::DeltaDisk;
+use mesa_schema::KeyBytes;
 use std::alloc::{AllocError, Global};
 
 /// A table's fault: its range of versions, and the key that shows it, if a single one does.

@@ -15,6 +15,6 @@ mod totals;
 mod verdict;
 
 pub use laws::{ranges_are_ordered, sound_where_no_fault};
-pub use mesa_check_file::CheckError;
+pub use mesa_compare::CheckError;
 pub use store::check;
 pub use verdict::Verdict;

@@ -5,20 +5,18 @@ ghost use Rattle.mesa_disk.specs.Image.{Image};
 ghost use Rattle.mesa_disk.specs.Story.{Unmoved};
 ghost use Rattle.mesa_store_spec.specs.Shape.{IsWithinBound};
 ghost use Rattle.mesa_schema.specs.Changes.{epoch_of};
-ghost use Rattle.mesa_open_files.specs.Opening.{Counted};
-ghost use Rattle.mesa_check_file.specs.Examined.{is_read_failure};
+ghost use Rattle.mesa_compare.specs.mesa_open_files.Opening.{Counted};
+ghost use Rattle.mesa_compare.specs.mesa_examine.Examined.{is_read_failure};
 ghost use Rattle.mesa_check.specs.Held.{delta_of};
 ghost use Rattle.mesa_check.specs.Tested.{IsTestOf, range_of};
 
 use crate::files::{are_views_found, test_file};
 use crate::range::Held;
 use crate::totals::{agree, no_sums};
-use mesa_check_file::CheckError;
+use mesa_compare::{CheckError, DeltaDisk, Wanted};
 use mesa_disk::Made;
-use mesa_list::Items;
-use mesa_open_files::{DeltaDisk, Wanted};
 use mesa_record::Files;
-use mesa_schema::Evolving;
+use mesa_schema::{Evolving, Items};
 use std::alloc::{AllocError, Global};
 use std::sync::Arc;
 

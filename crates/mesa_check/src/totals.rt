@@ -5,7 +5,7 @@ ghost use Rattle.mesa_batch.specs.Totals.{abs_totals, sum_bound};
 ghost use Rattle.mesa_schema.specs.Changes.{Lineage, columns_of};
 ghost use Rattle.mesa_pick_files.specs.mesa_columns.Columns.{Columns};
 ghost use Rattle.mesa_pick_files.specs.mesa_columns.declared.rows.Row.{Row as AnyRow};
-ghost use Rattle.mesa_check_file.specs.Sums.{counted as counted_of, most};
+ghost use Rattle.mesa_compare.specs.mesa_examine.Sums.{counted as counted_of, most};
 ghost use Rattle.mesa_check.specs.Found.{Found};
 ghost use Rattle.mesa_check.specs.Faults.{agrees_if_any, are_at_most as at_most};
 ghost use Rattle.mesa_check.specs.Counted.{is_counted, rows_where};
@@ -17,8 +17,7 @@ use crate::range::{Held, Kind};
 use crate::testing::Test;
 use mesa_batch::OVER_BOUND;
 use mesa_catalog_table::no_totals;
-use mesa_list::Items;
-use mesa_schema::{Schema, Totals};
+use mesa_schema::{Items, Schema, Totals};
 use std::alloc::{AllocError, Global};
 
 /// Those of no rows.

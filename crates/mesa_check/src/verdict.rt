@@ -1,6 +1,5 @@
 // What a check answers.
-use mesa_key::KeyBytes;
-use mesa_schema::Name;
+use mesa_schema::{KeyBytes, Name};
 
 /// What a check of a store answers: that it is sound, or its first fault.
 #[derive(Drop)]

@@ -6,7 +6,7 @@ use Rattle.mesa_batch.specs.Totals.{abs_totals}
 use Rattle.mesa_store_spec.specs.Contents.{present}
 use Rattle.mesa_schema.specs.Changes.{columns_of}
 use Rattle.mesa_pick_files.specs.mesa_columns.Columns.{Columns}
-use Rattle.mesa_check_file.specs.Sums.{counted}
+use Rattle.mesa_compare.specs.mesa_examine.Sums.{counted}
 use Rattle.mesa_check.specs.Found.{rows_found}
 use Rattle.mesa_check.specs.Faults.{is_found, keep_bound}
 use Rattle.mesa_check.specs.Counted.{is_single, rows_where}

@@ -4,7 +4,7 @@ use Rattle.std.specs.List.{AllByRecursion}
 use Rattle.mesa_disk.specs.Image.{Image}
 use Rattle.mesa_batch.specs.Totals.{abs_totals}
 use Rattle.mesa_schema.specs.Changes.{columns_of}
-use Rattle.mesa_check_file.specs.Sums.{counted}
+use Rattle.mesa_compare.specs.mesa_examine.Sums.{counted}
 use Rattle.mesa_check.specs.Found.{Found}
 use Rattle.mesa_check.specs.Counted.{is_single, rows_where}
 use Rattle.mesa_check.specs.Shown.{tested_range}

@@ -5,9 +5,9 @@ use Rattle.mesa_batch.specs.Totals.{abs_totals}
 use Rattle.mesa_store_spec.specs.Sound.{all_parts}
 use Rattle.mesa_schema.specs.Changes.{columns_of}
 use Rattle.mesa_pick_files.specs.mesa_columns.Columns.{Columns}
-use Rattle.mesa_open_files.specs.mesa_fold.Folded.{rows_of}
+use Rattle.mesa_schema.specs.mesa_fold.Folded.{rows_of}
 use Rattle.mesa_catalog_table.specs.Meaning.{meta_of}
-use Rattle.mesa_check_file.specs.Sums.{counted}
+use Rattle.mesa_compare.specs.mesa_examine.Sums.{counted}
 use Rattle.mesa_check.specs.Found.{rows_found}
 use Rattle.mesa_check.specs.Faults.{are_at_most}
 use Rattle.mesa_check.specs.Counted.{is_counted, rows_where}

@@ -8,7 +8,7 @@ use Rattle.mesa_check.specs.Shown.{is_found_in, tested_range}
 use Rattle.mesa_check.specs.Tested.{IsRead}
 use Rattle.mesa_check.specs.declared.testing.Test.{Test}
 use Rattle.mesa_check.proofs.Earlier.{IsEarlier, earlier_agrees, earlier_ends, earlier_epoch, earlier_more}
-use Rattle.mesa_open_files.proofs.Counts.{counted_more, unmoved_more}
+use Rattle.mesa_compare.proofs.mesa_open_files.Counts.{counted_more, unmoved_more}
 use Rattle.mesa_check.proofs.Lists.{all_item, all_more, flat_end, flat_first, flat_none, none_first}
 use Rattle.mesa_check.proofs.Told.{meta_read, told_as}
 use Rattle.mesa_check.proofs.faults.first_fault.Goals as goal

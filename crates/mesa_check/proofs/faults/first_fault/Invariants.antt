@@ -5,7 +5,7 @@ use Rattle.mesa_disk.specs.Image.{Image}
 use Rattle.mesa_disk.specs.Story.{Unmoved}
 use Rattle.mesa_pick_files.specs.Lent.{now_if_any}
 use Rattle.mesa_catalog_table.specs.Meaning.{meta_of}
-use Rattle.mesa_open_files.specs.Opening.{Counted}
+use Rattle.mesa_compare.specs.mesa_open_files.Opening.{Counted}
 use Rattle.mesa_check.specs.Found.{Found}
 use Rattle.mesa_check.specs.Faults.{exceeds_totals, range_faults}
 use Rattle.mesa_check.specs.Held.{IsHeld}

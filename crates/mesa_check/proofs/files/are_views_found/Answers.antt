@@ -1,13 +1,13 @@
 use Rattle.std.proofs.Common.{◌+◌, ◌∙◌, ◌∷◌, [], sym, subst, take, ◌++◌}
 use Rattle.std.specs.List.{AllByRecursion}
-use Rattle.mesa_check_file.proofs.mesa_columns.Lists.{all_map}
+use Rattle.mesa_schema.proofs.mesa_columns.Lists.{all_map}
 use Rattle.mesa_store_spec.proofs.Lists.{all_back, all_front, all_unmap}
 use Rattle.mesa_store_spec.specs.Fitting.{LiveFile, view_live}
 use Rattle.mesa_record.specs.declared.record.ViewRef.{ViewRef}
 use Rattle.mesa_check.specs.Found.{IsFoundAs}
 use Rattle.mesa_check.specs.Faults.{is_view_found}
 use Rattle.mesa_check.specs.Tested.{HasRows}
-use Rattle.mesa_open_files.proofs.Counts.{counted_more, unmoved_more}
+use Rattle.mesa_compare.proofs.mesa_open_files.Counts.{counted_more, unmoved_more}
 use Rattle.mesa_check.proofs.Lists.{all_item, all_more, all_more_pass, one_fails, taken_more}
 use Rattle.mesa_check.proofs.files.are_views_found.Goals as goal
 

@@ -3,7 +3,7 @@ use Rattle.std.specs.List.{AllByRecursion, list_all}
 use Rattle.mesa_disk.specs.Image.{Image}
 use Rattle.mesa_disk.specs.Story.{Unmoved}
 use Rattle.mesa_store_spec.specs.Fitting.{view_live}
-use Rattle.mesa_open_files.specs.Opening.{Counted}
+use Rattle.mesa_compare.specs.mesa_open_files.Opening.{Counted}
 use Rattle.mesa_check.specs.Found.{AreFound, Found}
 use Rattle.mesa_check.specs.Faults.{is_view_found}
 use Rattle.mesa_check.specs.Tested.{HasRows}

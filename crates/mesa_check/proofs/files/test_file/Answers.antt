@@ -3,7 +3,7 @@ use Rattle.std.specs.Prelude.{IsTrue}
 use Rattle.std.proofs.lemmas.Result.{IfOk-weaker}
 use Rattle.mesa_pick_files.specs.mesa_columns.Schema.{is_schema}
 use Rattle.mesa_schema.specs.Changes.{Lineage, columns_at}
-use Rattle.mesa_open_files.specs.Opening.{wanted_columns}
+use Rattle.mesa_compare.specs.mesa_open_files.Opening.{wanted_columns}
 use Rattle.mesa_check.proofs.Recorded.{found_once, has_rows, some_as_found}
 use Rattle.mesa_check.proofs.files.test_file.Goals as goal
 

@@ -7,7 +7,7 @@ use Rattle.mesa_check.specs.Faults.{view_key, view_keys_in}
 use Rattle.mesa_check.specs.Held.{delta_of}
 use Rattle.mesa_check.specs.Shown.{key_list}
 use Rattle.mesa_check.specs.Tested.{IsThere}
-use Rattle.mesa_open_files.proofs.Counts.{counted_more, unmoved_more}
+use Rattle.mesa_compare.proofs.mesa_open_files.Counts.{counted_more, unmoved_more}
 use Rattle.mesa_check.proofs.Lists.{all_item, flat_end, flat_first, flat_none}
 use Rattle.mesa_check.proofs.Rows.{present_is, there_files}
 use Rattle.mesa_check.proofs.keys.first_view_key.Goals as goal

@@ -5,7 +5,7 @@ use Rattle.mesa_disk.specs.Story.{Unmoved}
 use Rattle.mesa_record.specs.declared.record.ViewRef.{ViewRef}
 use Rattle.mesa_schema.specs.Changes.{columns_of}
 use Rattle.mesa_store_spec.specs.Contents.{present}
-use Rattle.mesa_open_files.specs.Opening.{Counted}
+use Rattle.mesa_compare.specs.mesa_open_files.Opening.{Counted}
 use Rattle.mesa_check.specs.Found.{Found, rows_found}
 use Rattle.mesa_check.specs.Faults.{keep_bound, view_key}
 use Rattle.mesa_check.specs.Held.{delta_of}

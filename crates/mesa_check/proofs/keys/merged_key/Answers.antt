@@ -8,8 +8,8 @@ use Rattle.mesa_pick_files.specs.Lent.{lent_in, now_if_any}
 use Rattle.mesa_record.specs.declared.record.Files.{Files}
 use Rattle.mesa_schema.specs.Changes.{columns_at, columns_of, epoch_of, lifted}
 use Rattle.mesa_catalog_table.specs.Meaning.{meta_of}
-use Rattle.mesa_open_files.specs.Opening.{HasEpoch}
-use Rattle.mesa_check_file.specs.Compared.{IsLiftedTo}
+use Rattle.mesa_compare.specs.mesa_open_files.Opening.{HasEpoch}
+use Rattle.mesa_compare.specs.Compared.{IsLiftedTo}
 use Rattle.mesa_check.specs.Found.{rows_found}
 use Rattle.mesa_check.specs.Held.{delta_of}
 use Rattle.mesa_check.specs.Parts.{parts_of}

@@ -6,8 +6,8 @@ use Rattle.mesa_schema.specs.Changes.{Lineage, columns_of, epoch_of, lifted}
 use Rattle.mesa_schema.specs.Views.{view_rows}
 use Rattle.mesa_pick_files.specs.mesa_columns.declared.rows.Row.{Row}
 use Rattle.mesa_pick_files.specs.mesa_columns.declared.views.View.{View}
-use Rattle.mesa_check_file.specs.Difference.{first_difference}
-use Rattle.mesa_check_file.specs.Compared.{present_rows}
+use Rattle.mesa_compare.specs.Difference.{first_difference}
+use Rattle.mesa_compare.specs.Compared.{present_rows}
 use Rattle.mesa_check.specs.Found.{rows_found}
 use Rattle.mesa_check.specs.Faults.{keep_bound}
 use Rattle.mesa_check.specs.Tested.{IsThere}

@@ -11,7 +11,7 @@ use Rattle.mesa_check.specs.Faults.{table_faults}
 use Rattle.mesa_check.specs.Held.{IsHeld}
 use Rattle.mesa_check.specs.Shown.{shown_fault}
 use Rattle.mesa_check.specs.Tested.{HasRows}
-use Rattle.mesa_open_files.proofs.Counts.{counted_more, unmoved_more}
+use Rattle.mesa_compare.proofs.mesa_open_files.Counts.{counted_more, unmoved_more}
 use Rattle.mesa_check.proofs.Lists.{all_item, all_more, all_whole, flat_end, flat_first, flat_none, got_same, none_first}
 use Rattle.mesa_check.proofs.store.check_tables.Goals as goal
 

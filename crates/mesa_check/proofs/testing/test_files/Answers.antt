@@ -4,7 +4,7 @@ use Rattle.std.specs.List.{AllByRecursion, list_all}
 use Rattle.mesa_batch.specs.Totals.{sum_bound}
 use Rattle.mesa_store_spec.specs.Fitting.{view_live}
 use Rattle.mesa_record.specs.declared.record.ViewRef.{ViewRef}
-use Rattle.mesa_check_file.specs.declared.totals.Sums.{Sums}
+use Rattle.mesa_compare.specs.mesa_examine.declared.totals.Sums.{Sums}
 use Rattle.mesa_check.specs.Found.{AreFound}
 use Rattle.mesa_check.specs.Faults.{agrees_if_any, is_view_found}
 use Rattle.mesa_check.specs.Held.{delta_of}

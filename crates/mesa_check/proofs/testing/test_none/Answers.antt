@@ -3,7 +3,7 @@ use Rattle.std.specs.Prelude.{IfSome, Option}
 use Rattle.std.specs.List.{AllByRecursion}
 use Rattle.mesa_batch.specs.Totals.{abs_totals, sum_bound}
 use Rattle.mesa_schema.specs.Changes.{columns_at, columns_of}
-use Rattle.mesa_check_file.specs.Sums.{counted}
+use Rattle.mesa_compare.specs.mesa_examine.Sums.{counted}
 use Rattle.mesa_check.specs.Faults.{agrees_if_any}
 use Rattle.mesa_check.specs.Held.{delta_of}
 use Rattle.mesa_check.proofs.Recorded.{without_files}

@@ -1,9 +1,9 @@
 use Rattle.std.proofs.Common.{◌++◌, ◌∙◌, ◌∷◌, [], ap, sym, subst, map}
 use Rattle.std.specs.List.{AllByRecursion}
 use Rattle.std.proofs.lemmas.List.{map_push}
-use Rattle.mesa_check_file.proofs.mesa_columns.Lists.{all_append}
+use Rattle.mesa_schema.proofs.mesa_columns.Lists.{all_append}
 use Rattle.mesa_check.specs.Tested.{IsTestOf, range_of}
-use Rattle.mesa_open_files.proofs.Counts.{counted_more, unmoved_more}
+use Rattle.mesa_compare.proofs.mesa_open_files.Counts.{counted_more, unmoved_more}
 use Rattle.mesa_check.proofs.Lists.{taken_more}
 use Rattle.mesa_check.proofs.testing.test_ranges.Goals as goal
 

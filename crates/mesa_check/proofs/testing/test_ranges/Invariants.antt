@@ -1,7 +1,7 @@
 use Rattle.std.proofs.Common.{◌≡◌, map, take, false}
 use Rattle.std.specs.List.{AllByRecursion}
 use Rattle.mesa_disk.specs.Story.{Unmoved}
-use Rattle.mesa_open_files.specs.Opening.{Counted}
+use Rattle.mesa_compare.specs.mesa_open_files.Opening.{Counted}
 use Rattle.mesa_check.specs.Tested.{IsTestOf, range_of}
 use Rattle.mesa_check.proofs.testing.test_ranges.Given as goal
 

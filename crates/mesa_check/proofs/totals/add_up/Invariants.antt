@@ -3,7 +3,7 @@ use Rattle.std.specs.Prelude.{flat_map}
 use Rattle.std.specs.List.{AllByRecursion}
 use Rattle.mesa_batch.specs.Totals.{abs_totals}
 use Rattle.mesa_schema.specs.Changes.{Lineage, columns_of}
-use Rattle.mesa_check_file.specs.Sums.{counted}
+use Rattle.mesa_compare.specs.mesa_examine.Sums.{counted}
 use Rattle.mesa_check.specs.Found.{Found}
 use Rattle.mesa_check.specs.Counted.{is_counted, rows_where}
 use Rattle.mesa_check.specs.Held.{range_in}

@@ -5,7 +5,7 @@ use Rattle.std.proofs.lemmas.Result.{IfOk-weaker}
 use Rattle.mesa_batch.specs.Totals.{abs_totals, sum_places}
 use Rattle.mesa_store_spec.specs.Contents.{present}
 use Rattle.mesa_pick_files.specs.mesa_columns.Columns.{aggs_of}
-use Rattle.mesa_check_file.specs.Sums.{counted, most}
+use Rattle.mesa_compare.specs.mesa_examine.Sums.{counted, most}
 use Rattle.mesa_check.specs.Found.{rows_found}
 use Rattle.mesa_check.specs.Counted.{is_counted, rows_where}
 use Rattle.mesa_check.specs.Held.{delta_of, range_in}

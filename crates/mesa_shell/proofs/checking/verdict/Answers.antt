@@ -1,6 +1,6 @@
 use Rattle.std.proofs.Common.{◌≡◌, Err, true, false, refl, ap, subst, sym}
 use Rattle.mesa_disk.specs.Story.{Unmoved}
-use Rattle.mesa_check.specs.mesa_check_file.Examined.{is_read_failure}
+use Rattle.mesa_check.specs.mesa_examine.Examined.{is_read_failure}
 use Rattle.mesa_recover.specs.Opening.{HasReason}
 use Rattle.mesa_recover.specs.declared.error.OpenError.TheVariants as open_error
 use Rattle.mesa_check.specs.Verdict.{fault_told}
