@@ -31,7 +31,9 @@ use mesa_engine::{Engine, Naming, Who};
 use mesa_io::Sink;
 use mesa_model::Kind;
 use mesa_open_files::{CompactError, DeltaDisk, Recast, Recasted};
-use mesa_recast_turns::{give_back_recast, grant_recast, recast, renew_recast, rest, tables_become};
+use mesa_recast_turns::{
+    give_back_recast, grant_recast, recast, renew_recast, rest, tables_become,
+};
 
 // What holds of a recast's files between turns, by what was so at its grant.
 fn held<N: Naming, M: Made, D: Disk<M>, K: Sink>(

@@ -1,4 +1,4 @@
-use Rattle.std.proofs.Common.{◌≡◌, ◌∷◌, ◌++◌, [], length, true, not, refl, sym, ◌∙◌, ap, subst}
+use Rattle.std.proofs.Common.{◌≡◌, ◌∷◌, ◌++◌, [], length, true, false, not, refl, sym, ◌∙◌, ap, subst}
 use Rattle.mesa_work_turns.specs.mesa_history_spec.Counting.{answers_bench, answers_disk}
 use Rattle.mesa_work_turns.specs.mesa_history_spec.Replay.{closes}
 use Rattle.mesa_work_turns.specs.mesa_history_spec.Run.{Renewed, Finished}

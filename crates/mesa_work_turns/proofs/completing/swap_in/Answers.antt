@@ -379,8 +379,8 @@ kept_failed g c =
 pub invariant_of-engine-in-Err-committed : goal.invariant_of-engine-in-Err-committed
 invariant_of-engine-in-Err-committed g c = kept_failed g c
 
-pub returns : goal.returns
-returns g c =
+pub returns-in-Err-committed : goal.returns-in-Err-committed
+returns-in-Err-committed g c =
     let N = g.N.Naming in
     let n : Starts = starts_of N.script N.start N.sound N.origin N.since N.counted N.at_start in
     let i = c.engine.inside in

@@ -63,8 +63,8 @@ returns-in-Some g c =
       closed = tt;
     }
 
-pub returns-in-None : goal.returns-in-None
-returns-in-None g c =
+pub returns-in-Ok : goal.returns-in-Ok
+returns-in-Ok g c =
     let story = g.D.Disk.story c.args.disk.now in
     let new = g.D.Disk.story c.write_record.new.disk in
     let m = c.args.metadata.now in
@@ -103,8 +103,8 @@ returns-in-None g c =
 
 -- ---- the device has failed
 
-pub returns-in-Err : goal.returns-in-Err
-returns-in-Err g c =
+pub returns : goal.returns
+returns g c =
     let story = g.D.Disk.story c.args.disk.now in
     let new = g.D.Disk.story c.write_record.new.disk in
     let m = c.args.metadata.now in
