@@ -1,4 +1,7 @@
 pub use Rattle.mesa_pick_files.proofs.mesa_catalog_records as mesa_catalog_records
+pub use Rattle.mesa_pick_files.proofs.mesa_fold as mesa_fold
+pub use Rattle.mesa_pick_files.proofs as mesa_pick_files
+pub use Rattle.mesa_pick_files.proofs.mesa_schema as mesa_schema
 pub mod Looks
 pub mod Pins
 pub mod Plans

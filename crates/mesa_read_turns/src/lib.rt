@@ -22,6 +22,7 @@ pub use damages::can_be_told;
 pub use explaining::explain;
 pub use giving_back::give_back_query;
 pub use looking::look;
+pub use mesa_pick_files::{Gathered, GatheredRanges, gather, gather_more, gather_recast};
 pub use opening_query::pin_query;
 pub use pinning::pin;
 pub use releasing::release;

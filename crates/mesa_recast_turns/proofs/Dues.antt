@@ -19,7 +19,7 @@ use Rattle.mesa_model.specs.declared.commands.Command.TheVariants as command
 use Rattle.mesa_model.specs.declared.commands.RecastWords.{RecastWords}
 use Rattle.mesa_model.specs.declared.entries.Entry.{Entry}
 use Rattle.mesa_model.specs.declared.replies.Refusal.TheVariants as no
-use Rattle.mesa_pick_files.proofs.mesa_schema.Passing.{passed_unless}
+use Rattle.mesa_work_turns.proofs.mesa_schema.Passing.{passed_unless}
 use Rattle.mesa_work_turns.specs.mesa_schema.Changes.{Lineage, epoch_of}
 use Rattle.mesa_work_turns.specs.mesa_schema.Recasts.{Recast, recast_checked}
 

@@ -2,7 +2,7 @@
 use Rattle.std.specs.Prelude.{◌≡◌, ℕ, ◌+◌, ◌<◌, ◌≤◌, List, ◌++◌, Option, None}
 use Rattle.std.specs.List.{AllByRecursion}
 use Rattle.mesa_io.specs.Causes.{last}
-use Rattle.mesa_pick_files.specs.Ranges.{HoldsAll}
+use Rattle.mesa_work_turns.specs.mesa_pick_files.Ranges.{HoldsAll}
 use Rattle.mesa_work_turns.specs.mesa_history_spec.Counting.{count_in, is_disk_fault}
 use Rattle.mesa_work_turns.specs.mesa_history_spec.Run.{State, begins}
 use Rattle.mesa_work_turns.specs.mesa_history_spec.Sources.{Written}

@@ -1,6 +1,6 @@
 // What a recast takes of memory.
 ghost use Rattle.std.specs.Prelude.{◌≡◌, ◌+◌, ◌<◌, ◌^◌, ℕ, Some, Ok, IfOk, OnErr, length};
-ghost use Rattle.mesa_pick_files.specs.Ranges.{HoldsAll};
+ghost use Rattle.mesa_work_turns.specs.mesa_pick_files.Ranges.{HoldsAll};
 ghost use Rattle.mesa_engine.specs.mesa_store_spec.Shape.{IsCatalog};
 ghost use Rattle.mesa_work_turns.specs.mesa_key.Spelling.{AreBytes};
 ghost use Rattle.mesa_engine.specs.EngineState.{books_of, most_files, next_id};

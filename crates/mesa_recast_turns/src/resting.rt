@@ -2,7 +2,7 @@
 ghost use Rattle.std.specs.Prelude.{◌≡◌, ◌≢◌, ◌⊎◌, ◌↔◌, ◌<◌, true, None, Ok, Err, IfErr, IfOk, IfSome, IsTrue, OnOk, length};
 ghost use Rattle.mesa_work_turns.specs.mesa_copy.Copying.{IsRecastBounded};
 ghost use Rattle.mesa_delta.specs.declared.error.FileError.TheVariants as file_error;
-ghost use Rattle.mesa_pick_files.specs.Ranges.{HoldsAll};
+ghost use Rattle.mesa_work_turns.specs.mesa_pick_files.Ranges.{HoldsAll};
 ghost use Rattle.mesa_engine.specs.mesa_store_spec.Catalog.{meta_at};
 ghost use Rattle.mesa_engine.specs.Written.{written_at};
 ghost use Rattle.mesa_work_turns.specs.mesa_invariant_spec.Turns.{NoneFell, SomeRose};
@@ -20,7 +20,7 @@ use mesa_disk::{Damage, Made};
 use mesa_engine::{Engine, Metadata, Naming};
 use mesa_io::Sink;
 use mesa_open_files::{DeltaDisk, Recast, RecastRange, Unopened};
-use mesa_pick_files::gather_more;
+use mesa_work_turns::gather_more;
 
 // Whether further ranges are opened: the vault is open, no file of the recast was damaged, and its table has still the epoch in which it was granted.
 fn may_rest<R>(metadata: &Metadata, task: &Recast<R>) -> bool

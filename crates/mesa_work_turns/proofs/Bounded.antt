@@ -21,18 +21,18 @@ use Rattle.mesa_engine.specs.mesa_store_spec.Moves.{is_base, last_of}
 use Rattle.mesa_engine.specs.EngineState.{EngineState}
 use Rattle.mesa_engine.specs.Vault.{Origin, IsVault}
 use Rattle.mesa_engine.proofs.Standing.{held_there}
-use Rattle.mesa_pick_files.specs.mesa_merge.Inputs.{AreTold, knowns_of, lifted_parts}
+use Rattle.mesa_read_turns.specs.mesa_merge.Inputs.{AreTold, knowns_of, lifted_parts}
 use Rattle.mesa_model.specs.declared.entries.Entry.{Entry}
-use Rattle.mesa_pick_files.specs.Folding.{folded_deltas}
-use Rattle.mesa_pick_files.specs.Gathered.{IsGathered}
-use Rattle.mesa_pick_files.specs.Read.{own_file}
-use Rattle.mesa_pick_files.proofs.Folds.{table_parts}
-use Rattle.mesa_pick_files.proofs.Given.{AreGiven, IsGiven, all_given, all_told, part_of, rows_seen}
-use Rattle.mesa_pick_files.proofs.Reading.{owned}
-use Rattle.mesa_pick_files.proofs.Sums.{folded_sums}
-use Rattle.mesa_pick_files.proofs.Telling.{meta_given}
-use Rattle.mesa_pick_files.proofs.Among.{all_folded}
-use Rattle.mesa_pick_files.specs.Files.{Seen, Want, table_wanted, want_of}
+use Rattle.mesa_read_turns.specs.mesa_pick_files.Folding.{folded_deltas}
+use Rattle.mesa_read_turns.specs.mesa_pick_files.Gathered.{IsGathered}
+use Rattle.mesa_read_turns.specs.mesa_pick_files.Read.{own_file}
+use Rattle.mesa_read_turns.proofs.mesa_pick_files.Folds.{table_parts}
+use Rattle.mesa_read_turns.proofs.mesa_pick_files.Given.{AreGiven, IsGiven, all_given, all_told, part_of, rows_seen}
+use Rattle.mesa_read_turns.proofs.mesa_pick_files.Reading.{owned}
+use Rattle.mesa_read_turns.proofs.mesa_pick_files.Sums.{folded_sums}
+use Rattle.mesa_read_turns.proofs.mesa_pick_files.Telling.{meta_given}
+use Rattle.mesa_read_turns.proofs.mesa_pick_files.Among.{all_folded}
+use Rattle.mesa_read_turns.specs.mesa_pick_files.Files.{Seen, Want, table_wanted, want_of}
 use Rattle.mesa_open_files.specs.Opening.{HaveOpened}
 use Rattle.mesa_open_files.specs.declared.merging.Task.{Task}
 use Rattle.mesa_open_files.specs.declared.opening.Wanted.{Wanted}

@@ -45,7 +45,7 @@ use Rattle.mesa_engine.specs.Printing.{PrintsBlock}
 use Rattle.mesa_engine.specs.Memory.{Memory, with_leases}
 use Rattle.mesa_engine.specs.Engine.{IsEngine}
 use Rattle.mesa_engine.proofs.Turning.{passed_engine, told_engine}
-use Rattle.mesa_pick_files.specs.Gathered.{is_fault_among}
+use Rattle.mesa_read_turns.specs.mesa_pick_files.Gathered.{is_fault_among}
 use Rattle.mesa_work_turns.specs.Claims.{cause_unopened}
 
 -- ---- counts of faults

@@ -4,6 +4,7 @@ pub use Rattle.mesa_copy.proofs as mesa_copy
 pub use Rattle.mesa_write_turns.proofs.mesa_file_records as mesa_file_records
 pub use Rattle.mesa_write_turns.proofs.mesa_invariant_spec as mesa_invariant_spec
 pub use Rattle.mesa_record.proofs as mesa_record
+pub use Rattle.mesa_read_turns.proofs.mesa_schema as mesa_schema
 pub use Rattle.mesa_write_turns.proofs as mesa_write_turns
 pub mod Claims
 pub mod RecastClaims

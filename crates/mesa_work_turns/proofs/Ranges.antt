@@ -19,10 +19,10 @@ use Rattle.mesa_engine.specs.EngineState.{EngineState}
 use Rattle.mesa_engine.specs.Vault.{Origin, IsVault, written_by}
 use Rattle.mesa_engine.proofs.Standing.{held_there}
 use Rattle.mesa_model.specs.declared.entries.Entry.{Entry}
-use Rattle.mesa_pick_files.specs.Folding.{folded_deltas}
-use Rattle.mesa_pick_files.specs.Gathered.{IsGathered}
-use Rattle.mesa_pick_files.proofs.Among.{all_folded}
-use Rattle.mesa_pick_files.proofs.Cumulative.{work_folds}
+use Rattle.mesa_read_turns.specs.mesa_pick_files.Folding.{folded_deltas}
+use Rattle.mesa_read_turns.specs.mesa_pick_files.Gathered.{IsGathered}
+use Rattle.mesa_read_turns.proofs.mesa_pick_files.Among.{all_folded}
+use Rattle.mesa_read_turns.proofs.mesa_pick_files.Cumulative.{work_folds}
 use Rattle.mesa_write_turns.specs.mesa_file_records.Finished.{HasRange, sources_in}
 use Rattle.mesa_open_files.specs.Inputs.{present_parts}
 use Rattle.mesa_open_files.specs.Tasks.{IsTask}

@@ -7,19 +7,19 @@ use Rattle.mesa_engine.specs.mesa_commit.Images.{Has}
 use Rattle.mesa_disk.specs.Image.{Image}
 use Rattle.mesa_disk.specs.Story.{Story}
 use Rattle.mesa_file.specs.declared.damage.Damage.{Damage}
-use Rattle.mesa_pick_files.specs.mesa_value.declared.Agg.TheVariants.{Sum}
+use Rattle.mesa_read_turns.specs.mesa_value.declared.Agg.TheVariants.{Sum}
 use Rattle.mesa_write_turns.specs.mesa_schema.Changes.{Lineage, columns_at, columns_of, epoch_of, lifted}
 use Rattle.mesa_write_turns.specs.mesa_columns.Columns.{aggs_of}
 use Rattle.mesa_open_files.specs.mesa_fold.Folded.{folded, rows_of}
 use Rattle.mesa_write_turns.specs.mesa_columns.declared.rows.Row.{Row}
-use Rattle.mesa_pick_files.proofs.mesa_fold.RisingRows.{folded_rise}
+use Rattle.mesa_read_turns.proofs.mesa_fold.RisingRows.{folded_rise}
 use Rattle.mesa_write_turns.specs.mesa_columns.Rows.{keys_rise}
 use Rattle.mesa_record.specs.declared.record.Files.{Files}
 use Rattle.mesa_delta.specs.declared.input.Input.{Input}
 use Rattle.mesa_write_turns.specs.mesa_history_spec.Sources.{Written, range_rows, source_at, sources_from}
 use Rattle.mesa_model.specs.declared.entries.Entry.{Entry}
-use Rattle.mesa_pick_files.specs.Ranges.{IsDamagedRange, IsEmptyRange, IsOfRange, IsOneOf, IsOpenedRange, Ranged, base_ranged, range_wanted, ranged, singles_ranged}
-use Rattle.mesa_pick_files.specs.Files.{Want}
+use Rattle.mesa_read_turns.specs.mesa_pick_files.Ranges.{IsDamagedRange, IsEmptyRange, IsOfRange, IsOneOf, IsOpenedRange, Ranged, base_ranged, range_wanted, ranged, singles_ranged}
+use Rattle.mesa_read_turns.specs.mesa_pick_files.Files.{Want}
 use Rattle.mesa_engine.specs.mesa_store_spec.Catalog.{Delta, Ending, TableMeta, end_in, start_in, meta_at}
 use Rattle.mesa_engine.specs.mesa_store_spec.Contents.{Rows, present, rows_if_any}
 use Rattle.mesa_engine.specs.mesa_store_spec.Fitting.{base_deltas, delta_in, delta_live, deltas_of, files_live, live_files}
@@ -33,14 +33,14 @@ use Rattle.mesa_engine.proofs.Standing.{held_there}
 use Rattle.mesa_engine.proofs.mesa_store_spec.AllSourced.{epochs_written, own as own_sources}
 use Rattle.mesa_engine.proofs.mesa_store_spec.Lists.{all_back, all_front, all_unflat, meta_found}
 use Rattle.mesa_engine.proofs.mesa_store_spec.Rising.{folds_itself}
-use Rattle.mesa_pick_files.specs.Read.{own_file}
-use Rattle.mesa_pick_files.proofs.Given.{AreGiven, IsGiven, all_told}
-use Rattle.mesa_pick_files.proofs.Sums.{abs_append, all_below}
-use Rattle.mesa_pick_files.proofs.Telling.{meta_given}
+use Rattle.mesa_read_turns.specs.mesa_pick_files.Read.{own_file}
+use Rattle.mesa_read_turns.proofs.mesa_pick_files.Given.{AreGiven, IsGiven, all_told}
+use Rattle.mesa_read_turns.proofs.mesa_pick_files.Sums.{abs_append, all_below}
+use Rattle.mesa_read_turns.proofs.mesa_pick_files.Telling.{meta_given}
 use Rattle.mesa_span.specs.Ranges.{start_behind}
 use Rattle.mesa_write_turns.specs.mesa_file_records.Recasts.{HasItsRange, HasItsRanges}
 use Rattle.mesa_copy.specs.mesa_compact.Bounded.{AreBounded}
-use Rattle.mesa_pick_files.specs.mesa_merge.Inputs.{AreTold, knowns_of, lifted_parts}
+use Rattle.mesa_read_turns.specs.mesa_merge.Inputs.{AreTold, knowns_of, lifted_parts}
 use Rattle.mesa_copy.specs.Copying.{AreRangesBounded, IsRecastBounded}
 use Rattle.mesa_open_files.specs.Inputs.{AreInputsTo, present_parts}
 use Rattle.mesa_open_files.specs.Recasts.{AreRangesOf, own, recast_table}

@@ -7,7 +7,7 @@ use Rattle.mesa_file.specs.declared.file_ref.FileRef.{FileRef}
 use Rattle.mesa_write_turns.specs.mesa_columns.declared.rows.Row.{Row}
 use Rattle.mesa_write_turns.specs.mesa_schema.Changes.{Lineage, columns_at}
 use Rattle.mesa_open_files.specs.mesa_fold.Folded.{folded, folded_at, keys_of, rows_of}
-use Rattle.mesa_pick_files.specs.mesa_value.declared.Agg.{Agg}
+use Rattle.mesa_read_turns.specs.mesa_value.declared.Agg.{Agg}
 use Rattle.mesa_disk.specs.Image.{Image, file_of}
 use Rattle.mesa_engine.specs.mesa_commit.Images.{Has}
 use Rattle.mesa_delta.specs.declared.input.Input.{Input}
@@ -18,8 +18,8 @@ use Rattle.mesa_engine.specs.mesa_store_spec.Fitting.{LiveFile, delta_live, delt
 use Rattle.mesa_engine.specs.mesa_store_spec.Sound.{HaveSoundRows, HasSoundRows, IsTold, bytes_of, wanted, wants}
 use Rattle.mesa_engine.proofs.mesa_store_spec.Lists.{all_unflat, all_unmap, meta_found}
 use Rattle.mesa_engine.proofs.Lists.{all_also}
-use Rattle.mesa_pick_files.specs.Files.{Want, files_wanted, table_wanted, want_of}
-use Rattle.mesa_pick_files.specs.mesa_merge.Inputs.{AreTold, known_of, knowns_of, lifted_in, lifted_parts}
+use Rattle.mesa_read_turns.specs.mesa_pick_files.Files.{Want, files_wanted, table_wanted, want_of}
+use Rattle.mesa_read_turns.specs.mesa_merge.Inputs.{AreTold, known_of, knowns_of, lifted_in, lifted_parts}
 use Rattle.mesa_open_files.specs.Inputs.{present_parts}
 use Rattle.mesa_open_files.specs.Inputs.{AreTold as AreToldInputs}
 use Rattle.mesa_open_files.specs.Opening.{HaveOpened, wanted_columns}

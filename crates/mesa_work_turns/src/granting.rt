@@ -32,7 +32,7 @@ use mesa_io::Sink;
 use mesa_lease::TABLES;
 use mesa_model::{Kind, Outcome, WorkWords};
 use mesa_open_files::{DeltaDisk, Task, Unopened};
-use mesa_pick_files::{Gathered, gather};
+use mesa_read_turns::{Gathered, gather};
 
 /// The first turn of a work: its table has a lease from it on, and the files that it folds are open; unless the vault has closed, there is no such table, another work has the table, there is nothing to merge, or a file couldn't be opened.
 pub fn grant<N: Naming, M: Made, D: DeltaDisk<M>, K: Sink>(

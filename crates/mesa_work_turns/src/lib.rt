@@ -18,7 +18,9 @@ pub use completing::complete;
 pub use giving_back::{give_back, give_back_recast};
 pub use granting::{failure_of, grant};
 pub use lease_checking::check;
-pub use mesa_read_turns::{close_query, explain, give_back_query, look, pin, pin_query, release};
+pub use mesa_read_turns::{
+    close_query, explain, gather_more, give_back_query, look, pin, pin_query, release,
+};
 pub use mesa_write_turns::{
     Drops, Staged, Swapped, alter, commit, expire, publish, recast, table, tables_become, view,
 };

@@ -1,7 +1,7 @@
 // A recast's grant.
 ghost use Rattle.std.specs.Prelude.{◌≡◌, ◌≢◌, ◌<◌, ◌≤◌, true, length, None, Ok, IfSome};
 ghost use Rattle.std.specs.List.{AllByRecursion};
-ghost use Rattle.mesa_pick_files.specs.Ranges.{HoldsAll};
+ghost use Rattle.mesa_read_turns.specs.mesa_pick_files.Ranges.{HoldsAll};
 ghost use Rattle.mesa_write_turns.specs.mesa_history_spec.Machine.{recast_claim_of};
 ghost use Rattle.mesa_write_turns.specs.mesa_history_spec.Run.{First, Granted};
 ghost use Rattle.mesa_write_turns.specs.mesa_history_spec.Turns.{IsDue};
@@ -32,7 +32,7 @@ use mesa_io::Sink;
 use mesa_lease::TABLES;
 use mesa_model::{Kind, Outcome, RecastWords};
 use mesa_open_files::{DeltaDisk, Recast};
-use mesa_pick_files::{GatheredRanges, gather_recast};
+use mesa_read_turns::{GatheredRanges, gather_recast};
 use mesa_validate::Regrouping;
 
 /// The first turn of a recast: its table has a lease from it on, and the files of all its ranges are open; unless the vault has closed, the rules of recasts don't allow it, a lease holds, the table has too many deltas, or a file couldn't be opened.

@@ -1,7 +1,7 @@
 use Rattle.std.proofs.Common.{◌∙◌, ◌+◌, ap, arith}
 use Rattle.mesa_engine.specs.mesa_store_spec.Catalog.{Catalog, meta_at}
 use Rattle.mesa_model.specs.declared.replies.Reply.TheVariants as reply
-use Rattle.mesa_pick_files.proofs.mesa_schema.LineageRecasts.{recast_allowed}
+use Rattle.mesa_work_turns.proofs.mesa_schema.LineageRecasts.{recast_allowed}
 use Rattle.mesa_open_files.specs.Recasts.{recast_in, recast_table}
 use Rattle.mesa_recast_turns.proofs.Regroups.{told_is}
 use Rattle.mesa_recast_turns.proofs.readying.prepare.Goals as goal

@@ -4,7 +4,7 @@ use Rattle.std.specs.List.{AllByRecursion}
 use Rattle.mesa_work_turns.specs.mesa_schema.Changes.{epoch_of}
 use Rattle.mesa_engine.specs.mesa_store_spec.Catalog.{Catalog, Delta, TableMeta, meta_at}
 use Rattle.mesa_engine.specs.mesa_store_spec.Fitting.{deltas_of}
-use Rattle.mesa_pick_files.specs.Ranges.{HoldsAll, IsDamagedRange, IsOfRange, IsOpenedRange}
+use Rattle.mesa_work_turns.specs.mesa_pick_files.Ranges.{HoldsAll, IsDamagedRange, IsOfRange, IsOpenedRange}
 use Rattle.mesa_work_turns.specs.mesa_catalog_table.Meaning.{meta_of}
 use Rattle.mesa_work_turns.specs.mesa_history_spec.Rows.{no_rows}
 use Rattle.mesa_engine.specs.Engine.{Standing, starts_of}

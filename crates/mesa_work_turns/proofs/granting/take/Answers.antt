@@ -18,11 +18,11 @@ use Rattle.mesa_engine.specs.mesa_store_spec.Moves.{first_of, is_base, last_of}
 use Rattle.mesa_engine.specs.Vault.{IsVault, Starts, outset_of}
 use Rattle.mesa_copy.specs.mesa_compact.Bounded.{IsBounded}
 use Rattle.mesa_engine.specs.Failure.{cause_in}
-use Rattle.mesa_pick_files.specs.Gathered.{IsGathered, task_with}
-use Rattle.mesa_pick_files.specs.declared.gathering.Gathered.{Gathered}
+use Rattle.mesa_read_turns.specs.mesa_pick_files.Gathered.{IsGathered, task_with}
+use Rattle.mesa_read_turns.specs.mesa_pick_files.declared.gathering.Gathered.{Gathered}
 use Rattle.mesa_lease.specs.Book.{granted}
 use Rattle.mesa_engine.specs.Memory.{with_leases}
-use Rattle.mesa_pick_files.specs.mesa_catalog_table.Meaning.{meta_of}
+use Rattle.mesa_read_turns.specs.mesa_catalog_table.Meaning.{meta_of}
 use Rattle.mesa_write_turns.specs.mesa_history_spec.Rows.{Rows, no_rows}
 use Rattle.mesa_write_turns.specs.mesa_file_records.Finished.{HasRange}
 use Rattle.mesa_open_files.specs.Tasks.{IsTask, claim_in}

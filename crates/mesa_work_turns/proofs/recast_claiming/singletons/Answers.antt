@@ -1,6 +1,6 @@
 use Rattle.std.proofs.Common.{◌∙◌, ◌-◌, ap, sym}
 use Rattle.mesa_engine.specs.mesa_store_spec.Catalog.{start_in}
-use Rattle.mesa_pick_files.proofs.Ranging.{start_held}
+use Rattle.mesa_read_turns.proofs.mesa_pick_files.Ranging.{start_held}
 use Rattle.mesa_work_turns.proofs.recast_claiming.singletons.Goals as goal
 
 pub returns : goal.returns

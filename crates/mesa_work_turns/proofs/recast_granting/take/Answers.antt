@@ -14,7 +14,7 @@ use Rattle.mesa_engine.specs.Vault.{IsVault, Starts, outset_of}
 use Rattle.mesa_engine.specs.Failure.{cause_in}
 use Rattle.mesa_lease.specs.Book.{granted}
 use Rattle.mesa_engine.specs.Memory.{with_leases}
-use Rattle.mesa_pick_files.specs.mesa_catalog_table.Meaning.{meta_of}
+use Rattle.mesa_read_turns.specs.mesa_catalog_table.Meaning.{meta_of}
 use Rattle.mesa_write_turns.specs.mesa_history_spec.Rows.{Rows, no_rows}
 use Rattle.mesa_write_turns.specs.mesa_invariant_spec.Turns.{AnswersDisk, Shown, SomeRose, Takes, entry, faults_of}
 use Rattle.mesa_write_turns.specs.mesa_invariant_spec.Invariant.{run_at}
@@ -26,8 +26,8 @@ use Rattle.mesa_work_turns.proofs.GrantTurns.{IsGrant, IsNoGrant, is_grant, is_n
 use Rattle.std.specs.Prelude.{IfSome}
 use Rattle.mesa_engine.specs.mesa_store_spec.Fitting.{deltas_of}
 use Rattle.mesa_write_turns.specs.mesa_schema.Recasts.{recast_checked}
-use Rattle.mesa_pick_files.specs.Ranges.{HoldsAll, IsDamagedRange, IsOfRange}
-use Rattle.mesa_pick_files.specs.declared.ranges.GatheredRanges.{GatheredRanges}
+use Rattle.mesa_read_turns.specs.mesa_pick_files.Ranges.{HoldsAll, IsDamagedRange, IsOfRange}
+use Rattle.mesa_read_turns.specs.mesa_pick_files.declared.ranges.GatheredRanges.{GatheredRanges}
 use Rattle.mesa_open_files.specs.Recasts.{AreRangesOf, claim_of_recast, recast_table}
 use Rattle.mesa_open_files.specs.declared.recasting.Recast.{Recast}
 use Rattle.mesa_open_files.specs.declared.recasting.RecastRange.{RecastRange}
